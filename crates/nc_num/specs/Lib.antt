@@ -1,0 +1,5 @@
+pub mod Sizes
+pub mod Memory
+pub mod Places
+pub mod Padded
+pub mod Inverse
