@@ -1,0 +1,37 @@
+//! `dmasim run`: reads a scenario from standard input and writes its report to standard output.
+#![tactic(auto)]
+
+use nc_io::{StdSink, StdSource};
+use nc_top::dmasim;
+use std::alloc::{AllocError, Global};
+use std::env;
+use std::io::{BufWriter, Write};
+use std::process::ExitCode;
+use std::rt::Env;
+
+/// The words after the program's name; none where they can't be had.
+fn words<R: Env + AllocGlobal>(rt: &R, alloc: Global) -> Result<Vec<String>, AllocError> {
+    let mut words = Vec::new(alloc);
+    if let Ok(given) = env::args(rt) {
+        for word in given.skip(1) {
+            words.push(word)?;
+        }
+    }
+    Ok(words)
+}
+
+fn main(rt: HostRuntime) -> ExitCode {
+    let alloc = rt.alloc();
+    let Ok(words) = words(&rt, alloc) else {
+        return ExitCode::from(6);
+    };
+    let Ok(mut buffered) = BufWriter::new(alloc, std::io::writer(&rt)) else {
+        return ExitCode::from(6);
+    };
+    let mut src = StdSource::new(rt.reader());
+    let status = dmasim(alloc, &words, &mut src, &mut StdSink::new(&mut buffered));
+    match buffered.flush() {
+        Ok(()) => ExitCode::from(status),
+        Err(_) => ExitCode::from(5),
+    }
+}

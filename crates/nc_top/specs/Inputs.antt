@@ -1,0 +1,24 @@
+-- What a call has read.
+use Rattle.std.specs.Prelude.{◌≡◌, ◌≢◌, ◌<◌, ◌⊎◌, ℕ, Ok, List, Bool, true, [], Option, length}
+use Rattle.std.specs.Io.KnownBytes.{Consumes, IsAtEnd, Keeps}
+use Rattle.nc_io.specs.Streams.{GrowsByFront}
+use Rattle.nc_top.specs.Due.{due}
+use Rattle.nc_world.specs.declared.scenario.Scenario.{Scenario}
+use Rattle.nc_world.specs.Flat.{IsLatest}
+use Rattle.nc_world.specs.Scenario.{most_bytes, reading}
+use Rattle.nc_world.specs.Schedule.{sched}
+
+-- The bytes were read, and they are all: the source told its end, or more came than a scenario may have.
+pub record HasRead (before now : Option (List ℕ)) (ended : Bool) (bytes : List ℕ) : Type 0 where
+  pub taken : Consumes before now bytes
+  pub whole : ((ended ≡ true) × IsAtEnd now) ⊎ (most_bytes < length bytes)
+
+-- Nothing was written, or a front of what is due for the words alone or for all bytes that were read.
+abbrev pub WroteFront : List (List ℕ) → Option (List ℕ) → Option (List ℕ) → Bool → Option (List ℕ) → Option (List ℕ) → Type 0
+WroteFront words before now ended held_before held_now = Keeps held_before held_now
+    ⊎ GrowsByFront held_before held_now (due words []).text
+    ⊎ ((bytes : List ℕ) × HasRead before now ended bytes × GrowsByFront held_before held_now (due words bytes).text)
+
+-- Where the status is not a refusal's, the bytes are a scenario, and the run of its schedule shows flat memory.
+abbrev pub IsFlat : ℕ → List ℕ → Type 0
+IsFlat status bytes = status ≢ 3 → (sc : Scenario) × (reading bytes ≡ Ok sc) × IsLatest sc (sched sc)

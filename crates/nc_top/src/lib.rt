@@ -1,0 +1,14 @@
+//! The top call of `dmasim`: words, streams and statuses.
+//!
+//! Its contract is the headline: whatever the words and the bytes of the input are, what is written and answered is
+//! what is due for them, or a failure that has its cause; and the run that is reported is flat.
+#![tactic(auto)]
+
+mod input;
+mod run;
+mod top;
+
+pub use top::dmasim;
+
+#[cfg(test)]
+mod tests;

@@ -1,0 +1,57 @@
+//! A scenario's run, written event by event.
+
+ghost use Rattle.std.specs.Prelude.{◌≡◌, ◌≤◌, IfOk, OnOk, OnErr, Err};
+ghost use Rattle.std.specs.Io.KnownBytes.{Appends};
+ghost use Rattle.nc_io.specs.Causes.{Rose};
+ghost use Rattle.nc_io.specs.Streams.{GrowsByFront};
+ghost use Rattle.nc_world.specs.Accepted.{IsAccepted};
+ghost use Rattle.nc_world.specs.Lines.{report, status, status_at};
+ghost use Rattle.nc_world.specs.Schedule.{sched};
+ghost use Rattle.nc_top.specs.Due.{IsAnswer};
+
+use nc_io::{Sink, Stop, write_all};
+use nc_num::HartNo;
+use nc_world::report::{step_out, tail};
+use nc_world::{Scenario, Sched, World};
+use std::alloc::Global;
+
+/// 1 where there is a touch, else 7 where the script is not at its end, else 0.
+fn status_of(w: &World) -> u8
+    ensures value { result ≡ status_at w.now.at }
+    ensures kind { IsAnswer result }
+{
+    if 0 < w.touches() {
+        return 1;
+    }
+    match w.left(HartNo(0)) {
+        Some(_) => 7,
+        None => 0,
+    }
+}
+
+/// Makes the events of the scenario's schedule and writes the report as they happen. Where it stops, a front of the
+/// report was written.
+pub fn run_out<K: Sink>(alloc: Global, sc: &Scenario, out: &mut K) -> Result<u8, Stop>
+    requires { IsAccepted sc.now }
+    ensures status { IfOk result (λ n. n ≡ status sc.now (sched sc.now)) }
+    ensures kind { IfOk result IsAnswer }
+    ensures text { OnOk result (Appends (K.held out.old) (K.held out.new) (report sc.now (sched sc.now))) }
+    ensures front { OnErr result (GrowsByFront (K.held out.old) (K.held out.new) (report sc.now (sched sc.now))) }
+    ensures later { K.faults out.old ≤ K.faults out.new }
+    ensures cause { result ≡ Err Stop.Failed → Rose (K.faults out.old) (K.faults out.new) }
+{
+    let Ok(mut w) = World::new(alloc, sc) else {
+        return Err(Stop::NoMemory);
+    };
+    let mut sched = Sched::new(sc);
+    let mut last = None;
+    'running: while let Some(e) = sched.next(sc, &w, last) {
+        let stepped = step_out(alloc, &mut w, e, out)?;
+        last = Some(stepped);
+    }
+    let Ok(text) = tail(alloc, sc, &w) else {
+        return Err(Stop::NoMemory);
+    };
+    write_all(out, &text)?;
+    Ok(status_of(&w))
+}

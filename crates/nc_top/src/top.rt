@@ -1,0 +1,108 @@
+//! The top call.
+
+ghost use Rattle.std.specs.Prelude.{◌≡◌, ◌≢◌, ◌≤◌, ◌⊎◌, [], List, ℕ, map, string_bytes, false, true, Ok, Err, IfOk};
+ghost use Rattle.std.specs.Io.KnownBytes.{Appends, Keeps};
+ghost use Rattle.nc_io.specs.Causes.{Rose};
+ghost use Rattle.nc_io.specs.Streams.{GrowsByFront};
+ghost use Rattle.nc_world.specs.Flat.{EachRunIsLatest};
+ghost use Rattle.nc_world.specs.Scenario.{reading};
+ghost use Rattle.nc_top.specs.Due.{due, due_for, is_run, IsAnswer};
+ghost use Rattle.nc_top.specs.Inputs.{HasRead, IsFlat, WroteFront};
+
+use crate::input::{Lost, read_input};
+use crate::run::run_out;
+use nc_io::{Sink, Source, Stop, write_all};
+use nc_world::report::refused;
+use nc_world::{ScenFault, latest_law, read};
+use std::alloc::Global;
+
+/// Whether the words are `run`.
+fn is_run(words: &Vec<String>) -> bool
+    ensures { result ≡ is_run (map string_bytes words.now.items) }
+{
+    words.len() == 1 && words[0].as_str() == "run"
+}
+
+/// Writes what is due.
+fn put<K: Sink>(out: &mut K, status: u8, text: &[u8]) -> u8
+    requires { IsAnswer status }
+    ensures written { IsAnswer result → (result ≡ status) × Appends (K.held out.old) (K.held out.new) text.now }
+    ensures sink { result ≡ 5 → Rose (K.faults out.old) (K.faults out.new) }
+    ensures reads { result ≢ 4 }
+    ensures front { GrowsByFront (K.held out.old) (K.held out.new) text.now }
+{
+    match write_all(out, text) {
+        Ok(()) => status,
+        Err(Stop::Failed) => 5,
+        Err(Stop::NoMemory) => 6,
+    }
+}
+
+/// Answers an input: the report of a scenario, or the line of a refusal.
+fn answer_to<K: Sink>(alloc: Global, bytes: &[u8], out: &mut K) -> u8
+    ensures written { IsAnswer result → (result ≡ (due_for (reading bytes.now)).status) × Appends (K.held out.old) (K.held out.new) (due_for (reading bytes.now)).text }
+    ensures sink { result ≡ 5 → Rose (K.faults out.old) (K.faults out.new) }
+    ensures reads { result ≢ 4 }
+    ensures flat { IsAnswer result → IsFlat result bytes.now }
+    ensures front { Keeps (K.held out.old) (K.held out.new) ⊎ GrowsByFront (K.held out.old) (K.held out.new) (due_for (reading bytes.now)).text }
+{
+    match read(alloc, bytes) {
+        Ok(sc) => {
+            latest_law();
+            match run_out(alloc, &sc, out) {
+                Ok(status) => status,
+                Err(Stop::Failed) => 5,
+                Err(Stop::NoMemory) => 6,
+            }
+        }
+        Err(ScenFault::Refused(r)) => match refused(alloc, &r) {
+            Ok(text) => put(out, 3, &text),
+            Err(_) => 6,
+        },
+        Err(ScenFault::NoMemory) => 6,
+    }
+}
+
+/// Reads a scenario and writes its report, for the words `run`. Other words are refused.
+///
+/// Statuses: 0 the run ended with no touch and every script at its end; 1 a touch was reported; 2 unknown words; 3 the
+/// input is refused; 4 a read failed; 5 a write failed; 6 memory ran out; 7 no touch, and a script is not at its end.
+#[tactic(auto, unfolding(crate::specs::Due::due))]
+pub fn dmasim<S: Source, K: Sink>(
+    alloc: Global,
+    words: &Vec<String>,
+    src: &mut S,
+    out: &mut K,
+) -> u8
+    requires { S.ended src.old ≡ false }
+
+    // What is due for the words and the whole input is answered and written.
+    ensures unknown { is_run (map string_bytes words.now.items) ≡ false → IsAnswer result
+        → (result ≡ (due (map string_bytes words.now.items) []).status)
+        × Appends (K.held out.old) (K.held out.new) (due (map string_bytes words.now.items) []).text }
+    ensures run { is_run (map string_bytes words.now.items) ≡ true → IsAnswer result
+        → (bytes : List ℕ) × HasRead (S.left src.old) (S.left src.new) (S.ended src.new) bytes
+        × (result ≡ (due (map string_bytes words.now.items) bytes).status)
+        × Appends (K.held out.old) (K.held out.new) (due (map string_bytes words.now.items) bytes).text
+        × IsFlat result bytes }
+
+    // A failure has its cause.
+    ensures source { result ≡ 4 → Rose (S.faults src.old) (S.faults src.new) × Keeps (K.held out.old) (K.held out.new) }
+    ensures sink { result ≡ 5 → Rose (K.faults out.old) (K.faults out.new) }
+
+    // Whatever is answered, what was written is a front of what is due.
+    ensures front { WroteFront (map string_bytes words.now.items) (S.left src.old) (S.left src.new) (S.ended src.new) (K.held out.old) (K.held out.new) }
+
+    // Every load of every run shows flat memory, those of the reported run among them.
+    ensures latest { EachRunIsLatest }
+{
+    latest_law();
+    if !is_run(words) {
+        return put(out, 2, b"refused words\n");
+    }
+    match read_input(alloc, src) {
+        Ok(bytes) => answer_to(alloc, &bytes, out),
+        Err(Lost::Failed) => 4,
+        Err(Lost::NoMemory) => 6,
+    }
+}

@@ -1,0 +1,17 @@
+pub mod Machine
+pub mod Driver
+pub mod Events
+pub mod Next
+pub mod Told
+pub mod Run
+pub mod Schedule
+pub mod Stands
+pub mod Lines
+pub mod Flat
+pub mod Accepted
+pub mod Held
+pub mod Shown
+pub mod Json
+pub mod Outcomes
+pub mod Texts
+pub mod Scenario

@@ -1,0 +1,37 @@
+//! Records that were handed over.
+
+ghost use Rattle.std.specs.Prelude.{◌≡◌};
+
+use crate::events::Record;
+use std::marker::Model;
+
+/// Some records, in order.
+#[derive(Drop)]
+pub struct RecordList {
+    items: Vec<Record>,
+}
+
+impl Model for RecordList {
+    ghost use Rattle.std.specs.Prelude.{List};
+    ghost use Rattle.nc_world.specs.declared.events.Record.{Record};
+
+    ghost Value = { List Record };
+
+    ghost view = { λ s. s.items.items };
+}
+
+impl RecordList {
+    /// These records.
+    pub fn new(items: Vec<Record>) -> RecordList
+        ensures { result ≡ items.items }
+    {
+        RecordList { items }
+    }
+
+    /// The records, in order.
+    pub fn as_slice(&self) -> &[Record]
+        ensures { result.now ≡ self.now }
+    {
+        &self.items
+    }
+}
