@@ -1,0 +1,4 @@
+pub mod Cache
+pub mod Bus
+pub mod Facts
+pub mod Laws
