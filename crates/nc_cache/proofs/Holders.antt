@@ -8,7 +8,8 @@ use Rattle.std.proofs.lemmas.List.{get_or-set_same, get_or-set_other, length-set
 use Rattle.nc_cache.specs.declared.line.Held.{Held}
 use Rattle.nc_cache.specs.declared.line.Held.TheVariants.{Shared, Dirty}
 use Rattle.nc_cache.specs.declared.line.Line.{Line}
-use Rattle.nc_cache.specs.Cache.{hart, holds, only, holders, shared, without}
+use Rattle.nc_cache.specs.Harts.{only}
+use Rattle.nc_cache.specs.Cache.{hart, holds, holders, shared, without}
 use Rattle.nc_cache.specs.Facts.{IsShared, IsHeld, IsLine, IsLineOf}
 
 or_true : (b : Bool) → (b || true) ≡ true
@@ -74,3 +75,12 @@ held_holder harts (Dirty g) is = (g.0, is, grind (arith, nat_tests))
 
 pub line_holder : (s harts : ℕ) (l : Line) → IsLine s harts l → (h : ℕ) × (h < harts) × (holds l.held h ≡ true)
 line_holder s harts l is = held_holder harts l.held is.held
+
+-- one of so many harts is one of four
+held_in_four : (harts : ℕ) (d : Held) → harts ≤ 4 → IsHeld harts d → IsHeld 4 d
+held_in_four harts (Shared by) few is = record { four = is.four; some = is.some; below = λ g le. is.below g (omega arith) }
+held_in_four harts (Dirty g) few is = omega arith
+
+pub line_in_four : (s harts : ℕ) (o : Option Line) → harts ≤ 4 → IsLineOf s harts o → IsLineOf s 4 o
+line_in_four s harts None few is = tt
+line_in_four s harts (Some l) few is = record { bytes = is.bytes; held = held_in_four harts l.held few is.held }

@@ -1,7 +1,7 @@
 -- The laws, gathered.
-use Rattle.nc_cache.specs.Laws.{CallsKeepWhole, CallsKeepPlaces, CallsWritePlaces, InvalDrops, LinesAreHeld}
+use Rattle.nc_cache.specs.Laws.{CallsKeepWhole, CallsKeepPlaces, CallsWritePlaces, InvalDrops, BytesAreSeen, LinesAreHeld}
 use Rattle.nc_cache.proofs.Places.{keeps_load, keeps_evict, keeps_clean, keeps_flush, clear_clean, gone_flush, keeps_both, middle-clear}
-use Rattle.nc_cache.proofs.Writes.{dirties_own, middle-own, dirties_store, middle-store_in, middle-store_out, dirties_zero, middle-zero_in, middle-zero_out, drops_inval, keeps_inval, both_inval}
+use Rattle.nc_cache.proofs.Writes.{dirties_own, middle-own, dirties_store, middle-store_in, middle-store_out, dirties_zero, middle-zero_in, middle-zero_out, drops_inval, keeps_inval, both_inval, length-bytes_at, byte-bytes_at}
 use Rattle.nc_cache.proofs.Holders.{line_holder}
 use Rattle.nc_cache.proofs.Wholes.{whole_start, whole_load, whole_own, whole_store, whole_zero, whole_evict, whole_clean, whole_flush, whole_inval}
 
@@ -44,6 +44,9 @@ calls_write_places = record {
 
 pub inval_drops : InvalDrops
 inval_drops = record { here = drops_inval; elsewhere = keeps_inval; both = both_inval }
+
+pub bytes_are_seen : BytesAreSeen
+bytes_are_seen = record { length_is = length-bytes_at; byte_is = byte-bytes_at }
 
 pub lines_are_held : LinesAreHeld
 lines_are_held = record { holder = line_holder }

@@ -4,3 +4,7 @@ pub mod Writes
 pub mod Holders
 pub mod Wholes
 pub mod LawProofs
+pub mod HartLineLaws
+pub mod Joins
+pub mod Rooms
+pub mod Domains

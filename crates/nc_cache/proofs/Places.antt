@@ -8,7 +8,8 @@ use Rattle.nc_num.specs.Sizes.{IsBlockSize}
 use Rattle.nc_cache.specs.declared.line.Held.{Held}
 use Rattle.nc_cache.specs.declared.line.Held.TheVariants.{Shared, Dirty}
 use Rattle.nc_cache.specs.declared.line.Line.{Line}
-use Rattle.nc_cache.specs.Cache.{Cache, line_at, with_line, holds, holders, only, back, put, load, load_of, clean, clean_of, cleaned, flush, flush_of, shared, without, evict, evict_of, line_byte, middle}
+use Rattle.nc_cache.specs.Harts.{only}
+use Rattle.nc_cache.specs.Cache.{Cache, line_at, with_line, holds, held_by, holders, back, put, load, load_of, clean, clean_of, cleaned, flush, flush_of, shared, without, evict, evict_of, line_byte, middle}
 use Rattle.nc_cache.specs.Facts.{IsClean, LineClear, CleanAgrees, Agrees, IsLine, IsLineOf, Whole, Fresh, Clear, Both, Keeps}
 use Rattle.nc_cache.proofs.Lines.{line-with_same, line-with_other, byte-span_block, byte-back_other, byte-back_same, byte-back, back_clean, line_byte-other, Agrees-other}
 
@@ -137,6 +138,15 @@ keeps_load_of {s = s} z harts c h b x (Some l) is w fits =
 pub keeps_load : (s harts size : ℕ) (c : Cache) (h b x : ℕ) → Whole s harts size c → s * b + s ≤ size → Keeps s c (load s c h b) x
 unfolding load
 keeps_load s harts size c h b x w fits = keeps_load_of w.block_size harts c h b x (line_at c b) refl (w.lines b) (omega (arith, w.ram))
+
+-- nothing happens where h holds the block
+load_held_of : (s : ℕ) (c : Cache) (h b : ℕ) (o : Option Line) → held_by o h ≡ true → load_of s c h b o ≡ c
+load_held_of s c h b None is = absurd (let p : false ≡ true = is in cc)
+load_held_of s c h b (Some l) is = rw is refl
+
+pub load_held : (s : ℕ) (c : Cache) (h b : ℕ) → held_by (line_at c b) h ≡ true → load s c h b ≡ c
+unfolding load
+load_held s c h b is = load_held_of s c h b (line_at c b) is
 
 -- evict
 remains_shared : (bs : List ℕ) (by : List Bool) → Remains bs (shared bs by)

@@ -12,7 +12,8 @@ use Rattle.nc_num.proofs.MemoryLaws.{length-splice, length-span}
 use Rattle.nc_cache.specs.declared.line.Held.{Held}
 use Rattle.nc_cache.specs.declared.line.Held.TheVariants.{Shared, Dirty}
 use Rattle.nc_cache.specs.declared.line.Line.{Line}
-use Rattle.nc_cache.specs.Cache.{Cache, line_at, with_line, hart, holds, holders, only, block_bytes, back, put, dirty, load, load_of, own, own_of, owned, store, zero_block, clean, clean_of, cleaned, flush, flush_of, dropped, dropped_of, inval, without, evict, evict_of, middle}
+use Rattle.nc_cache.specs.Harts.{only}
+use Rattle.nc_cache.specs.Cache.{Cache, line_at, with_line, hart, holds, holders, block_bytes, back, put, dirty, load, load_of, dirty_by, own, own_of, store, zero_block, clean, clean_of, cleaned, flush, flush_of, inval, without, evict, evict_of, middle}
 use Rattle.nc_cache.specs.Facts.{IsHeld, IsLine, IsLineOf, Whole, Fresh, Clear}
 use Rattle.nc_cache.proofs.Lines.{line-with_same, line-with_other, length-back, length-block_bytes}
 use Rattle.nc_cache.proofs.Writes.{gone_inval, other_inval, ram-inval}
@@ -69,13 +70,12 @@ unfolding load
 whole_load s harts size c h b w lt fits = whole_load_of s harts size c h b (line_at c b) w lt (omega (arith, w.ram)) (w.lines b)
 
 -- own
-whole_owned : (s harts size : ℕ) (c : Cache) (h b : ℕ) (bs : List ℕ) (d : Held) → Whole s harts size c → h < harts → length bs ≡ s → Whole s harts size (owned c h b bs d)
-whole_owned s harts size c h b bs (Shared by) w lt len = whole_dirty s harts size c h b bs w lt len
-whole_owned s harts size c h b bs (Dirty g) w lt len = elim (g.0 == h) as (λ t. Whole s harts size (if t then c else dirty c h b bs)) [ true ↦ w | false ↦ whole_dirty s harts size c h b bs w lt len ]
-
 whole_own_of : (s harts size : ℕ) (c : Cache) (h b : ℕ) (o : Option Line) → Whole s harts size c → h < harts → s * b + s ≤ length c.ram → IsLineOf s harts o → Whole s harts size (own_of s c h b o)
-whole_own_of s harts size c h b None w lt fits is = whole_dirty s harts size c h b (span c.ram (s * b) s) w lt (length-span c.ram (s * b) s fits)
-whole_own_of s harts size c h b (Some l) w lt fits is = whole_owned s harts size c h b l.bytes l.held w lt is.bytes
+whole_own_of s harts size c h b o w lt fits is =
+    elim (dirty_by o h) as (λ t. Whole s harts size (if t then c else dirty c h b (block_bytes s c.ram b o))) [
+      | true ↦ w
+      | false ↦ whole_dirty s harts size c h b (block_bytes s c.ram b o) w lt (length-block_bytes s harts c.ram b o is fits)
+    ]
 
 pub whole_own : (s harts size : ℕ) (c : Cache) (h b : ℕ) → Whole s harts size c → h < harts → s * b + s ≤ size → Whole s harts size (own s c h b)
 unfolding own

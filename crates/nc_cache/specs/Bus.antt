@@ -2,6 +2,7 @@
 use Rattle.std.specs.Prelude.{ℕ, ◌+◌, ◌*◌, Bool, true, false, ◌==◌, if◌then◌else◌, List, [], ◌∷◌, ◌++◌, Option, Some, None, slice_index_or, slice_set}
 use Rattle.nc_num.specs.Memory.{span}
 use Rattle.nc_num.specs.declared.places.Block.{Block}
+use Rattle.nc_cache.specs.Harts.{lowest}
 use Rattle.nc_cache.specs.declared.line.Held.{Held}
 use Rattle.nc_cache.specs.declared.line.Held.TheVariants.{Shared, Dirty}
 use Rattle.nc_cache.specs.declared.line.Line.{Line}
@@ -14,12 +15,6 @@ use Rattle.nc_cache.specs.Cache.{hart, holds, held_by, holders}
 
 abbrev pub block : ℕ → Block
 block b = record { 0 = b }
-
--- the lowest of these harts
-abbrev pub lowest : List Bool → ℕ
-lowest [] = 0
-lowest (true ∷ by) = 0
-lowest (false ∷ by) = lowest by + 1
 
 -- the hart that a copy comes from
 abbrev pub giver : Held → ℕ

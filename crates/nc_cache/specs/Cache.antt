@@ -1,12 +1,13 @@
 -- The cache domain beside memory: for some blocks their bytes, and the harts that hold a copy, clean or dirty.
 -- This project's own (an MSI protocol). Clean, flush and invalidate are those of CMO 1.0 (Zicbom), zero of Zicboz.
-use Rattle.std.specs.Prelude.{ℕ, ◌+◌, ◌*◌, ◌/◌, ◌%◌, Bool, true, false, ◌==◌, if◌then◌else◌, List, [], ◌∷◌, Option, Some, None, slice_index_or, slice_set, replicate}
-use Rattle.std.specs.List.{list_any}
+use Rattle.std.specs.Prelude.{ℕ, ◌+◌, ◌*◌, ◌/◌, ◌%◌, Bool, true, false, ◌==◌, if◌then◌else◌, List, [], ◌∷◌, Option, Some, None, slice_index_or, slice_set, replicate, map as list_map}
+use Rattle.std.specs.List.{list_any, range_with_len}
 use Rattle.std.specs.Ordering.{nat_cmp}
 use Rattle.std.specs.FinMap.{FinMap}
 use Rattle.std.specs.FinMap as map
 use Rattle.nc_num.specs.Memory.{byte, splice, span}
 use Rattle.nc_num.specs.declared.names.HartNo.{HartNo}
+use Rattle.nc_cache.specs.Harts.{only}
 use Rattle.nc_cache.specs.declared.line.Held.{Held}
 use Rattle.nc_cache.specs.declared.line.Held.TheVariants.{Shared, Dirty}
 use Rattle.nc_cache.specs.declared.line.Line.{Line}
@@ -37,9 +38,14 @@ abbrev pub held_by : Option Line → ℕ → Bool
 held_by None h = false
 held_by (Some l) h = holds l.held h
 
--- hart h alone, of four
-abbrev pub only : ℕ → List Bool
-only h = slice_set (false ∷ false ∷ false ∷ false ∷ []) h true
+-- whether hart h has the copy, dirty
+abbrev pub dirty_in : Held → ℕ → Bool
+dirty_in (Shared by) h = false
+dirty_in (Dirty g) h = g.0 == h
+
+abbrev pub dirty_by : Option Line → ℕ → Bool
+dirty_by None h = false
+dirty_by (Some l) h = dirty_in l.held h
 
 -- the harts with a copy
 abbrev pub holders : Held → List Bool
@@ -75,13 +81,8 @@ unfoldable pub load : ℕ → Cache → ℕ → ℕ → Cache
 load s c h b = load_of s c h b (line_at c b)
 
 -- own: nothing where h has the block dirty; else h has it dirty, alone, and memory stays
-abbrev pub owned : Cache → ℕ → ℕ → List ℕ → Held → Cache
-owned c h b bytes (Shared by) = dirty c h b bytes
-owned c h b bytes (Dirty g) = if g.0 == h then c else dirty c h b bytes
-
 abbrev pub own_of : ℕ → Cache → ℕ → ℕ → Option Line → Cache
-own_of s c h b None = dirty c h b (span c.ram (s * b) s)
-own_of s c h b (Some l) = owned c h b l.bytes l.held
+own_of s c h b o = if dirty_by o h then c else dirty c h b (block_bytes s c.ram b o)
 
 unfoldable pub own : ℕ → Cache → ℕ → ℕ → Cache
 own s c h b = own_of s c h b (line_at c b)
@@ -115,15 +116,12 @@ unfoldable pub flush : ℕ → Cache → ℕ → Cache
 flush s c b = flush_of s c b (line_at c b)
 
 -- inval: all copies are dropped, and nothing is written
-abbrev pub dropped_of : FinMap nat_cmp Line → ℕ → Option Line → FinMap nat_cmp Line
-dropped_of lines b None = lines
-dropped_of lines b (Some l) = with_line lines b None
-
-unfoldable pub dropped : FinMap nat_cmp Line → ℕ → FinMap nat_cmp Line
-dropped lines b = dropped_of lines b (map.get lines b)
+abbrev pub inval_of : Cache → ℕ → Option Line → Cache
+inval_of c b None = c
+inval_of c b (Some l) = put c c.ram b None
 
 unfoldable pub inval : Cache → ℕ → Cache
-inval c b = record { ram = c.ram; lines = dropped c.lines b }
+inval c b = inval_of c b (line_at c b)
 
 -- clean copies, or none where nobody is left
 abbrev pub shared : List ℕ → List Bool → Option Line
@@ -149,3 +147,7 @@ line_byte s ram x (Some l) = byte l.bytes (x % s)
 
 unfoldable pub middle : ℕ → Cache → ℕ → ℕ
 middle s c x = line_byte s c.ram x (line_at c (x / s))
+
+-- the bytes of a span, as the domain has them
+abbrev pub bytes_at : ℕ → Cache → ℕ → ℕ → List ℕ
+bytes_at s c at n = list_map (middle s c) (range_with_len at n)

@@ -4,7 +4,7 @@ use Rattle.std.specs.FinMap as map
 use Rattle.nc_num.specs.Memory.{byte}
 use Rattle.nc_num.specs.Sizes.{IsBlockSize}
 use Rattle.nc_cache.specs.declared.line.Line.{Line}
-use Rattle.nc_cache.specs.Cache.{Cache, line_at, holds, load, own, store, zero_block, clean, flush, inval, evict, middle}
+use Rattle.nc_cache.specs.Cache.{Cache, line_at, holds, load, own, store, zero_block, clean, flush, inval, evict, middle, bytes_at}
 use Rattle.nc_cache.specs.Facts.{IsLine, Whole, Fresh, Clear, Both, Keeps, Dirties, Drops}
 
 -- memory and lines stay whole in each call
@@ -49,6 +49,11 @@ pub record InvalDrops : Type 0 where
   pub here : (s : ℕ) (c : Cache) (b x : ℕ) → x / s ≡ b → Drops s c (inval c b) x
   pub elsewhere : (s : ℕ) (c : Cache) (b x : ℕ) → x / s ≢ b → Keeps s c (inval c b) x
   pub both : (s : ℕ) (c : Cache) (b v x : ℕ) → Both s c v x → Both s (inval c b) v x
+
+-- the bytes of a span are what is seen at its places
+pub record BytesAreSeen : Type 0 where
+  pub length_is : (s : ℕ) (c : Cache) (at n : ℕ) → length (bytes_at s c at n) ≡ n
+  pub byte_is : (s : ℕ) (c : Cache) (at n i : ℕ) → i < n → byte (bytes_at s c at n) i ≡ middle s c (at + i)
 
 -- each line has a holder
 pub record LinesAreHeld : Type 0 where

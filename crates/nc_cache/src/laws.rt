@@ -1,6 +1,6 @@
 //! The laws of the calls, on which the proof of flat memory stands.
 
-ghost use Rattle.nc_cache.specs.Laws.{CallsKeepWhole, CallsKeepPlaces, CallsWritePlaces, InvalDrops, LinesAreHeld};
+ghost use Rattle.nc_cache.specs.Laws.{CallsKeepWhole, CallsKeepPlaces, CallsWritePlaces, InvalDrops, BytesAreSeen, LinesAreHeld};
 
 /// Each call leaves memory its length, and each line a whole block that some hart holds.
 #[tactic(auto, using(crate::proofs::LawProofs::calls_keep_whole))]
@@ -25,6 +25,12 @@ pub fn calls_write_places()
 #[tactic(auto, using(crate::proofs::LawProofs::inval_drops))]
 pub fn inval_drops()
     ensures { InvalDrops }
+{}
+
+/// The bytes of a span, as the domain has them, are the byte that is seen at each of its places.
+#[tactic(auto, using(crate::proofs::LawProofs::bytes_are_seen))]
+pub fn bytes_are_seen()
+    ensures { BytesAreSeen }
 {}
 
 /// Each line has a holder.
