@@ -1,0 +1,10 @@
+pub mod Lines
+pub mod Places
+pub mod Writes
+pub mod Holders
+pub mod Wholes
+pub mod LawProofs
+pub mod HartLineLaws
+pub mod Joins
+pub mod Rooms
+pub mod Domains

@@ -1,0 +1,384 @@
+//! The cache domain: the caches of all harts, which are coherent.
+
+ghost use Rattle.std.specs.Prelude.{◌≡◌, ◌+◌, ◌*◌, ◌/◌, ◌%◌, ◌≤◌, ◌<◌, ℕ, List, Option, IfOk, OnOk, OnErr, length};
+ghost use Rattle.std.specs.FinMap as map;
+ghost use Rattle.nc_num.specs.Sizes.{IsBlockSize};
+ghost use Rattle.nc_cache.specs.Cache.{held_by, with_line, load, own, store, zero_block, clean, flush, inval, evict, bytes_at};
+ghost use Rattle.nc_cache.specs.Bus.{load_bus, fill_bus, own_bus, clean_bus, flush_bus, inval_bus, evict_bus};
+ghost use Rattle.nc_cache.specs.Facts.{IsLineOf};
+ghost use Rattle.nc_cache.specs.State.{IsDomain, Stays};
+
+use crate::bus::BusList;
+use crate::caches::{line_at, put_all, reserve_all};
+use crate::hart_cache::HartCache;
+use crate::line::{BusRec, Held, Line, Origin, only};
+use crate::transfers::{block_span, is_dirty_by, part_of, patched, to_own, write_back, zeros};
+use nc_mem::Ram;
+use nc_num::{Block, Bytes, HartNo, NoMemory, Span};
+use std::alloc::Global;
+use std::marker::Model;
+
+/// The caches of one to four harts. Contracts see the block size, the number of harts, the blocks that some hart
+/// holds, and `spare`: for how many more of them there is room.
+#[derive(Drop)]
+pub struct Domain {
+    caches: Vec<HartCache>,
+    harts: u8,
+    block_size: u32,
+}
+
+impl Model for Domain {
+    ghost use Rattle.nc_cache.specs.State.{DomainState, state_code};
+    ghost use Rattle.nc_cache.specs.contracts.line.Line as line;
+
+    ghost Value = { DomainState };
+
+    ghost coded = { state_code line.the_row.coded };
+
+    ghost use Rattle.nc_cache.specs.Caches.{domain_of, IsCaches};
+
+    ghost view = { λ d. domain_of d.block_size d.harts d.caches.items };
+
+    ghost invariant = { λ d. IsCaches d.block_size d.harts d.caches.items };
+}
+
+impl Domain {
+    /// The caches of 1 to 4 harts, all empty, with blocks of 32, 64 or 128 bytes. Fails only for want of memory.
+    #[tactic(auto, using(crate::proofs::Domains::start_rules))]
+    pub fn new(alloc: Global, harts: u8, block_size: u32) -> Result<Domain, NoMemory>
+        requires some { 1 ≤ harts }
+        requires few { harts ≤ 4 }
+        requires size { IsBlockSize block_size }
+        ensures size { IfOk result (λ d. d.size ≡ block_size) }
+        ensures harts { IfOk result (λ d. d.harts ≡ harts) }
+        ensures lines { IfOk result (λ d. d.lines ≡ map.empty) }
+    {
+        let caches = vec![in alloc;
+            HartCache::new(alloc),
+            HartCache::new(alloc),
+            HartCache::new(alloc),
+            HartCache::new(alloc),
+        ]?;
+        Ok(Domain {
+            caches,
+            harts,
+            block_size,
+        })
+    }
+
+    /// Makes room for one more block, so that the next call which gives a hart a copy takes no memory.
+    #[tactic(auto, using(crate::proofs::Domains::reserve_rules))]
+    pub fn reserve(&mut self) -> Result<(), NoMemory>
+        ensures ok { OnOk result (1 ≤ self.new.spare) }
+        ensures size { self.new.size ≡ self.old.size }
+        ensures harts { self.new.harts ≡ self.old.harts }
+        ensures lines { self.new.lines ≡ self.old.lines }
+        ensures kept { self.old.spare ≤ self.new.spare }
+        ensures err { OnErr result (self.new ≡ self.old) }
+    {
+        reserve_all(&mut self.caches, self.harts)
+    }
+
+    /// The line of a block.
+    #[tactic(auto, using(crate::proofs::Holders::line_in_four))]
+    fn line(&self, b: Block) -> Option<Line>
+        ensures line { result ≡ map.get self.now.lines b.0 }
+        ensures domain { IsDomain self.now }
+        ensures whole { IsLineOf self.now.size self.now.harts result }
+        ensures in_four { IsLineOf self.now.size 4 result }
+    {
+        line_at(&self.caches, b)
+    }
+
+    /// Gives a block a line, or none.
+    #[tactic(auto, using(crate::proofs::Domains::put_rules))]
+    fn put(&mut self, b: Block, line: &Option<Line>)
+        requires spare { 1 ≤ self.old.spare }
+        requires whole { IsLineOf self.old.size self.old.harts line.now }
+        ensures lines { self.new.lines ≡ with_line self.old.lines b.0 line.now }
+        ensures size { self.new.size ≡ self.old.size }
+        ensures harts { self.new.harts ≡ self.old.harts }
+        ensures spare { self.old.spare ≤ self.new.spare + 1 }
+    {
+        put_all(&mut self.caches, b, line);
+    }
+
+    /// Gives a block a line, or none, whose holders have copies already.
+    #[tactic(auto, using(crate::proofs::Domains::keep_rules))]
+    fn keep(&mut self, b: Block, line: &Option<Line>)
+        requires stays { Stays (map.get self.old.lines b.0) line.now }
+        requires whole { IsLineOf self.old.size self.old.harts line.now }
+        ensures lines { self.new.lines ≡ with_line self.old.lines b.0 line.now }
+        ensures size { self.new.size ≡ self.old.size }
+        ensures harts { self.new.harts ≡ self.old.harts }
+        ensures spare { self.old.spare ≤ self.new.spare }
+    {
+        put_all(&mut self.caches, b, line);
+    }
+
+    /// The block size.
+    fn size(&self) -> u32
+        ensures size { result ≡ self.now.size }
+        ensures domain { IsDomain self.now }
+    {
+        self.block_size
+    }
+
+    /// Whether hart h holds a copy of the block.
+    pub fn holds(&self, h: HartNo, b: Block) -> bool
+        requires { h.0 < self.now.harts }
+        ensures value { result ≡ held_by (map.get self.now.lines b.0) h.0 }
+        ensures domain { IsDomain self.now }
+    {
+        match self.line(b) {
+            None => false,
+            Some(line) => line.held.holds(h),
+        }
+    }
+
+    /// The bytes of a span that lies in one block of memory: the domain's, else memory's.
+    pub fn bytes(&self, ram: &Ram, span: Span) -> Bytes
+        requires one_block { span.at % self.now.size + span.len ≤ self.now.size }
+        requires within { span.at + span.len ≤ length ram.now }
+        ensures value { result ≡ bytes_at self.now.size (record { ram = ram.now; lines = self.now.lines }) span.at span.len }
+        ensures len { length result ≡ span.len }
+    {
+        let size = self.size();
+        match self.line(Block(span.at / size)) {
+            None => ram.read(span),
+            Some(line) => part_of(&line.bytes, span.at % size, span.len),
+        }
+    }
+
+    /// A load by h: where h does not hold the block, a dirty holder writes it back, and h gets a copy, from the lowest
+    /// numbered holder or from memory.
+    #[tactic(auto, unfolding(crate::specs::Cache::load))]
+    pub fn load(&mut self, ram: &mut Ram, h: HartNo, b: Block) -> BusList
+        requires spare { 1 ≤ self.old.spare }
+        requires hart { h.0 < self.old.harts }
+        requires block { self.old.size * b.0 + self.old.size ≤ length ram.old }
+        ensures state { record { ram = ram.new; lines = self.new.lines } ≡ load self.old.size (record { ram = ram.old; lines = self.old.lines }) h.0 b.0 }
+        ensures bus { result ≡ load_bus self.old.size ram.old h.0 b.0 (map.get self.old.lines b.0) }
+        ensures ram { length ram.new ≡ length ram.old }
+        ensures size { self.new.size ≡ self.old.size }
+        ensures harts { self.new.harts ≡ self.old.harts }
+        ensures spare { self.old.spare ≤ self.new.spare + 1 }
+    {
+        let mut bus = BusList::new();
+        let size = self.size();
+        match self.line(b) {
+            None => {
+                let bytes = ram.read(block_span(ram, size, b));
+                let held = Held::Shared(only(h));
+                self.put(b, &Some(Line { bytes, held }));
+                let from = Origin::Mem(bytes);
+                bus.push(BusRec::Fill {
+                    hart: h,
+                    block: b,
+                    from,
+                });
+            }
+            Some(line) => {
+                if line.held.holds(h) {
+                    return bus;
+                }
+                write_back(ram, size, b, &line, &mut bus);
+                let mut by = line.held.holders();
+                by[h.0 as usize] = true;
+                let bytes = line.bytes;
+                let held = Held::Shared(by);
+                self.put(b, &Some(Line { bytes, held }));
+                let from = Origin::Hart(line.held.giver());
+                bus.push(BusRec::Fill {
+                    hart: h,
+                    block: b,
+                    from,
+                });
+            }
+        }
+        bus
+    }
+
+    /// A load by h where h does not hold the block; None where it does.
+    #[tactic(auto, using(crate::proofs::Places::load_held))]
+    pub fn fill(&mut self, ram: &mut Ram, h: HartNo, b: Block) -> Option<BusList>
+        requires spare { 1 ≤ self.old.spare }
+        requires hart { h.0 < self.old.harts }
+        requires block { self.old.size * b.0 + self.old.size ≤ length ram.old }
+        ensures state { record { ram = ram.new; lines = self.new.lines } ≡ load self.old.size (record { ram = ram.old; lines = self.old.lines }) h.0 b.0 }
+        ensures bus { result ≡ fill_bus self.old.size ram.old h.0 b.0 (map.get self.old.lines b.0) }
+        ensures ram { length ram.new ≡ length ram.old }
+        ensures size { self.new.size ≡ self.old.size }
+        ensures harts { self.new.harts ≡ self.old.harts }
+        ensures spare { self.old.spare ≤ self.new.spare + 1 }
+    {
+        if self.holds(h, b) {
+            return None;
+        }
+        Some(self.load(ram, h, b))
+    }
+
+    /// Makes h the one holder of the block, dirty: where h has it dirty, nothing; else all others drop their copies, and
+    /// h gets the bytes from its own copy, from the lowest numbered holder with no write to memory, or from memory.
+    #[tactic(auto, using(crate::proofs::Domains::call_rules), unfolding(crate::specs::Cache::own))]
+    pub fn own(&mut self, ram: &mut Ram, h: HartNo, b: Block) -> BusList
+        requires spare { 1 ≤ self.old.spare }
+        requires hart { h.0 < self.old.harts }
+        requires block { self.old.size * b.0 + self.old.size ≤ length ram.old }
+        ensures state { record { ram = ram.new; lines = self.new.lines } ≡ own self.old.size (record { ram = ram.old; lines = self.old.lines }) h.0 b.0 }
+        ensures bus { result ≡ own_bus self.old.size ram.old h.0 b.0 (map.get self.old.lines b.0) }
+        ensures ram { length ram.new ≡ length ram.old }
+        ensures size { self.new.size ≡ self.old.size }
+        ensures harts { self.new.harts ≡ self.old.harts }
+        ensures spare { self.old.spare ≤ self.new.spare + 1 }
+    {
+        let line = self.line(b);
+        if is_dirty_by(&line, h) {
+            return BusList::new();
+        }
+        let (bytes, bus) = to_own(ram, self.size(), h, b, &line);
+        let held = Held::Dirty(h);
+        self.put(b, &Some(Line { bytes, held }));
+        bus
+    }
+
+    /// A store by h of bytes to a span that lies in one block of memory and has their length: h owns the block, and the
+    /// bytes are changed.
+    #[tactic(auto, using(crate::proofs::Domains::call_rules), unfolding(crate::specs::Cache::store))]
+    pub fn store(&mut self, ram: &mut Ram, h: HartNo, span: Span, bytes: &[u8]) -> BusList
+        requires spare { 1 ≤ self.old.spare }
+        requires hart { h.0 < self.old.harts }
+        requires one_block { span.at % self.old.size + span.len ≤ self.old.size }
+        requires block { self.old.size * (span.at / self.old.size) + self.old.size ≤ length ram.old }
+        requires whole { length bytes.now ≡ span.len }
+        ensures state { record { ram = ram.new; lines = self.new.lines } ≡ store self.old.size (record { ram = ram.old; lines = self.old.lines }) h.0 span.at bytes.now }
+        ensures bus { result ≡ own_bus self.old.size ram.old h.0 (span.at / self.old.size) (map.get self.old.lines (span.at / self.old.size)) }
+        ensures ram { length ram.new ≡ length ram.old }
+        ensures size { self.new.size ≡ self.old.size }
+        ensures harts { self.new.harts ≡ self.old.harts }
+        ensures spare { self.old.spare ≤ self.new.spare + 1 }
+    {
+        let size = self.size();
+        let b = Block(span.at / size);
+        let (old, bus) = to_own(ram, size, h, b, &self.line(b));
+        let changed = patched(&old, span.at % size, bytes);
+        let held = Held::Dirty(h);
+        self.put(
+            b,
+            &Some(Line {
+                bytes: changed,
+                held,
+            }),
+        );
+        bus
+    }
+
+    /// h owns the block, and the whole block is zero.
+    #[tactic(auto, using(crate::proofs::Domains::call_rules), unfolding(crate::specs::Cache::zero_block))]
+    pub fn zero(&mut self, ram: &mut Ram, h: HartNo, b: Block) -> BusList
+        requires spare { 1 ≤ self.old.spare }
+        requires hart { h.0 < self.old.harts }
+        requires block { self.old.size * b.0 + self.old.size ≤ length ram.old }
+        ensures state { record { ram = ram.new; lines = self.new.lines } ≡ zero_block self.old.size (record { ram = ram.old; lines = self.old.lines }) h.0 b.0 }
+        ensures bus { result ≡ own_bus self.old.size ram.old h.0 b.0 (map.get self.old.lines b.0) }
+        ensures ram { length ram.new ≡ length ram.old }
+        ensures size { self.new.size ≡ self.old.size }
+        ensures harts { self.new.harts ≡ self.old.harts }
+        ensures spare { self.old.spare ≤ self.new.spare + 1 }
+    {
+        let size = self.size();
+        let (_, bus) = to_own(ram, size, h, b, &self.line(b));
+        let bytes = zeros(size);
+        let held = Held::Dirty(h);
+        self.put(b, &Some(Line { bytes, held }));
+        bus
+    }
+
+    /// h gives its copy up, and writes it back where it is dirty; None where h has no copy.
+    #[tactic(auto, using(crate::proofs::Domains::call_rules), unfolding(crate::specs::Cache::evict))]
+    pub fn evict(&mut self, ram: &mut Ram, h: HartNo, b: Block) -> Option<BusList>
+        requires hart { h.0 < self.old.harts }
+        requires block { self.old.size * b.0 + self.old.size ≤ length ram.old }
+        ensures state { record { ram = ram.new; lines = self.new.lines } ≡ evict self.old.size (record { ram = ram.old; lines = self.old.lines }) h.0 b.0 }
+        ensures bus { result ≡ evict_bus h.0 b.0 (map.get self.old.lines b.0) }
+        ensures ram { length ram.new ≡ length ram.old }
+        ensures size { self.new.size ≡ self.old.size }
+        ensures harts { self.new.harts ≡ self.old.harts }
+        ensures spare { self.old.spare ≤ self.new.spare }
+    {
+        let line = self.line(b)?;
+        if !line.held.holds(h) {
+            return None;
+        }
+        let mut bus = BusList::new();
+        write_back(ram, self.size(), b, &line, &mut bus);
+        self.keep(b, &line.without(h));
+        bus.push(BusRec::Drop { hart: h, block: b });
+        Some(bus)
+    }
+
+    /// A dirty holder writes the block back and becomes clean (CMO 1.0, `cbo.clean`).
+    #[tactic(auto, using(crate::proofs::Domains::call_rules), unfolding(crate::specs::Cache::clean))]
+    pub fn clean(&mut self, ram: &mut Ram, b: Block) -> BusList
+        requires block { self.old.size * b.0 + self.old.size ≤ length ram.old }
+        ensures state { record { ram = ram.new; lines = self.new.lines } ≡ clean self.old.size (record { ram = ram.old; lines = self.old.lines }) b.0 }
+        ensures bus { result ≡ clean_bus b.0 (map.get self.old.lines b.0) }
+        ensures ram { length ram.new ≡ length ram.old }
+        ensures size { self.new.size ≡ self.old.size }
+        ensures harts { self.new.harts ≡ self.old.harts }
+        ensures spare { self.old.spare ≤ self.new.spare }
+    {
+        let mut bus = BusList::new();
+        let Some(line) = self.line(b) else {
+            return bus;
+        };
+        let Held::Dirty(g) = line.held else {
+            return bus;
+        };
+        write_back(ram, self.size(), b, &line, &mut bus);
+        let bytes = line.bytes;
+        let held = Held::Shared(only(g));
+        self.keep(b, &Some(Line { bytes, held }));
+        bus
+    }
+
+    /// A dirty holder writes the block back, and all copies are dropped (CMO 1.0, `cbo.flush`).
+    #[tactic(auto, using(crate::proofs::Domains::call_rules), unfolding(crate::specs::Cache::flush))]
+    pub fn flush(&mut self, ram: &mut Ram, b: Block) -> BusList
+        requires block { self.old.size * b.0 + self.old.size ≤ length ram.old }
+        ensures state { record { ram = ram.new; lines = self.new.lines } ≡ flush self.old.size (record { ram = ram.old; lines = self.old.lines }) b.0 }
+        ensures bus { result ≡ flush_bus b.0 (map.get self.old.lines b.0) }
+        ensures ram { length ram.new ≡ length ram.old }
+        ensures size { self.new.size ≡ self.old.size }
+        ensures harts { self.new.harts ≡ self.old.harts }
+        ensures spare { self.old.spare ≤ self.new.spare }
+    {
+        let mut bus = BusList::new();
+        let Some(line) = self.line(b) else {
+            return bus;
+        };
+        write_back(ram, self.size(), b, &line, &mut bus);
+        self.keep(b, &None);
+        bus.push_drops(b, &line.held.holders());
+        bus
+    }
+
+    /// All copies are dropped, and nothing is written (CMO 1.0, `cbo.inval`).
+    #[tactic(auto, using(crate::proofs::Domains::call_rules), unfolding(crate::specs::Cache::inval))]
+    pub fn inval(&mut self, b: Block) -> BusList
+        // Whatever memory has beside it.
+        ensures state { (ram : List ℕ) → record { ram = ram; lines = self.new.lines } ≡ inval (record { ram = ram; lines = self.old.lines }) b.0 }
+        ensures bus { result ≡ inval_bus b.0 (map.get self.old.lines b.0) }
+        ensures size { self.new.size ≡ self.old.size }
+        ensures harts { self.new.harts ≡ self.old.harts }
+        ensures spare { self.old.spare ≤ self.new.spare }
+    {
+        let mut bus = BusList::new();
+        let Some(line) = self.line(b) else {
+            return bus;
+        };
+        self.keep(b, &None);
+        bus.push_drops(b, &line.held.holders());
+        bus
+    }
+}

@@ -1,0 +1,27 @@
+//! The cache domain: coherent caches of up to four harts over one memory, exact to the transfer.
+//!
+//! For some blocks the domain has the bytes and who holds them: some harts with clean copies, or one hart with a dirty
+//! one; memory has its own bytes beside it. This is an MSI protocol of this project's own. A cache has no capacity: a
+//! block may come or go at any moment, by `fill` and `evict`. The operations of CMO 1.0 are `clean`, `flush`, `inval`
+//! and `zero`.
+//!
+//! The contract for the crates above: each call makes the definition's change to the map of blocks and to memory, and
+//! tells of the definition's transfers, in order (`specs/Cache.antt`, `specs/Bus.antt`). Beside it stand the laws, of
+//! what each call keeps at one place of memory, on which the proof of flat memory stands (`specs/Laws.antt`).
+#![tactic(auto)]
+
+mod bus;
+mod caches;
+mod domain;
+mod hart_cache;
+mod laws;
+mod line;
+mod transfers;
+
+pub use bus::BusList;
+pub use domain::Domain;
+pub use laws::{
+    bytes_are_seen, calls_keep_places, calls_keep_whole, calls_write_places, inval_drops,
+    lines_are_held,
+};
+pub use line::{BusRec, Held, Line, Origin};

@@ -1,0 +1,162 @@
+//! What the domain has of a block, and the transfers that it tells of.
+
+ghost use Rattle.std.specs.Prelude.{◌≡◌, ◌<◌};
+ghost use Rattle.std.specs.List.{list_any};
+ghost use Rattle.nc_cache.specs.Harts.{only as only_of, lowest as lowest_of};
+
+use nc_num::{Block, Bytes, HartNo};
+
+/// Who holds a block: some harts with clean copies, or one hart with a dirty one.
+#[derive(Clone, Copy, Debug, PartialEq, Eq)]
+pub enum Held {
+    /// Clean copies in these harts.
+    Shared([bool; 4]),
+    /// The one copy, which memory may not have yet.
+    Dirty(HartNo),
+}
+
+/// A block that some hart holds: its bytes, which are the same in all copies, and who holds it.
+#[derive(Clone, Copy, Debug, PartialEq, Eq)]
+pub struct Line {
+    /// The bytes of the block.
+    pub bytes: Bytes,
+    /// Who holds it.
+    pub held: Held,
+}
+
+/// Where a hart's copy came from.
+#[derive(Clone, Copy, Debug, PartialEq, Eq)]
+pub enum Origin {
+    /// From memory, which had these bytes.
+    Mem(Bytes),
+    /// From this hart's copy.
+    Hart(HartNo),
+    /// The hart had a clean copy already.
+    Held,
+}
+
+/// One transfer on the bus between caches and memory.
+#[derive(Clone, Copy, Debug, PartialEq, Eq)]
+pub enum BusRec {
+    /// The hart got a clean copy of the block.
+    Fill {
+        hart: HartNo,
+        block: Block,
+        from: Origin,
+    },
+    /// The hart got the block dirty.
+    Own {
+        hart: HartNo,
+        block: Block,
+        from: Origin,
+    },
+    /// The hart wrote its dirty copy, these bytes, back to memory.
+    WriteBack {
+        hart: HartNo,
+        block: Block,
+        bytes: Bytes,
+    },
+    /// The hart dropped its copy.
+    Drop {
+        hart: HartNo,
+        block: Block,
+    },
+}
+
+/// The harts of four of which only this one is meant.
+pub(crate) fn only(h: HartNo) -> [bool; 4]
+    requires { h.0 < 4 }
+    ensures { result ≡ only_of h.0 }
+{
+    let mut by = [false; 4];
+    by[h.0 as usize] = true;
+    by
+}
+
+fn any_of(by: &[bool; 4]) -> bool
+    ensures { result ≡ list_any (λ held. held) by.now }
+{
+    by.iter().any(|held| *held)
+}
+
+fn lowest(by: &[bool; 4]) -> u8
+    ensures { result ≡ lowest_of by.now }
+{
+    for g in 0..4u8 {
+        if by[g as usize] {
+            return g;
+        }
+    }
+    4
+}
+
+impl Held {
+    ghost use Rattle.nc_cache.specs.Cache.{holds, dirty_in, holders};
+    ghost use Rattle.nc_cache.specs.Bus.{giver};
+    ghost use Rattle.nc_cache.specs.Facts.{IsHeld};
+
+    /// Whether hart h has a copy.
+    pub(crate) fn holds(&self, h: HartNo) -> bool
+        requires { h.0 < 4 }
+        ensures { result ≡ holds self.now h.0 }
+    {
+        match self {
+            Held::Shared(by) => by[h.0 as usize],
+            Held::Dirty(g) => g.0 == h.0,
+        }
+    }
+
+    /// Whether hart h has the copy, dirty.
+    pub(crate) fn is_dirty_in(&self, h: HartNo) -> bool
+        ensures { result ≡ dirty_in self.now h.0 }
+    {
+        match self {
+            Held::Shared(_) => false,
+            Held::Dirty(g) => g.0 == h.0,
+        }
+    }
+
+    /// The harts with a copy.
+    pub(crate) fn holders(&self) -> [bool; 4]
+        requires { IsHeld 4 self.now }
+        ensures { result ≡ holders self.now }
+    {
+        match self {
+            Held::Shared(by) => *by,
+            Held::Dirty(g) => only(*g),
+        }
+    }
+
+    /// The lowest numbered hart with a copy.
+    pub(crate) fn giver(&self) -> HartNo
+        ensures { result.0 ≡ giver self.now }
+    {
+        match self {
+            Held::Shared(by) => HartNo(lowest(by)),
+            Held::Dirty(g) => *g,
+        }
+    }
+}
+
+impl Line {
+    ghost use Rattle.nc_cache.specs.Cache.{without};
+
+    /// The line without h's copy, where h has one.
+    pub(crate) fn without(&self, h: HartNo) -> Option<Line>
+        requires { h.0 < 4 }
+        ensures { result ≡ without h.0 self.now.bytes self.now.held }
+    {
+        let Held::Shared(by) = self.held else {
+            return None;
+        };
+        let mut rest = by;
+        rest[h.0 as usize] = false;
+        if !any_of(&rest) {
+            return None;
+        }
+        Some(Line {
+            bytes: self.bytes,
+            held: Held::Shared(rest),
+        })
+    }
+}
