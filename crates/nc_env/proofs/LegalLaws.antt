@@ -1,12 +1,12 @@
 -- What a legal operation is performed as, by its kind.
-use Rattle.std.specs.Prelude.{Result, Ok, Err, if◌then◌else◌, ◌||◌}
+use Rattle.std.specs.Prelude.{Ok, Err, if◌then◌else◌, ◌||◌}
 use Rattle.std.proofs.Common.{◌≡◌, ◌⊎◌, ℕ, Bool, true, false, inl, inr, refl, ◌∙◌}
 use Rattle.nc_env.specs.declared.Mode.{Mode}
 use Rattle.nc_env.specs.declared.Mode.TheVariants.{M, S, U}
 use Rattle.nc_env.specs.declared.CboOp.{CboOp}
 use Rattle.nc_env.specs.declared.CboOp.TheVariants.{Clean, Flush, Inval, Zero}
 use Rattle.nc_env.specs.declared.Illegal.{Illegal}
-use Rattle.nc_env.specs.Enables.{decided, forbids, as_flush, performed, m_field, s_field}
+use Rattle.nc_env.specs.Enables.{decided, forbids, as_flush, performed}
 
 by_one : (op e : CboOp) (i : Illegal) (p f : Bool) → (if p then Err i else Ok (performed op f)) ≡ Ok e → e ≡ performed op f
 by_one op e i true f is = cc

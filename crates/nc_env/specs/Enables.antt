@@ -1,5 +1,5 @@
 -- The enables of cache-block operations (CMO 1.0), as a table over the fields' values.
-use Rattle.std.specs.Prelude.{◌≢◌, ℕ, ◌/◌, ◌%◌, ◌^◌, ◌==◌, ◌||◌, Bool, true, false, Result, Ok, Err, if◌then◌else◌}
+use Rattle.std.specs.Prelude.{◌≢◌, ℕ, ◌/◌, ◌%◌, ◌^◌, ◌==◌, ◌||◌, Bool, Result, Ok, Err, if◌then◌else◌}
 use Rattle.nc_env.specs.declared.Mode.{Mode}
 use Rattle.nc_env.specs.declared.Mode.TheVariants.{M, S, U}
 use Rattle.nc_env.specs.declared.CboOp.{CboOp}
