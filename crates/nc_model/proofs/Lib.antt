@@ -1,0 +1,6 @@
+pub mod OwnerLaws
+pub mod GrantLaws
+pub mod Faults
+pub mod FlatLaws
+pub mod LatestLaws
+mod Examples

@@ -1,0 +1,24 @@
+//! What ownership and flat memory mean: who owns a place, what the owner's table lets a hart and a channel do, what a
+//! touch is, and which bytes a read must show.
+//!
+//! There is no product code here but the types and their accessors. The definitions stand in `specs/`, and each public
+//! function is a law about them. The contract for the crates above: of the transfers the newest that covers a place
+//! gives its owner, and flat memory is the writes of a list of accesses, applied in order.
+#![tactic(auto)]
+
+mod deeds;
+mod laws;
+mod owners;
+mod touches;
+
+pub use deeds::{Deed, NamedBytes};
+pub use laws::{
+    append_is_in_order, first_fault_is_first, grants_stay_apart, later_is_after, latest_in_two,
+    newest_transfer_wins, one_grant_serves, one_may, other_bytes_stay, piece_is_spliced,
+    reads_by_number, touch_ends, unresolved_exactly_outside,
+};
+pub use owners::{Access, Actor, Grant, Owner};
+pub use touches::{Touch, TouchKind};
+
+#[cfg(test)]
+mod tests;
