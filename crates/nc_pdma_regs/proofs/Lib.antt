@@ -1,0 +1,4 @@
+pub mod Bits
+pub mod PowersOfTwo
+pub mod Fits
+pub mod Claims

@@ -1,0 +1,69 @@
+//! Which registers there are.
+
+ghost use Rattle.std.specs.Prelude.{◌≡◌, IfSome};
+ghost use Rattle.nc_pdma_regs.specs.Table.{register_at, width_of, known_at};
+
+/// An access outside the table of registers.
+#[derive(Clone, Copy, Debug, PartialEq, Eq)]
+pub struct BadMmio {
+    /// The offset from the channel's first register, in bytes.
+    pub off: u16,
+    /// The width of the access, in bytes.
+    pub width: u8,
+}
+
+/// A register of a channel.
+#[derive(Clone, Copy, Debug, PartialEq, Eq)]
+pub enum Register {
+    /// 0x000, 4 bytes: claim, run and what came of the last transfer.
+    Control,
+    /// 0x004, 4 bytes.
+    NextConfig,
+    /// 0x008, 8 bytes.
+    NextBytes,
+    /// 0x010, 8 bytes.
+    NextDestination,
+    /// 0x018, 8 bytes.
+    NextSource,
+    /// 0x104, 4 bytes, read only.
+    ExecConfig,
+    /// 0x108, 8 bytes, read only.
+    ExecBytes,
+    /// 0x110, 8 bytes, read only.
+    ExecDestination,
+    /// 0x118, 8 bytes, read only.
+    ExecSource,
+}
+
+/// The register that an access of this width finds at an offset, or None where there is none.
+pub fn find_register(off: u16, width: u8) -> Option<Register>
+    ensures value { result ≡ register_at off width }
+    ensures width { IfSome result (λ r. width ≡ width_of r) }
+{
+    match (off, width) {
+        (0x000, 4) => Some(Register::Control),
+        (0x004, 4) => Some(Register::NextConfig),
+        (0x008, 8) => Some(Register::NextBytes),
+        (0x010, 8) => Some(Register::NextDestination),
+        (0x018, 8) => Some(Register::NextSource),
+        (0x104, 4) => Some(Register::ExecConfig),
+        (0x108, 8) => Some(Register::ExecBytes),
+        (0x110, 8) => Some(Register::ExecDestination),
+        (0x118, 8) => Some(Register::ExecSource),
+        _ => None,
+    }
+}
+
+/// Whether there is a register of this width at an offset, both in bytes.
+///
+/// # Errors
+///
+/// `BadMmio` exactly where there is none.
+pub fn known(off: u16, width: u8) -> Result<(), BadMmio>
+    ensures { result ≡ known_at off width }
+{
+    match find_register(off, width) {
+        Some(_) => Ok(()),
+        None => Err(BadMmio { off, width }),
+    }
+}
