@@ -1,0 +1,2 @@
+pub mod InRam
+pub mod PteWords

@@ -1,0 +1,5 @@
+pub mod Gap
+pub mod Held
+pub mod Newest
+pub mod Fit
+pub mod Drained

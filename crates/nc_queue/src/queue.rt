@@ -1,0 +1,148 @@
+//! The queue: an array of eight places, of which the first hold the entries, the oldest first.
+
+ghost use Rattle.std.specs.Prelude.{◌≡◌, ◌↔◌, ◌≤◌, ◌<◌, List, [], ◌∷◌, ◌++◌, length, remove, slice_get, Ok, Err, IsNone, IsErr, OnOk, OnErr, IfErr, IfSome, IfNone};
+ghost use Rattle.nc_num.specs.Sizes.{IsBlockSize};
+ghost use Rattle.nc_queue.specs.Entries.{Fits};
+ghost use Rattle.nc_queue.specs.Rules.{gives, newest, given_at, any_in, may_drain, drained, may_load, lends};
+
+use crate::entry::{Entry, Full, is_io};
+use crate::rules;
+use nc_num::{Label, MemType, Place};
+use std::marker::Model;
+
+/// The entries that a queue has room for.
+const ROOM: u8 = 8;
+
+/// A hart's store queue. Contracts see the block size and the list of the entries, the oldest first.
+#[derive(Clone, Debug, Drop)]
+pub struct Queue {
+    cells: [Entry; 8],
+    len: u8,
+    size: u32,
+}
+
+impl Model for Queue {
+    ghost use Rattle.std.specs.Prelude.{take};
+    ghost use Rattle.nc_queue.specs.QueueState.{QueueState, IsKept};
+
+    ghost Value = { QueueState };
+
+    ghost view = { λ q. record { size = q.size; entries = take q.len q.cells } };
+
+    ghost invariant = { λ q. IsKept q.cells q.len q.size };
+}
+
+impl Queue {
+    /// An empty queue, for blocks of 32, 64 or 128 bytes.
+    pub fn new(block_size: u32) -> Queue
+        requires { IsBlockSize block_size }
+        ensures { result ≡ record { size = block_size; entries = [] } }
+    {
+        Queue {
+            cells: [Entry::Mark { pred: 0, succ: 0 }; 8],
+            len: 0,
+            size: block_size,
+        }
+    }
+
+    /// The number of entries, 0 to 8.
+    pub fn len(&self) -> u8
+        ensures value { result ≡ length self.now.entries }
+        ensures few { result ≤ 8 }
+    {
+        self.len
+    }
+
+    /// Puts an entry behind the others, where fewer than eight are queued. A store has 1 to 8 bytes in one block.
+    pub fn push(&mut self, e: Entry) -> Result<(), Full>
+        requires { Fits self.old.size e }
+        ensures full { IsErr result ↔ (length self.old.entries ≡ 8) }
+        ensures given_back { IfErr result (λ f. f.0 ≡ e) }
+        ensures err { OnErr result (self.new ≡ self.old) }
+        ensures ok { OnOk result (self.new ≡ record { size = self.old.size; entries = self.old.entries ++ e ∷ [] }) }
+    {
+        if self.len == ROOM {
+            return Err(Full(e));
+        }
+        self.cells[self.len as usize] = e;
+        self.len += 1;
+        Ok(())
+    }
+
+    /// Whether entry `i`, counted from the oldest, may drain: no earlier entry has its block or keeps it back by
+    /// its class, and no marker holds it back. This project's own rules.
+    pub fn may_drain(&self, i: u8) -> bool
+        ensures { result ≡ may_drain self.now.size self.now.entries i }
+    {
+        rules::may_drain(self.entries(), i as usize, self.size)
+    }
+
+    /// Takes entry `i` out, where it may drain. Those behind it move up.
+    pub fn drain(&mut self, i: u8) -> Option<Entry>
+        ensures entry { result ≡ drained self.old.size self.old.entries i }
+        ensures fits { IfSome result (Fits self.old.size) }
+        ensures none { IfNone result (self.new ≡ self.old) }
+        ensures some { IfSome result (λ _. self.new ≡ record { size = self.old.size; entries = remove self.old.entries i }) }
+    {
+        let i = i as usize;
+        let len = self.len as usize;
+        if !rules::may_drain(&self.cells[..len], i, self.size) {
+            return None;
+        }
+        let e = self.cells[i];
+        rules::close_gap(&mut self.cells, i, len);
+        self.len -= 1;
+        Some(e)
+    }
+
+    /// Whether a load of this type may be performed: one of type IO waits for the entries of class O.
+    pub fn may_load(&self, kind: MemType) -> bool
+        ensures { result ≡ may_load self.now.entries kind }
+    {
+        !(is_io(kind) && rules::any_o(self.entries()))
+    }
+
+    /// The number of the newest entry that gives the byte of a place: a store over it, or a zero of its block.
+    pub fn newest(&self, at: Place) -> Option<u8>
+        ensures value { result ≡ newest self.now.size self.now.entries at.0 }
+        ensures none { IsNone result ↔ (gives self.now.size self.now.entries at.0 ≡ None) }
+        ensures byte { IfSome result (λ i. given_at self.now.size self.now.entries at.0 i ≡ gives self.now.size self.now.entries at.0) }
+    {
+        match rules::newest(self.entries(), at.0, self.size) {
+            Some(i) => Some(i as u8),
+            None => None,
+        }
+    }
+
+    /// A copy of entry `i`, counted from the oldest.
+    pub fn get(&self, i: u8) -> Option<Entry>
+        ensures entry { result ≡ slice_get self.now.entries i }
+        ensures fits { IfSome result (Fits self.now.size) }
+    {
+        if i < self.len {
+            Some(self.cells[i as usize])
+        } else {
+            None
+        }
+    }
+
+    /// Whether an entry is of a class in the FENCE set.
+    pub fn holds(&self, set: u8) -> bool
+        ensures { result ≡ any_in self.now.entries set }
+    {
+        rules::any_in(self.entries(), set)
+    }
+
+    /// Whether an ownership token of the label is queued.
+    pub fn lends(&self, label: Label) -> bool
+        ensures { result ≡ lends self.now.entries label.0 }
+    {
+        rules::any_lends(self.entries(), label)
+    }
+
+    fn entries(&self) -> &[Entry]
+        ensures { result.now ≡ self.now.entries }
+    {
+        &self.cells[..self.len as usize]
+    }
+}
