@@ -1,0 +1,5 @@
+pub mod Effects
+pub mod Segments
+pub mod SegmentsBack
+pub mod Accesses
+pub mod Registers

@@ -1,0 +1,64 @@
+//! What cache operations do for a hart, and whether the plans of a mapping may use them.
+
+ghost use Rattle.std.specs.Prelude.{◌≡◌};
+ghost use Rattle.nc_env.specs.Enables.{IsEnvcfg};
+ghost use Rattle.nc_plan.specs.Effects.{effects_of, legal, needs};
+
+use nc_env::{CboOp, Field, Illegal, Mode, decide};
+use nc_num::Dir;
+
+/// What each cache operation is performed as for a hart, or by which field it is illegal (RISC-V CMO 1.0).
+#[derive(Clone, Copy, Debug, PartialEq, Eq)]
+pub struct Effects {
+    /// `cbo.clean`.
+    pub clean: Result<CboOp, Illegal>,
+    /// `cbo.flush`.
+    pub flush: Result<CboOp, Illegal>,
+    /// `cbo.inval`.
+    pub inval: Result<CboOp, Illegal>,
+    /// `cbo.zero`.
+    pub zero: Result<CboOp, Illegal>,
+}
+
+/// A mapping needs a cache operation that is illegal: the field that forbids it.
+#[derive(Clone, Copy, Debug, PartialEq, Eq)]
+pub struct CboOff(pub Field);
+
+/// The effects of the four operations in a mode, by the two registers, of which neither has the reserved value 10 in
+/// CBIE (RISC-V CMO 1.0).
+pub fn effects_of(mode: Mode, menvcfg: u64, senvcfg: u64) -> Effects
+    requires menvcfg_known { IsEnvcfg menvcfg }
+    requires senvcfg_known { IsEnvcfg senvcfg }
+    ensures { result ≡ effects_of mode menvcfg senvcfg }
+{
+    Effects {
+        clean: decide(mode, menvcfg, senvcfg, CboOp::Clean),
+        flush: decide(mode, menvcfg, senvcfg, CboOp::Flush),
+        inval: decide(mode, menvcfg, senvcfg, CboOp::Inval),
+        zero: decide(mode, menvcfg, senvcfg, CboOp::Zero),
+    }
+}
+
+/// Whether a hart may map in this direction, as the Linux DMA API needs it: a mapping to the device is cleaned, and
+/// another one is flushed as it is lent and invalidated as it returns. The error names the first field that forbids
+/// one of these, in this order.
+pub fn needs(e: &Effects, dir: Dir) -> Result<(), CboOff>
+    ensures { result ≡ needs e.now dir }
+{
+    match dir {
+        Dir::ToDev => legal(e.clean),
+        Dir::Both | Dir::FromDev => {
+            legal(e.flush)?;
+            legal(e.inval)
+        }
+    }
+}
+
+fn legal(effect: Result<CboOp, Illegal>) -> Result<(), CboOff>
+    ensures { result ≡ legal effect }
+{
+    match effect {
+        Ok(_) => Ok(()),
+        Err(Illegal(field)) => Err(CboOff(field)),
+    }
+}
