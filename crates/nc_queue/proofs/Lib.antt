@@ -3,3 +3,7 @@ pub mod Held
 pub mod Newest
 pub mod Fit
 pub mod Drained
+pub mod TestLaws
+pub mod GivesLaws
+pub mod FenceLaws
+pub mod DrainLaws

@@ -110,3 +110,59 @@ Fits s (Mark pred succ) = Unit {0}
 abbrev pub AllFit : ℕ → List Entry → Type 0
 AllFit s [] = Unit {0}
 AllFit s (e ∷ q) = Fits s e × AllFit s q
+
+-- tests for the laws: a cache operation of a kind on a block of this number; an entry that gives bytes of the block
+abbrev pub has_op : (CboOp → Bool) → ℕ → Entry → Bool
+has_op p b (Cbo block op) = p op && block.0 == b
+has_op p b (Store span bytes kind) = false
+has_op p b (Reg chan off width value) = false
+has_op p b (Mail buf to) = false
+has_op p b (Lend label first count) = false
+has_op p b (Mark pred succ) = false
+
+abbrev pub is_zero : CboOp → Bool
+is_zero Zero = true
+is_zero Clean = false
+is_zero Flush = false
+is_zero Inval = false
+
+abbrev pub is_inval : CboOp → Bool
+is_inval Inval = true
+is_inval Clean = false
+is_inval Flush = false
+is_inval Zero = false
+
+-- a dirty copy is written back
+abbrev pub writes_back : CboOp → Bool
+writes_back Clean = true
+writes_back Flush = true
+writes_back Inval = false
+writes_back Zero = false
+
+abbrev pub is_store : Entry → Bool
+is_store (Store span bytes kind) = true
+is_store (Cbo block op) = false
+is_store (Reg chan off width value) = false
+is_store (Mail buf to) = false
+is_store (Lend label first count) = false
+is_store (Mark pred succ) = false
+
+abbrev pub gives_in : ℕ → ℕ → Entry → Bool
+gives_in s b e = is_store e && has_block s b e || has_op is_zero b e
+
+abbrev pub is_mark : Entry → Bool
+is_mark (Mark pred succ) = true
+is_mark (Store span bytes kind) = false
+is_mark (Cbo block op) = false
+is_mark (Reg chan off width value) = false
+is_mark (Mail buf to) = false
+is_mark (Lend label first count) = false
+
+-- a marker that keeps class O behind class W
+abbrev pub is_wo : Entry → Bool
+is_wo (Mark pred succ) = has_w pred && has_o succ
+is_wo (Store span bytes kind) = false
+is_wo (Cbo block op) = false
+is_wo (Reg chan off width value) = false
+is_wo (Mail buf to) = false
+is_wo (Lend label first count) = false

@@ -1,3 +1,4 @@
 pub mod Entries
 pub mod Rules
 pub mod QueueState
+pub mod Laws

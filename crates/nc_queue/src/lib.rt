@@ -7,10 +7,12 @@
 #![tactic(auto)]
 
 mod entry;
+mod laws;
 mod queue;
 mod rules;
 
 pub use entry::{Entry, Full};
+pub use laws::{drain_law, marker_law, output_law, push_law};
 pub use queue::Queue;
 
 #[cfg(test)]
