@@ -1,10 +1,9 @@
 -- What the calls need to know of the lines that they make.
-use Rattle.std.specs.Prelude.{Option, Some, None, slice_set, slice_index_or, ◌==◌, if◌then◌else◌, take}
+use Rattle.std.specs.Prelude.{Option, Some, None, slice_set, slice_index_or, if◌then◌else◌}
 use Rattle.std.specs.List.{list_any}
 use Rattle.std.specs.Ordering.{nat_cmp}
-use Rattle.std.specs.FinMap.{FinMap}
 use Rattle.std.specs.FinMap as map
-use Rattle.std.proofs.Common.{◌≡◌, ◌≢◌, ℕ, zero, suc, ◌+◌, ◌<◌, ◌≤◌, Bool, true, false, List, [], ◌∷◌, length, refl, inl, inr, sym, ap, ◌∙◌, arith, subst}
+use Rattle.std.proofs.Common.{◌≡◌, ◌≢◌, ℕ, zero, suc, ◌<◌, ◌≤◌, Bool, true, false, List, [], ◌∷◌, length, refl, inl, inr, sym, ap, ◌∙◌, arith}
 use Rattle.std.proofs.lemmas.Bool.{cases_eq, cases_Bool}
 use Rattle.std.proofs.lemmas.Bool.Decides.{nat_tests}
 use Rattle.std.proofs.lemmas.List.{get_or-set_other}
@@ -14,11 +13,11 @@ use Rattle.nc_cache.specs.declared.line.Held.{Held}
 use Rattle.nc_cache.specs.declared.line.Held.TheVariants.{Shared, Dirty}
 use Rattle.nc_cache.specs.declared.line.Line.{Line}
 use Rattle.nc_cache.specs.Harts.{only}
-use Rattle.nc_cache.specs.Cache.{with_line, hart, holds, held_by, holders, shared, without}
-use Rattle.nc_cache.specs.Facts.{IsShared, IsHeld, IsLine, IsLineOf}
-use Rattle.nc_cache.specs.HartLines.{HartCacheState, spread, copies_at, joined, least_room}
-use Rattle.nc_cache.specs.State.{DomainState, IsDomain, Stays}
-use Rattle.nc_cache.specs.Caches.{domain_of, IsCaches, HasRoom, GivesRoom, SomeFull}
+use Rattle.nc_cache.specs.Cache.{holds, held_by, holders, shared, without}
+use Rattle.nc_cache.specs.Facts.{IsHeld, IsLine, IsLineOf}
+use Rattle.nc_cache.specs.HartLines.{HartCacheState, spread, copies_at, joined}
+use Rattle.nc_cache.specs.State.{Stays}
+use Rattle.nc_cache.specs.Caches.{IsCaches}
 use Rattle.nc_cache.proofs.Lines.{line-with_same, line-with_other}
 use Rattle.nc_cache.proofs.Holders.{shared_only, shared_with, shared_holders, line_without}
 use Rattle.nc_cache.proofs.Joins.{joined-put, joined_lines, joined_empty}

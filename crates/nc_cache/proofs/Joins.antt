@@ -1,11 +1,11 @@
 -- The caches of four harts as one map, before and after a line was spread over them.
-use Rattle.std.specs.Prelude.{Option, Some, None, slice_index_or, if◌then◌else◌, ◌==◌, ◌||◌, is_some, map}
+use Rattle.std.specs.Prelude.{Option, Some, None, slice_index_or, if◌then◌else◌, ◌==◌, ◌||◌, map}
 use Rattle.std.specs.List.{list_any}
 use Rattle.std.specs.Ordering.{nat_cmp, eq_by_cmp}
 use Rattle.std.specs.Cmp.{nat_cmp_total}
 use Rattle.std.specs.FinMap.{FinMap, nat_cmp-IsAntisymmetric}
 use Rattle.std.specs.FinMap as finmap
-use Rattle.std.proofs.Common.{◌≡◌, ◌≢◌, ℕ, zero, suc, ◌+◌, ◌<◌, ◌≤◌, Bool, true, false, List, [], ◌∷◌, ◌++◌, length, refl, inl, inr, sym, ap, ◌∙◌, arith, cond, subst}
+use Rattle.std.proofs.Common.{◌≡◌, ◌≢◌, ℕ, zero, suc, ◌<◌, ◌≤◌, Bool, true, false, List, [], ◌∷◌, ◌++◌, length, refl, inl, inr, sym, ap, ◌∙◌, arith, cond}
 use Rattle.std.proofs.lemmas.Bool.{cases_eq, cases_Bool, or_parts}
 use Rattle.std.proofs.lemmas.Bool.Decides.{nat_tests}
 use Rattle.nc_cache.specs.declared.line.Held.{Held}
@@ -13,8 +13,8 @@ use Rattle.nc_cache.specs.declared.line.Held.TheVariants.{Shared, Dirty}
 use Rattle.nc_cache.specs.declared.line.Line.{Line}
 use Rattle.nc_cache.specs.declared.hart_cache.HartLine.{HartLine}
 use Rattle.nc_cache.specs.Cache.{with_line, hart}
-use Rattle.nc_cache.specs.Facts.{IsShared, IsHeld, IsLine, IsLineOf}
-use Rattle.nc_cache.specs.HartLines.{HartCacheState, look_up, held_at, part, spread, first_copy, dirty_hart, has, held_from, line_by, line_from, copies_at, gather, blocks, joined}
+use Rattle.nc_cache.specs.Facts.{IsHeld, IsLineOf}
+use Rattle.nc_cache.specs.HartLines.{HartCacheState, look_up, part, spread, first_copy, line_by, line_from, copies_at, gather, blocks, joined}
 
 -- a line that is spread is that line again
 from_shared : (b : ℕ) (bytes : List ℕ) (by : List Bool) → length by ≡ 4 → list_any (λ x. x) by ≡ true → line_from (spread b (Some (record { bytes = bytes; held = Shared by }))) ≡ Some (record { bytes = bytes; held = Shared by })

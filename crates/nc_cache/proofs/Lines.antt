@@ -14,7 +14,7 @@ use Rattle.nc_cache.specs.declared.line.Held.{Held}
 use Rattle.nc_cache.specs.declared.line.Held.TheVariants.{Shared, Dirty}
 use Rattle.nc_cache.specs.declared.line.Line.{Line}
 use Rattle.nc_cache.specs.Cache.{with_line, block_bytes, back, line_byte}
-use Rattle.nc_cache.specs.Facts.{IsClean, CleanAgrees, Agrees, IsLine, IsLineOf}
+use Rattle.nc_cache.specs.Facts.{IsClean, CleanAgrees, Agrees, IsLineOf}
 
 pub line-with_same : (m : FinMap nat_cmp Line) (b k : ℕ) (o : Option Line) → k ≡ b → map.get (with_line m b o) k ≡ o
 unfolding with_line

@@ -3,14 +3,14 @@ use Rattle.std.specs.Prelude.{Option, Some, None, slice_set, Bool, true, false, 
 use Rattle.std.specs.List.{list_any}
 use Rattle.std.proofs.Common.{◌≡◌, ◌≢◌, ◌⊎◌, ℕ, ◌+◌, ◌*◌, ◌/◌, ◌%◌, ◌≤◌, List, length, refl, inl, inr, sym, ap, ◌∙◌, arith, subst}
 use Rattle.std.proofs.lemmas.Bool.{cases_eq}
-use Rattle.nc_num.specs.Memory.{byte, splice, span}
+use Rattle.nc_num.specs.Memory.{byte, span}
 use Rattle.nc_num.specs.Sizes.{IsBlockSize}
 use Rattle.nc_cache.specs.declared.line.Held.{Held}
 use Rattle.nc_cache.specs.declared.line.Held.TheVariants.{Shared, Dirty}
 use Rattle.nc_cache.specs.declared.line.Line.{Line}
 use Rattle.nc_cache.specs.Harts.{only}
-use Rattle.nc_cache.specs.Cache.{Cache, line_at, with_line, holds, held_by, holders, back, put, load, load_of, clean, clean_of, cleaned, flush, flush_of, shared, without, evict, evict_of, line_byte, middle}
-use Rattle.nc_cache.specs.Facts.{IsClean, LineClear, CleanAgrees, Agrees, IsLine, IsLineOf, Whole, Fresh, Clear, Both, Keeps}
+use Rattle.nc_cache.specs.Cache.{Cache, line_at, holds, held_by, holders, back, put, load, load_of, clean, clean_of, cleaned, flush, flush_of, shared, without, evict, evict_of, line_byte, middle}
+use Rattle.nc_cache.specs.Facts.{IsClean, LineClear, CleanAgrees, Agrees, IsLineOf, Whole, Fresh, Clear, Both, Keeps}
 use Rattle.nc_cache.proofs.Lines.{line-with_same, line-with_other, byte-span_block, byte-back_other, byte-back_same, byte-back, back_clean, line_byte-other, Agrees-other}
 
 pub keeps_same : (s : ℕ) (c : Cache) (x : ℕ) → Keeps s c c x

@@ -1,6 +1,6 @@
 -- How much room the harts have, before and after a line was spread over them.
-use Rattle.std.specs.Prelude.{Option, Some, None, IsSome, slice_index_or, if◌then◌else◌, ◌==◌, is_some, map, min, take}
-use Rattle.std.proofs.Common.{◌≡◌, ◌≢◌, ℕ, zero, suc, ◌+◌, ◌<◌, ◌≤◌, Bool, true, false, List, [], ◌∷◌, length, refl, inl, inr, sym, ap, ◌∙◌, arith, cond, subst}
+use Rattle.std.specs.Prelude.{Option, Some, None, slice_index_or, if◌then◌else◌, is_some, take}
+use Rattle.std.proofs.Common.{◌≡◌, ℕ, zero, suc, ◌+◌, ◌<◌, ◌≤◌, Bool, true, false, List, [], ◌∷◌, length, refl, inl, inr, sym, ap, ◌∙◌, arith}
 use Rattle.std.proofs.lemmas.Bool.{cases_Bool, cases_lt}
 use Rattle.std.proofs.lemmas.Bool.Decides.{nat_tests}
 use Rattle.std.specs.FinMap as finmap
@@ -8,8 +8,8 @@ use Rattle.nc_cache.specs.declared.line.Held.{Held}
 use Rattle.nc_cache.specs.declared.line.Held.TheVariants.{Shared, Dirty}
 use Rattle.nc_cache.specs.declared.line.Line.{Line}
 use Rattle.nc_cache.specs.declared.hart_cache.HartLine.{HartLine}
-use Rattle.nc_cache.specs.Cache.{hart, holds, held_by}
-use Rattle.nc_cache.specs.Facts.{IsShared, IsHeld, IsLine, IsLineOf}
+use Rattle.nc_cache.specs.Cache.{holds, held_by}
+use Rattle.nc_cache.specs.Facts.{IsHeld, IsLineOf}
 use Rattle.nc_cache.specs.HartLines.{HartCacheState, look_up, growth, held_at, part, first_copy, dirty_hart, has, held_from, line_by, line_from, copies_at, joined, least_room}
 use Rattle.nc_cache.specs.State.{Stays}
 use Rattle.nc_cache.specs.Caches.{HasRoom, GivesRoom, SomeFull}

@@ -1,10 +1,9 @@
 -- Each call leaves memory and the lines whole.
-use Rattle.std.specs.Prelude.{Option, Some, None, slice_set, Bool, true, false, ◌==◌, if◌then◌else◌, replicate}
-use Rattle.std.proofs.Common.{◌≡◌, ◌≢◌, ℕ, ◌+◌, ◌*◌, ◌/◌, ◌%◌, ◌<◌, ◌≤◌, List, length, refl, inl, inr, sym, ap, ◌∙◌, arith, subst}
+use Rattle.std.specs.Prelude.{Option, Some, None, slice_set, true, false, if◌then◌else◌, replicate}
+use Rattle.std.proofs.Common.{◌≡◌, ℕ, ◌+◌, ◌*◌, ◌/◌, ◌%◌, ◌<◌, ◌≤◌, List, length, refl, inl, inr, ap, ◌∙◌, arith}
 use Rattle.std.proofs.lemmas.Bool.{cases_eq}
 use Rattle.std.proofs.lemmas.List.{length-replicate}
 use Rattle.std.specs.Ordering.{nat_cmp}
-use Rattle.std.specs.FinMap.{FinMap}
 use Rattle.std.specs.FinMap as map
 use Rattle.nc_num.specs.Memory.{byte, splice, span}
 use Rattle.nc_num.specs.Sizes.{IsBlockSize}
@@ -13,8 +12,8 @@ use Rattle.nc_cache.specs.declared.line.Held.{Held}
 use Rattle.nc_cache.specs.declared.line.Held.TheVariants.{Shared, Dirty}
 use Rattle.nc_cache.specs.declared.line.Line.{Line}
 use Rattle.nc_cache.specs.Harts.{only}
-use Rattle.nc_cache.specs.Cache.{Cache, line_at, with_line, hart, holds, holders, block_bytes, back, put, dirty, load, load_of, dirty_by, own, own_of, store, zero_block, clean, clean_of, cleaned, flush, flush_of, inval, without, evict, evict_of, middle}
-use Rattle.nc_cache.specs.Facts.{IsHeld, IsLine, IsLineOf, Whole, Fresh, Clear}
+use Rattle.nc_cache.specs.Cache.{Cache, line_at, hart, holds, holders, block_bytes, back, put, dirty, load, load_of, dirty_by, own, own_of, store, zero_block, clean, clean_of, cleaned, flush, flush_of, inval, without, evict, evict_of, middle}
+use Rattle.nc_cache.specs.Facts.{IsHeld, IsLineOf, Whole, Fresh, Clear}
 use Rattle.nc_cache.proofs.Lines.{line-with_same, line-with_other, length-back, length-block_bytes}
 use Rattle.nc_cache.proofs.Writes.{gone_inval, other_inval, ram-inval}
 use Rattle.nc_cache.proofs.Holders.{shared_only, shared_with, shared_holders, line_without}

@@ -1,25 +1,20 @@
 -- What a call that writes, and an invalidate, do at one place: own, store, zero, inval.
-use Rattle.std.specs.Prelude.{Option, Some, None, Bool, true, false, ◌==◌, if◌then◌else◌, replicate, map as list_map}
-use Rattle.std.proofs.Common.{◌≡◌, ◌≢◌, ◌⊎◌, ℕ, ◌+◌, ◌-◌, ◌*◌, ◌/◌, ◌%◌, ◌<◌, ◌≤◌, List, length, refl, inl, inr, sym, ap, ◌∙◌, arith, subst}
+use Rattle.std.specs.Prelude.{Option, Some, None, true, false, if◌then◌else◌, replicate, map as list_map}
+use Rattle.std.proofs.Common.{◌≡◌, ◌≢◌, ◌⊎◌, ℕ, ◌+◌, ◌-◌, ◌*◌, ◌/◌, ◌%◌, ◌<◌, ◌≤◌, List, length, refl, inl, inr, sym, ap, ◌∙◌, arith}
 use Rattle.std.proofs.lemmas.Bool.{cases_eq}
-use Rattle.std.proofs.lemmas.Bool.Decides.{nat_tests}
 use Rattle.std.proofs.lemmas.Grind.{common_steps}
-use Rattle.std.proofs.lemmas.List.{places, length-replicate}
+use Rattle.std.proofs.lemmas.List.{places}
 use Rattle.std.proofs.lemmas.List.FromFn.{get_or-map-range_with_len, length-map-range_with_len}
 use Rattle.std.specs.List.{range_with_len}
-use Rattle.std.specs.Ordering.{nat_cmp}
-use Rattle.std.specs.FinMap.{FinMap}
-use Rattle.std.specs.FinMap as map
 use Rattle.nc_num.specs.Memory.{byte, splice, span}
 use Rattle.nc_num.specs.Sizes.{IsBlockSize}
-use Rattle.nc_num.proofs.Blocks.{Inside, inside, Within, within_block}
-use Rattle.nc_num.proofs.MemoryLaws.{length-splice, byte-splice_below, byte-splice_in, byte-splice_above, byte-span, length-span, same_bytes}
-use Rattle.nc_cache.specs.declared.line.Held.{Held}
-use Rattle.nc_cache.specs.declared.line.Held.TheVariants.{Shared, Dirty}
+use Rattle.nc_num.proofs.Blocks.{inside, within_block}
+use Rattle.nc_num.proofs.MemoryLaws.{byte-splice_below, byte-splice_in, byte-splice_above, byte-span, length-span, same_bytes}
+use Rattle.nc_cache.specs.declared.line.Held.TheVariants.{Dirty}
 use Rattle.nc_cache.specs.declared.line.Line.{Line}
-use Rattle.nc_cache.specs.Cache.{Cache, line_at, with_line, hart, holds, block_bytes, put, dirty, dirty_by, own, own_of, store, zero_block, inval, inval_of, line_byte, middle, bytes_at}
-use Rattle.nc_cache.specs.Facts.{LineClear, Agrees, IsLine, IsLineOf, Whole, Fresh, Clear, Both, Keeps, Dirties, Drops}
-use Rattle.nc_cache.proofs.Lines.{line-with_same, line-with_other, byte-span_block, byte-block_bytes, length-block_bytes}
+use Rattle.nc_cache.specs.Cache.{Cache, line_at, hart, block_bytes, dirty, dirty_by, own, own_of, store, zero_block, inval, inval_of, line_byte, middle, bytes_at}
+use Rattle.nc_cache.specs.Facts.{Whole, Clear, Both, Keeps, Dirties, Drops}
+use Rattle.nc_cache.proofs.Lines.{line-with_same, line-with_other, byte-block_bytes, length-block_bytes}
 use Rattle.nc_cache.proofs.Places.{fresh_both}
 
 -- the block of a hart that has it dirty

@@ -6,7 +6,6 @@ use Rattle.nc_cache.specs.Harts.{lowest}
 use Rattle.nc_cache.specs.declared.line.Held.{Held}
 use Rattle.nc_cache.specs.declared.line.Held.TheVariants.{Shared, Dirty}
 use Rattle.nc_cache.specs.declared.line.Line.{Line}
-use Rattle.nc_cache.specs.declared.line.Origin.{Origin}
 use Rattle.nc_cache.specs.declared.line.Origin.TheVariants.{Mem, Hart}
 use Rattle.nc_cache.specs.declared.line.Origin.TheVariants as origin
 use Rattle.nc_cache.specs.declared.line.BusRec.{BusRec}

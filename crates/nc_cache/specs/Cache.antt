@@ -1,6 +1,6 @@
 -- The cache domain beside memory: for some blocks their bytes, and the harts that hold a copy, clean or dirty.
 -- This project's own (an MSI protocol). Clean, flush and invalidate are those of CMO 1.0 (Zicbom), zero of Zicboz.
-use Rattle.std.specs.Prelude.{ℕ, ◌+◌, ◌*◌, ◌/◌, ◌%◌, Bool, true, false, ◌==◌, if◌then◌else◌, List, [], ◌∷◌, Option, Some, None, slice_index_or, slice_set, replicate, map as list_map}
+use Rattle.std.specs.Prelude.{ℕ, ◌*◌, ◌/◌, ◌%◌, Bool, true, false, ◌==◌, if◌then◌else◌, List, Option, Some, None, slice_index_or, slice_set, replicate, map as list_map}
 use Rattle.std.specs.List.{list_any, range_with_len}
 use Rattle.std.specs.Ordering.{nat_cmp}
 use Rattle.std.specs.FinMap.{FinMap}

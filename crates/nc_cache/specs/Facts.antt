@@ -1,5 +1,5 @@
 -- What holds of memory and the domain between calls, as a whole and at one place.
-use Rattle.std.specs.Prelude.{ℕ, ◌≡◌, ◌≢◌, ◌⊎◌, ◌*◌, ◌+◌, ◌/◌, ◌%◌, ◌<◌, ◌≤◌, Bool, true, false, List, Option, Some, None, length, slice_index_or}
+use Rattle.std.specs.Prelude.{ℕ, ◌≡◌, ◌≢◌, ◌⊎◌, ◌/◌, ◌%◌, ◌<◌, ◌≤◌, Bool, true, false, List, Option, Some, None, length, slice_index_or}
 use Rattle.std.specs.List.{list_any}
 use Rattle.nc_num.specs.Memory.{byte}
 use Rattle.nc_num.specs.Sizes.{IsBlockSize}

@@ -1,5 +1,5 @@
 -- The lines of one hart, in order of arrival, and those of four harts seen as one map.
-use Rattle.std.specs.Prelude.{ℕ, ◌≡◌, ◌+◌, ◌<◌, ◌≤◌, Bool, true, false, ◌==◌, not, if◌then◌else◌, min, List, [], ◌∷◌, ◌++◌, map, filter, length, take, Option, Some, None, is_some, slice_index_or}
+use Rattle.std.specs.Prelude.{ℕ, ◌+◌, Bool, true, false, ◌==◌, not, if◌then◌else◌, min, List, [], ◌∷◌, ◌++◌, map, filter, Option, Some, None, is_some, slice_index_or}
 use Rattle.std.specs.Ordering.{nat_cmp}
 use Rattle.std.specs.FinMap.{FinMap}
 use Rattle.std.specs.FinMap as finmap
@@ -7,7 +7,7 @@ use Rattle.nc_cache.specs.declared.line.Held.{Held}
 use Rattle.nc_cache.specs.declared.line.Held.TheVariants.{Shared, Dirty}
 use Rattle.nc_cache.specs.declared.line.Line.{Line}
 use Rattle.nc_cache.specs.declared.hart_cache.HartLine.{HartLine}
-use Rattle.nc_cache.specs.Cache.{with_line, hart, holds}
+use Rattle.nc_cache.specs.Cache.{with_line, hart}
 use Rattle.nc_cache.specs.Bus.{block}
 
 -- a hart's lines, and how many more it has room for

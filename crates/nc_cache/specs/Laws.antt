@@ -1,5 +1,5 @@
 -- The laws of the calls, at one place of memory and as a whole. s is the block size.
-use Rattle.std.specs.Prelude.{ℕ, ◌≡◌, ◌≢◌, ◌⊎◌, ◌+◌, ◌-◌, ◌*◌, ◌/◌, ◌%◌, ◌<◌, ◌≤◌, Bool, true, List, Option, Some, None, length}
+use Rattle.std.specs.Prelude.{ℕ, ◌≡◌, ◌≢◌, ◌⊎◌, ◌+◌, ◌-◌, ◌*◌, ◌/◌, ◌%◌, ◌<◌, ◌≤◌, true, List, None, length}
 use Rattle.std.specs.FinMap as map
 use Rattle.nc_num.specs.Memory.{byte}
 use Rattle.nc_num.specs.Sizes.{IsBlockSize}

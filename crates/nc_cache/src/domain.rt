@@ -306,13 +306,13 @@ impl Domain {
         ensures harts { self.new.harts ≡ self.old.harts }
         ensures spare { self.old.spare ≤ self.new.spare }
     {
-        let line = self.line(b)?;
-        if !line.held.holds(h) {
+        let copy = self.line(b)?;
+        if !copy.held.holds(h) {
             return None;
         }
         let mut bus = BusList::new();
-        write_back(ram, self.size(), b, &line, &mut bus);
-        self.keep(b, &line.without(h));
+        write_back(ram, self.size(), b, &copy, &mut bus);
+        self.keep(b, &copy.without(h));
         bus.push(BusRec::Drop { hart: h, block: b });
         Some(bus)
     }
@@ -374,11 +374,11 @@ impl Domain {
         ensures spare { self.old.spare ≤ self.new.spare }
     {
         let mut bus = BusList::new();
-        let Some(line) = self.line(b) else {
+        let Some(gone) = self.line(b) else {
             return bus;
         };
         self.keep(b, &None);
-        bus.push_drops(b, &line.held.holders());
+        bus.push_drops(b, &gone.held.holders());
         bus
     }
 }

@@ -16,6 +16,8 @@ mod domain;
 mod hart_cache;
 mod laws;
 mod line;
+#[cfg(test)]
+mod tests;
 mod transfers;
 
 pub use bus::BusList;

@@ -164,7 +164,6 @@ pub(crate) fn patched(block: &Bytes, at: u32, bytes: &[u8]) -> Bytes
 }
 
 /// A block of zeros.
-
 pub(crate) fn zeros(size: u32) -> Bytes
     requires { size ≤ 128 }
     ensures { result ≡ replicate size 0 }

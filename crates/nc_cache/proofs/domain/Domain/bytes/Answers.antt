@@ -1,4 +1,4 @@
-use Rattle.std.proofs.Common.{◌≡◌, ◌/◌, ◌%◌, ◌+◌, ◌≤◌, length, arith, sym, ap, ◌∙◌}
+use Rattle.std.proofs.Common.{◌/◌, ◌%◌, ◌+◌, ◌≤◌, length, arith, sym, ap, ◌∙◌}
 use Rattle.std.specs.FinMap as map
 use Rattle.nc_num.specs.Memory.{span}
 use Rattle.nc_num.proofs.MemoryLaws.{length-span}

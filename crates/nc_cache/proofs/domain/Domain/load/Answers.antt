@@ -1,4 +1,4 @@
-use Rattle.std.proofs.Common.{◌≡◌, length, ◌∙◌}
+use Rattle.std.proofs.Common.{◌≡◌, length}
 use Rattle.nc_cache.proofs.Domains.{line_only, line_with}
 use Rattle.nc_cache.proofs.domain.Domain.load.Goals as goal
 
