@@ -2,7 +2,7 @@
 
 ghost use Rattle.std.specs.Prelude.{◌≡◌, ◌↔◌, ◌≤◌, ◌<◌, List, [], ◌∷◌, ◌++◌, length, remove, slice_get, Ok, Err, IsNone, IsErr, OnOk, OnErr, IfErr, IfSome, IfNone};
 ghost use Rattle.nc_num.specs.Sizes.{IsBlockSize};
-ghost use Rattle.nc_queue.specs.Entries.{Fits};
+ghost use Rattle.nc_queue.specs.Entries.{Fits, AllFit};
 ghost use Rattle.nc_queue.specs.Rules.{gives, newest, given_at, any_in, may_drain, drained, may_load, lends};
 
 use crate::entry::{Entry, Full, is_io};
@@ -45,10 +45,12 @@ impl Queue {
         }
     }
 
-    /// The number of entries, 0 to 8.
+    /// The number of entries, 0 to 8. Each of them meets the condition of `push`.
     pub fn len(&self) -> u8
         ensures value { result ≡ length self.now.entries }
         ensures few { result ≤ 8 }
+        ensures known { IsBlockSize self.now.size }
+        ensures fit { AllFit self.now.size self.now.entries }
     {
         self.len
     }
@@ -59,6 +61,7 @@ impl Queue {
         ensures full { IsErr result ↔ (length self.old.entries ≡ 8) }
         ensures given_back { IfErr result (λ f. f.0 ≡ e) }
         ensures err { OnErr result (self.new ≡ self.old) }
+        ensures size { self.new.size ≡ self.old.size }
         ensures ok { OnOk result (self.new ≡ record { size = self.old.size; entries = self.old.entries ++ e ∷ [] }) }
     {
         if self.len == ROOM {
@@ -82,6 +85,7 @@ impl Queue {
         ensures entry { result ≡ drained self.old.size self.old.entries i }
         ensures fits { IfSome result (Fits self.old.size) }
         ensures none { IfNone result (self.new ≡ self.old) }
+        ensures size { self.new.size ≡ self.old.size }
         ensures some { IfSome result (λ _. self.new ≡ record { size = self.old.size; entries = remove self.old.entries i }) }
     {
         let i = i as usize;
