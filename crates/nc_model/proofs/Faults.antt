@@ -1,5 +1,5 @@
 -- The first place of a span at fault.
-use Rattle.std.proofs.Common.{◌≡◌, ℕ, zero, suc, ◌+◌, ◌<◌, ◌≤◌, Bool, true, false, not, Option, Some, None, refl, sym, ap, ◌∙◌, inl, inr, arith, cond, subst}
+use Rattle.std.proofs.Common.{◌≡◌, ℕ, zero, suc, ◌+◌, ◌-◌, ◌<◌, ◌≤◌, Bool, true, false, not, Option, Some, None, refl, sym, ap, ◌∙◌, inl, inr, arith, cond, subst}
 use Rattle.std.proofs.lemmas.Bool.{and_parts, leb-true, ltb-true, le-leb, lt-ltb, and_from, cases_eq, cases_order}
 use Rattle.std.proofs.lemmas.Bool.Decides.{nat_tests}
 use Rattle.std.specs.List.{find, range_with_len}
@@ -82,3 +82,33 @@ agree_by may also s (Some x) h f =
 -- tests that agree over the span have one first fault
 pub first_fault-same : (may also : ℕ → Bool) (s : Span) → ((x : ℕ) → covers s x ≡ true → may x ≡ also x) → first_fault may s ≡ first_fault also s
 first_fault-same may also s h = first_fault-is may s _ (agree_by may also s _ h (is_fault also s))
+
+-- a loop over the places of a span
+pub fault_here : (may : ℕ → Bool) (at n : ℕ) → 0 < n → may at ≡ false → first_fault may (record { at = at; len = n }) ≡ Some at
+unfolding first_fault
+fault_here may at zero some e = absurd (omega arith)
+fault_here may at (suc n) some e = rw e refl
+
+pub fault_next : (may : ℕ → Bool) (at n : ℕ) → 0 < n → may at ≡ true → first_fault may (record { at = at; len = n }) ≡ first_fault may (record { at = at + 1; len = n - 1 })
+unfolding first_fault
+fault_next may at zero some e = absurd (omega arith)
+fault_next may at (suc n) some e = rw e (let less : suc n - 1 ≡ n = omega arith in rw less refl)
+
+pub fault_end : (may : ℕ → Bool) (at n : ℕ) → n ≡ 0 → first_fault may (record { at = at; len = n }) ≡ None
+unfolding first_fault
+fault_end may at n e = rw e refl
+
+-- its steps: nothing before x is at fault
+pub fault_found : (may : ℕ → Bool) (s : Span) (x end : ℕ) → first_fault may (record { at = x; len = end - x }) ≡ first_fault may s → x < end → may x ≡ false → Some x ≡ first_fault may s
+fault_found may s x end all lt e = sym (fault_here may x (end - x) (omega arith) e) ∙ all
+
+pub fault_passed : (may : ℕ → Bool) (s : Span) (x end : ℕ) → first_fault may (record { at = x; len = end - x }) ≡ first_fault may s → x < end → may x ≡ true
+    → first_fault may (record { at = x + 1; len = end - (x + 1) }) ≡ first_fault may s
+fault_passed may s x end all lt e =
+    ap (λ n. first_fault may (record { at = x + 1; len = n })) (omega arith) ∙ sym (fault_next may x (end - x) (omega arith) e) ∙ all
+
+pub fault_none : (may : ℕ → Bool) (s : Span) (x end : ℕ) → first_fault may (record { at = x; len = end - x }) ≡ first_fault may s → end ≤ x → None ≡ first_fault may s
+fault_none may s x end all le = sym (fault_end may x (end - x) (omega arith)) ∙ all
+
+pub fault_from_start : (may : ℕ → Bool) (s : Span) (end : ℕ) → end ≡ s.at + s.len → first_fault may (record { at = s.at; len = end - s.at }) ≡ first_fault may s
+fault_from_start may s end e = ap (λ n. first_fault may (record { at = s.at; len = n })) (omega arith)

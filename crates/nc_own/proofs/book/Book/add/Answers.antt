@@ -1,0 +1,9 @@
+use Rattle.nc_model.proofs.GrantLaws.{grants-push}
+use Rattle.nc_own.proofs.Views.{shown_can}
+use Rattle.nc_own.proofs.book.Book.add.Goals as goal
+
+pub invariant_of-self : goal.invariant_of-self
+invariant_of-self c = record {
+  size = c.self.invariant.size;
+  apart = rw c.push_reserved.ensures.items (grants-push _ _ _ c.self.invariant.apart (shown_can _ _ _ _ _ _ c.self.view_is c.requires.can));
+}

@@ -1,0 +1,284 @@
+//! The book.
+
+ghost use Rattle.std.specs.Prelude.{◌≡◌, ◌+◌, ◌^◌, ◌<◌, ◌≤◌, true, [], ◌∷◌, ◌++◌, length, replicate, Option, Some, None, IfOk, IfErr, IfSome, OnOk};
+ghost use Rattle.std.specs.List.{find};
+ghost use Rattle.std.specs.Option.{option_map};
+ghost use Rattle.nc_num.specs.Places.{covers};
+ghost use Rattle.nc_model.specs.Grants.{FitsIn, IsGrants, CanAdd, without};
+ghost use Rattle.nc_model.specs.Rights.{hart_may, synced_may, channel_may, grant_of, has_device, served_by, stands_for, resolve};
+ghost use Rattle.nc_model.specs.Touches.{first_fault, rights_touch, channel_touch, owner_touch};
+ghost use Rattle.nc_model.specs.declared.owners.Owner.TheVariants as owner;
+ghost use Rattle.nc_own.specs.Books.{owner_in, transferred};
+
+use crate::finds::{
+    buffer_place, cpu_may, device_may, grant_for_channel, grant_over, grant_with_id, newest_owner,
+    remove_with_id,
+};
+use nc_model::{Access, Actor, Grant, Owner, Touch, TouchKind};
+use nc_num::{ChanNo, HartNo, MapId, NoMemory, Place, Span};
+use std::alloc::Global;
+use std::marker::Model;
+
+/// Who owns each byte of RAM, and what is granted to the channels.
+///
+/// Contracts see the list of the owners of all places, the list of the grants in order of adding, and `spare`, the
+/// number of changes that there is room for.
+#[derive(Drop)]
+pub struct Book {
+    ram: u32,
+    transfers: Vec<(Span, Owner)>,
+    grants: Vec<Grant>,
+}
+
+impl Model for Book {
+    ghost use Rattle.std.specs.Prelude.{◌-◌, min, reverse, vec_len, vec_capacity};
+    ghost use Rattle.nc_own.specs.Books.{Shown, IsBook, owners_of};
+
+    ghost Value = { Shown };
+
+    ghost view = { λ b. record { owners = owners_of b.ram (reverse b.transfers.items); grants = b.grants.items; spare = min (vec_capacity b.transfers - vec_len b.transfers) (vec_capacity b.grants - vec_len b.grants) } };
+
+    ghost invariant = { λ b. IsBook b.ram b.grants.items };
+}
+
+impl Book {
+    /// A book over so many bytes of RAM: all are the pool's, and nothing is granted.
+    pub fn new(alloc: Global, ram: u32) -> Result<Book, NoMemory>
+        ensures owners { IfOk result (λ b. b.owners ≡ replicate ram owner.Pool) }
+        ensures grants { IfOk result (λ b. b.grants ≡ []) }
+    {
+        Ok(Book {
+            ram,
+            transfers: Vec::new(alloc),
+            grants: Vec::new(alloc),
+        })
+    }
+
+    /// Makes room for n changes. Owners and grants stay, and room that was there stays, whatever the answer.
+    pub fn reserve(&mut self, n: u32) -> Result<(), NoMemory>
+        ensures room { OnOk result (n ≤ self.new.spare) }
+        ensures kept { self.old.spare ≤ self.new.spare }
+        ensures owners { self.new.owners ≡ self.old.owners }
+        ensures grants { self.new.grants ≡ self.old.grants }
+    {
+        self.transfers.reserve(n as usize)?;
+        self.grants.reserve(n as usize)?;
+        Ok(())
+    }
+
+    /// The owner of a place of RAM.
+    pub fn owner(&self, at: Place) -> Owner
+        requires { at.0 < length self.now.owners }
+        ensures { result ≡ owner_in self.now.owners at.0 }
+    {
+        newest_owner(&self.transfers, at.0)
+    }
+
+    /// Gives the bytes of a span another owner. It takes no memory, and one unit of room.
+    pub fn transfer(&mut self, span: Span, owner: Owner)
+        requires room { 1 ≤ self.old.spare }
+        requires some { 0 < span.len }
+        requires inside { span.at + span.len ≤ length self.old.owners }
+        ensures owners { self.new.owners ≡ transferred self.old.owners span owner }
+        ensures size { length self.new.owners ≡ length self.old.owners }
+        ensures grants { self.new.grants ≡ self.old.grants }
+        ensures room { self.old.spare ≤ self.new.spare + 1 }
+    {
+        self.transfers.push_reserved((span, owner));
+    }
+
+    /// Grants to a channel what a mapping lends it, behind all other grants. It takes no memory, and one unit of room.
+    pub fn add(&mut self, g: Grant)
+        requires room { 1 ≤ self.old.spare }
+        requires can { CanAdd (length self.old.owners) self.old.grants g }
+        ensures owners { self.new.owners ≡ self.old.owners }
+        ensures grants { self.new.grants ≡ self.old.grants ++ g ∷ [] }
+        ensures room { self.old.spare ≤ self.new.spare + 1 }
+    {
+        self.grants.push_reserved(g);
+    }
+
+    /// Takes the grant of a mapping away.
+    pub fn remove(&mut self, id: MapId)
+        ensures owners { self.new.owners ≡ self.old.owners }
+        ensures grants { self.new.grants ≡ without self.old.grants id }
+        ensures room { self.old.spare ≤ self.new.spare }
+    {
+        remove_with_id(&mut self.grants, id);
+    }
+
+    /// The mapping and the place of its buffer for which a channel may use a place: by the channel's own grants alone,
+    /// and None exactly where the place lies in none of their device ranges.
+    pub fn resolve(&self, c: ChanNo, at: Place) -> Option<(MapId, Place)>
+        ensures found { result ≡ resolve self.now.grants c at.0 }
+        ensures in_ram { IfSome result (λ p. p.1.0 < length self.now.owners) }
+        ensures apart { IsGrants (length self.now.owners) self.now.grants }
+    {
+        match self.serving(c, at.0) {
+            None => None,
+            Some(g) => Some((g.id, Place(buffer_place(g, at.0)))),
+        }
+    }
+
+    /// Judges an access by the owner table: Ok where it may use each byte of the span, and else the touch that it is,
+    /// of kind `Load` or `Store` for a hart and `Channel` for a channel. Memory types are not looked at.
+    ///
+    /// A channel uses a byte through a device range of its own grants. The holder is the owner of the first byte at
+    /// fault, and in a channel's transaction of the buffer's byte that it stands for through any grant.
+    pub fn may(&self, who: Actor, access: Access, span: Span) -> Result<(), Touch>
+        requires some { 0 < span.len }
+        requires inside { span.at + span.len ≤ length self.now.owners }
+        ensures ok { OnOk result (owner_touch (owner_in self.now.owners) self.now.grants who access span ≡ None) }
+        ensures err { IfErr result (λ t. owner_touch (owner_in self.now.owners) self.now.grants who access span ≡ Some t) }
+    {
+        let touch = match who {
+            Actor::Hart(h) => self.hart_touch(h, access, span),
+            Actor::Chan(c) => self.channel_touch(c, access, span),
+        };
+        match touch {
+            None => Ok(()),
+            Some(t) => Err(t),
+        }
+    }
+
+    /// The touch that a hart's access is.
+    fn hart_touch(&self, h: HartNo, access: Access, span: Span) -> Option<Touch>
+        requires some { 0 < span.len }
+        requires inside { span.at + span.len ≤ length self.now.owners }
+        ensures { result ≡ rights_touch (owner_in self.now.owners) self.now.grants h access span }
+    {
+        let at = self.hart_fault(h, access, span)?;
+        let kind = match access {
+            Access::Read => TouchKind::Load,
+            Access::Write => TouchKind::Store,
+        };
+        Some(Touch {
+            kind,
+            who: Actor::Hart(h),
+            span,
+            holder: self.owner(at),
+        })
+    }
+
+    /// The touch that a channel's transaction is.
+    fn channel_touch(&self, c: ChanNo, access: Access, span: Span) -> Option<Touch>
+        requires some { 0 < span.len }
+        requires inside { span.at + span.len ≤ length self.now.owners }
+        ensures { result ≡ channel_touch (owner_in self.now.owners) self.now.grants c access span }
+    {
+        let at = self.channel_fault(c, access, span)?;
+        Some(Touch {
+            kind: TouchKind::Channel,
+            who: Actor::Chan(c),
+            span,
+            holder: self.owner(self.stands_for(at)),
+        })
+    }
+
+    /// The first place of a span that the hart may not use.
+    fn hart_fault(&self, h: HartNo, access: Access, span: Span) -> Option<Place>
+        requires { span.at + span.len ≤ length self.now.owners }
+        ensures first { option_map (λ p. p.0) result ≡ first_fault (λ x. hart_may self.now.grants h access (owner_in self.now.owners x)) span }
+        ensures inside { IfSome result (λ p. p.0 < length self.now.owners) }
+    {
+        for x in span.at..self.end_of(span) {
+            if !self.hart_may(h, access, Place(x)) {
+                return Some(Place(x));
+            }
+        }
+        None
+    }
+
+    /// The first place of a span that the channel may not use.
+    fn channel_fault(&self, c: ChanNo, access: Access, span: Span) -> Option<Place>
+        requires { span.at + span.len ≤ length self.now.owners }
+        ensures first { option_map (λ p. p.0) result ≡ first_fault (channel_may (owner_in self.now.owners) self.now.grants c access) span }
+        ensures inside { IfSome result (λ p. p.0 < length self.now.owners) }
+    {
+        for x in span.at..self.end_of(span) {
+            if !self.channel_may(c, access, Place(x)) {
+                return Some(Place(x));
+            }
+        }
+        None
+    }
+
+    /// The place behind a span of RAM.
+    fn end_of(&self, span: Span) -> u32
+        requires { span.at + span.len ≤ length self.now.owners }
+        ensures { result ≡ span.at + span.len }
+    {
+        let _ram = &self.ram;
+        span.at + span.len
+    }
+
+    /// Whether a hart may use a byte.
+    fn hart_may(&self, h: HartNo, access: Access, at: Place) -> bool
+        requires { at.0 < length self.now.owners }
+        ensures { result ≡ hart_may self.now.grants h access (owner_in self.now.owners at.0) }
+    {
+        match self.owner(at) {
+            Owner::Thread(g) => g == h,
+            Owner::Synced(m) => m.hart == h && self.synced_may(access, m),
+            _ => false,
+        }
+    }
+
+    /// Whether the hart of a mapping that is synced for the CPU may use its bytes so.
+    fn synced_may(&self, access: Access, m: MapId) -> bool
+        ensures { result ≡ synced_may access (grant_of self.now.grants m) }
+    {
+        match grant_with_id(&self.grants, m) {
+            None => false,
+            Some(g) => cpu_may(access, g.dir),
+        }
+    }
+
+    /// Whether a channel may use a place.
+    fn channel_may(&self, c: ChanNo, access: Access, at: Place) -> bool
+        ensures { result ≡ channel_may (owner_in self.now.owners) self.now.grants c access at.0 }
+    {
+        match self.serving(c, at.0) {
+            None => false,
+            Some(g) => match self.owner(Place(buffer_place(g, at.0))) {
+                Owner::Device(m) => m == g.id && device_may(access, g.dir),
+                _ => false,
+            },
+        }
+    }
+
+    /// The grant through which a channel uses a place.
+    fn serving(&self, c: ChanNo, at: u32) -> Option<Grant>
+        ensures found { result ≡ served_by self.now.grants c at }
+        ensures fits { IfSome result (FitsIn (length self.now.owners)) }
+        ensures covers { IfSome result (λ g. covers g.device at ≡ true) }
+        ensures size { length self.now.owners < 2 ^ 32 }
+        ensures apart { IsGrants (length self.now.owners) self.now.grants }
+    {
+        let _ram = &self.ram;
+        grant_for_channel(&self.grants, c, at)
+    }
+
+    /// The place that a place stands for in a transaction.
+    fn stands_for(&self, at: Place) -> Place
+        requires { at.0 < length self.now.owners }
+        ensures place { result.0 ≡ stands_for self.now.grants at.0 }
+        ensures inside { result.0 < length self.now.owners }
+    {
+        match self.granted(at.0) {
+            None => at,
+            Some(g) => Place(buffer_place(g, at.0)),
+        }
+    }
+
+    /// The grant whose device range has a place.
+    fn granted(&self, at: u32) -> Option<Grant>
+        ensures found { result ≡ find (has_device at) self.now.grants }
+        ensures fits { IfSome result (FitsIn (length self.now.owners)) }
+        ensures covers { IfSome result (λ g. covers g.device at ≡ true) }
+        ensures size { length self.now.owners < 2 ^ 32 }
+    {
+        let _ram = &self.ram;
+        grant_over(&self.grants, at)
+    }
+}
