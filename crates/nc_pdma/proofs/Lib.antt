@@ -1,0 +1,4 @@
+pub mod Sound
+pub mod Claim
+pub mod Transactions
+pub mod Told

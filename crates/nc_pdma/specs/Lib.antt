@@ -1,0 +1,4 @@
+pub mod Bus
+pub mod Channel
+pub mod Steps
+pub mod Laws
