@@ -1,23 +1,25 @@
 -- The laws, as statements.
-use Rattle.std.specs.Prelude.{ℕ, ◌≡◌, ◌↔◌, ◌+◌, ◌<◌, ◌≤◌, Bool, true, false, ◌==◌, List, [], ◌∷◌, ◌++◌, length, Option, Some, None, if◌then◌else◌}
+use Rattle.std.specs.Prelude.{ℕ, ◌≡◌, ◌⊎◌, ◌↔◌, ◌+◌, ◌<◌, ◌≤◌, Bool, true, false, ◌==◌, List, [], ◌∷◌, ◌++◌, length, Option, Some, None, if◌then◌else◌}
 use Rattle.std.specs.List.{list_any, find}
 use Rattle.nc_num.specs.Memory.{byte, splice, span}
 use Rattle.nc_num.specs.Places.{covers}
 use Rattle.nc_num.specs.declared.names.ChanNo.{ChanNo}
 use Rattle.nc_num.specs.declared.names.HartNo.{HartNo}
 use Rattle.nc_num.specs.declared.names.MapId.{MapId}
+use Rattle.nc_num.specs.declared.names.MemType.{MemType}
 use Rattle.nc_num.specs.declared.places.Place.{Place}
 use Rattle.nc_num.specs.declared.places.Span.{Span}
 use Rattle.nc_model.specs.Flat.{named, written, flat, Shows, Mark, Touched, Untouched, Latest, ShowsFlat, deeds}
 use Rattle.nc_model.specs.Grants.{IsGrants, CanAdd, without}
 use Rattle.nc_model.specs.Owners.{owner_at, covered}
-use Rattle.nc_model.specs.Rights.{hart_may, is_device, has_device, grant_of, buffer_place, serves, served_by, resolve, stands_for}
-use Rattle.nc_model.specs.Touches.{first_fault}
+use Rattle.nc_model.specs.Rights.{hart_may, synced_may, is_device, device_may, has_device, grant_of, buffer_place, serves, served_by, resolve, stands_for}
+use Rattle.nc_model.specs.Touches.{first_fault, rights_touch, alias_touch, channel_touch, is_its_type}
 use Rattle.nc_model.specs.declared.deeds.Deed.{Deed}
 use Rattle.nc_model.specs.declared.deeds.Deed.TheVariants.{Read, Write}
 use Rattle.nc_model.specs.declared.owners.Access.{Access}
 use Rattle.nc_model.specs.declared.owners.Grant.{Grant}
 use Rattle.nc_model.specs.declared.owners.Owner.{Owner}
+use Rattle.nc_model.specs.declared.owners.Owner.TheVariants.{Thread, Synced}
 
 -- the newest transfer that covers a place wins
 pub record NewestWins (t : Span × Owner) (ts : List (Span × Owner)) (x : ℕ) : Type 0 where
@@ -46,6 +48,27 @@ IsFault may s (Some x) = (covers s x ≡ true) × (may x ≡ false) × ((y : ℕ
 
 abbrev pub EachIsFault : Type 0
 EachIsFault = (may : ℕ → Bool) (s : Span) → IsFault may s (first_fault may s)
+
+-- an owner whose bytes a hart may use: its own thread, or a mapping of its own that is synced for it and allows it
+abbrev pub HartUses : List Grant → HartNo → Access → Owner → Type 0
+HartUses grants h access owner =
+    (owner ≡ Thread h) ⊎ ((m : MapId) × (owner ≡ Synced m) × (m.hart.0 ≡ h.0) × (synced_may access (grant_of grants m) ≡ true))
+
+-- a place that a channel may use: a grant of its own serves it, whose mapping owns the byte, and which allows it
+pub record ChannelUses (owners : ℕ → Owner) (grants : List Grant) (c : ChanNo) (access : Access) (x : ℕ) : Type 0 where
+  pub grant : Grant
+  pub serves : served_by grants c x ≡ Some grant
+  pub owner : is_device grant.id (owners (buffer_place grant x)) ≡ true
+  pub allows : device_may access grant.dir ≡ true
+
+-- where an access is no touch, each of its bytes may be used so
+pub record IsAllowed (owners : ℕ → Owner) (grants : List Grant) : Type 0 where
+  pub hart : (h : HartNo) (access : Access) (s : Span) → rights_touch owners grants h access s ≡ None → (x : ℕ) → covers s x ≡ true → HartUses grants h access (owners x)
+  pub type : (pool : Span) (h : HartNo) (s : Span) (type : MemType) → alias_touch owners pool h s type ≡ None → (x : ℕ) → covers s x ≡ true → is_its_type pool type x ≡ true
+  pub channel : (c : ChanNo) (access : Access) (s : Span) → channel_touch owners grants c access s ≡ None → (x : ℕ) → covers s x ≡ true → ChannelUses owners grants c access x
+
+abbrev pub EachIsAllowed : Type 0
+EachIsAllowed = (owners : ℕ → Owner) (grants : List Grant) → IsAllowed owners grants
 
 -- a place is resolved exactly where it lies in a device range of the channel
 abbrev pub IsResolved : Type 0

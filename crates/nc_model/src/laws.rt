@@ -1,6 +1,6 @@
 //! The laws of the definitions, each a function that does nothing.
 
-ghost use Rattle.nc_model.specs.Laws.{EachNewestWins, LaterWin, EachOneMay, EachIsFault, IsResolved, EachOneGrant, EachStayApart, FlatInOrder, OthersStay, EachSpliced, LatestByNumber, LatestInTwo, EndsAtTouch};
+ghost use Rattle.nc_model.specs.Laws.{EachNewestWins, LaterWin, EachOneMay, EachIsFault, EachIsAllowed, IsResolved, EachOneGrant, EachStayApart, FlatInOrder, OthersStay, EachSpliced, LatestByNumber, LatestInTwo, EndsAtTouch};
 
 /// The owner of a place is that of the newest transfer that covers it.
 #[tactic(auto, using(crate::proofs::OwnerLaws::newest_wins))]
@@ -24,6 +24,13 @@ pub fn one_may()
 #[tactic(auto, using(crate::proofs::Faults::is_fault))]
 pub fn first_fault_is_first()
     ensures { EachIsFault }
+{}
+
+/// Where an access is no touch, each of its bytes may be used so: a hart's bytes are its own, or those of a mapping of
+/// its own that is synced for it; a channel's are served by a grant of its own, whose mapping owns them.
+#[tactic(auto, using(crate::proofs::TouchLaws::is_allowed))]
+pub fn no_touch_is_allowed()
+    ensures { EachIsAllowed }
 {}
 
 /// A place resolves to no mapping exactly where it lies in no device range of the channel.

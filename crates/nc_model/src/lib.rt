@@ -14,8 +14,8 @@ mod touches;
 pub use deeds::{Deed, NamedBytes};
 pub use laws::{
     append_is_in_order, first_fault_is_first, grants_stay_apart, later_is_after, latest_in_two,
-    newest_transfer_wins, one_grant_serves, one_may, other_bytes_stay, piece_is_spliced,
-    reads_by_number, touch_ends, unresolved_exactly_outside,
+    newest_transfer_wins, no_touch_is_allowed, one_grant_serves, one_may, other_bytes_stay,
+    piece_is_spliced, reads_by_number, touch_ends, unresolved_exactly_outside,
 };
 pub use owners::{Access, Actor, Grant, Owner};
 pub use touches::{Touch, TouchKind};

@@ -2,8 +2,8 @@
 
 use crate::{
     NamedBytes, append_is_in_order, first_fault_is_first, grants_stay_apart, later_is_after,
-    latest_in_two, newest_transfer_wins, one_grant_serves, one_may, other_bytes_stay,
-    piece_is_spliced, reads_by_number, touch_ends, unresolved_exactly_outside,
+    latest_in_two, newest_transfer_wins, no_touch_is_allowed, one_grant_serves, one_may,
+    other_bytes_stay, piece_is_spliced, reads_by_number, touch_ends, unresolved_exactly_outside,
 };
 use nc_num::Place;
 use std::test::Fail;
@@ -20,6 +20,7 @@ fn bytes_keep_their_names(rt: HostRuntime) -> Result<(), Fail> {
 fn laws_are_called() {
     newest_transfer_wins();
     later_is_after();
+    no_touch_is_allowed();
     grants_stay_apart();
     one_grant_serves();
     latest_in_two();
