@@ -1,0 +1,14 @@
+//! Scatter lists (Linux DMA API: `dma_map_sg`): which entries bounce, which slots they hold, the parts that are lent,
+//! and the segments that the channel sees.
+//!
+//! The contract for the crates above: a list has all of its slots or gives all of them back, and its segments are the
+//! device ranges of its entries, in order, where neighbouring direct entries are one. The driver stands above.
+#![tactic(auto)]
+
+mod list;
+
+pub use list::{SgList, segments_keep_the_bytes};
+pub use nc_plan::Segment;
+
+#[cfg(test)]
+mod tests;

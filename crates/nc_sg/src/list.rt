@@ -1,0 +1,318 @@
+//! A scatter list while it is mapped.
+
+ghost use Rattle.std.specs.Prelude.{◌≡◌, ◌+◌, ◌*◌, ◌<◌, ◌≤◌, ◌^◌, ◌++◌, [], ◌∷◌, IfOk, OnOk, OnErr, IfSome, IsSome, ℕ, All, map, length, true, is_some};
+ghost use Rattle.std.specs.Option.{ForSome};
+ghost use Rattle.nc_num.specs.Sizes.{IsBlockSize};
+ghost use Rattle.std.specs.Prelude.{List};
+ghost use Rattle.nc_sg.specs.declared.list.Entry.{Entry};
+ghost use Rattle.nc_sg.specs.Lists.{device, IsRange, IsEntry, fresh, list_of, waits, next_waiting, give_slot, segments_from, held, forgotten, part_of, segment_of, joins, run_on, segments, SegmentsKeepTheBytes};
+
+use nc_num::{Dir, NoMemory, Span};
+use nc_plan::{Part, Segment, bounces};
+use std::alloc::Global;
+use std::marker::Model;
+
+/// The bytes of a bounce slot.
+const SLOT: u32 = 2048;
+
+/// Where RAM starts on the bus.
+const BUS: u32 = 0x8000_0000;
+
+/// One entry of a list.
+#[derive(Clone, Copy, Debug, PartialEq, Eq)]
+pub struct Entry {
+    /// Its range of RAM.
+    pub span: Span,
+    /// Whether it bounces.
+    pub bounced: bool,
+    /// The slot that it holds.
+    pub slot: Option<u32>,
+}
+
+/// A segment that may go on, and its last entry.
+#[derive(Clone, Copy, Debug, PartialEq, Eq)]
+struct Run {
+    segment: Segment,
+    last: Entry,
+}
+
+/// A scatter list. Contracts see its direction and its entries, each with its range, whether it bounces, and the slot
+/// that it holds.
+#[derive(Drop)]
+pub struct SgList {
+    dir: Dir,
+    entries: Vec<Entry>,
+}
+
+impl Model for SgList {
+    ghost use Rattle.std.specs.Prelude.{◌≤◌, length, All};
+    ghost use Rattle.nc_sg.specs.Lists.{SgView, IsEntry};
+
+    ghost Value = { SgView };
+
+    ghost view = { λ l. record { dir = l.dir; entries = l.entries.items } };
+
+    ghost invariant = { λ l. (length l.entries.items ≤ 16) × All IsEntry l.entries.items };
+}
+
+impl SgList {
+    /// A list of at most 16 ranges, none of which is empty, each ending at 1,048,576 at most. No entry has a slot yet.
+    pub fn new(
+        alloc: Global,
+        spans: &[Span],
+        dir: Dir,
+        block_size: u32,
+        reach: u32,
+    ) -> Result<SgList, NoMemory>
+        requires size { IsBlockSize block_size }
+        requires few { length spans.now ≤ 16 }
+        requires ranges { All IsRange spans.now }
+        ensures { IfOk result (λ l. l ≡ list_of dir block_size reach spans.now) }
+    {
+        let entries = fresh_entries(alloc, spans, dir, block_size, reach)?;
+        Ok(SgList { dir, entries })
+    }
+
+    /// The number of the first entry that bounces and has no slot, None exactly where there is none.
+    pub fn next_bounced(&self) -> Option<u8>
+        ensures { result ≡ next_waiting self.now.entries }
+    {
+        match first_waiting(&self.entries) {
+            Some(i) => Some(i as u8),
+            None => None,
+        }
+    }
+
+    /// Gives a slot to the first entry that bounces and has none.
+    pub fn got(&mut self, slot: u32)
+        requires slot { slot < 64 }
+        requires waits { IsSome (next_waiting self.old.entries) }
+        ensures { self.new ≡ record self.old { entries = give_slot slot self.old.entries } }
+    {
+        give(&mut self.entries, slot);
+    }
+
+    /// The slots that the list holds, in order of its entries; it holds none afterwards.
+    pub fn unwind(&mut self) -> Result<Vec<u32>, NoMemory>
+        ensures slots { IfOk result (λ slots. slots.items ≡ held self.old.entries) }
+        ensures forgets { OnOk result (self.new ≡ record self.old { entries = map forgotten self.old.entries }) }
+        ensures stays { OnErr result (self.new ≡ self.old) }
+    {
+        let slots = held_slots(*self.entries.allocator(), &self.entries)?;
+        forget(&mut self.entries);
+        Ok(slots)
+    }
+
+    /// The parts that are lent, in order. Each entry that bounces has its slot; the slots start at the place `slots_at`,
+    /// which is at most 1,048,576.
+    pub fn parts(&self, alloc: Global, slots_at: u32) -> Result<Vec<Part>, NoMemory>
+        requires slots { slots_at ≤ 1048576 }
+        requires all { next_waiting self.now.entries ≡ None }
+        ensures { IfOk result (λ parts. parts.items ≡ map (part_of self.now.dir slots_at) self.now.entries) }
+    {
+        parts_of(alloc, self.dir, slots_at, &self.entries)
+    }
+
+    /// The segments that the channel sees, in order: the device ranges of the entries, by their places on the bus, where
+    /// neighbours are one exactly where both are direct and the first ends where the next starts. Each entry that
+    /// bounces has its slot.
+    pub fn segments(&self, alloc: Global, slots_at: u32) -> Result<Vec<Segment>, NoMemory>
+        requires slots { slots_at ≤ 1048576 }
+        requires all { next_waiting self.now.entries ≡ None }
+        ensures { IfOk result (λ ss. ss.items ≡ segments slots_at self.now.entries) }
+    {
+        segments_of(alloc, slots_at, &self.entries)
+    }
+}
+
+/// The entries as a list begins.
+fn fresh_entries(
+    alloc: Global,
+    spans: &[Span],
+    dir: Dir,
+    block_size: u32,
+    reach: u32,
+) -> Result<Vec<Entry>, NoMemory>
+    requires size { IsBlockSize block_size }
+    requires ranges { All IsRange spans.now }
+    ensures { IfOk result (λ es. es.items ≡ map (fresh dir block_size reach) spans.now) }
+{
+    let mut entries = Vec::with_capacity(alloc, spans.len())?;
+    for span in spans {
+        entries.push(Entry {
+            span: *span,
+            bounced: bounces(*span, dir, block_size, reach),
+            slot: None,
+        })?;
+    }
+    Ok(entries)
+}
+
+/// The place of the first entry that bounces and has no slot.
+fn first_waiting(entries: &[Entry]) -> Option<usize>
+    ensures first { result ≡ next_waiting entries.now }
+    ensures within { IfSome result (λ i. i < length entries.now) }
+{
+    entries.iter().position(|e| e.bounced && e.slot.is_none())
+}
+
+/// The first entry that waits for a slot gets this one.
+fn give(entries: &mut Vec<Entry>, slot: u32)
+    requires { IsSome (next_waiting entries.old.items) }
+    ensures { entries.new.items ≡ give_slot slot entries.old.items }
+{
+    if let Some(i) = first_waiting(entries) {
+        entries[i].slot = Some(slot);
+    }
+}
+
+/// The slots that entries hold, in order.
+fn held_slots(alloc: Global, entries: &[Entry]) -> Result<Vec<u32>, NoMemory>
+    ensures { IfOk result (λ slots. slots.items ≡ held entries.now) }
+{
+    let mut slots = Vec::new(alloc);
+    for entry in entries {
+        if let Some(slot) = entry.slot {
+            slots.push(slot)?;
+        }
+    }
+    Ok(slots)
+}
+
+/// No entry holds a slot any more.
+fn forget(entries: &mut Vec<Entry>)
+    ensures { entries.new.items ≡ map forgotten entries.old.items }
+{
+    for i in 0..entries.len() {
+        entries[i].slot = None;
+    }
+}
+
+/// The range by which the channel sees an entry.
+fn device(slots_at: u32, entry: &Entry) -> Span
+    requires slots { slots_at ≤ 1048576 }
+    requires entry { IsEntry entry.now }
+    ensures value { result ≡ device slots_at entry.now }
+    ensures ends { result.at + result.len < 2 ^ 22 }
+{
+    let span = entry.span;
+    if entry.bounced {
+        Span {
+            at: slots_at + SLOT * entry.slot.unwrap_or(0) + span.at % 8,
+            len: span.len,
+        }
+    } else {
+        span
+    }
+}
+
+fn part_of(dir: Dir, slots_at: u32, entry: &Entry) -> Part
+    requires slots { slots_at ≤ 1048576 }
+    requires entry { IsEntry entry.now }
+    ensures { result ≡ part_of dir slots_at entry.now }
+{
+    Part {
+        buffer: entry.span,
+        device: device(slots_at, entry),
+        dir,
+    }
+}
+
+fn segment_of(slots_at: u32, entry: &Entry) -> Segment
+    requires slots { slots_at ≤ 1048576 }
+    requires entry { IsEntry entry.now }
+    ensures { result ≡ segment_of slots_at entry.now }
+{
+    let Span { at, len } = device(slots_at, entry);
+    Segment { bus: BUS + at, len }
+}
+
+fn joins(entry: &Entry, next: &Entry) -> bool
+    requires { IsEntry entry.now }
+    ensures { result ≡ joins entry.now next.now }
+{
+    !entry.bounced && !next.bounced && entry.span.at + entry.span.len == next.span.at
+}
+
+fn parts_of(
+    alloc: Global,
+    dir: Dir,
+    slots_at: u32,
+    entries: &[Entry],
+) -> Result<Vec<Part>, NoMemory>
+    requires slots { slots_at ≤ 1048576 }
+    requires entries { All IsEntry entries.now }
+    ensures { IfOk result (λ parts. parts.items ≡ map (part_of dir slots_at) entries.now) }
+{
+    let mut parts = Vec::new(alloc);
+    for entry in entries {
+        parts.push(part_of(dir, slots_at, entry))?;
+    }
+    Ok(parts)
+}
+
+fn segments_of(alloc: Global, slots_at: u32, entries: &[Entry]) -> Result<Vec<Segment>, NoMemory>
+    requires slots { slots_at ≤ 1048576 }
+    requires few { length entries.now ≤ 16 }
+    requires entries { All IsEntry entries.now }
+    ensures { IfOk result (λ ss. ss.items ≡ segments slots_at entries.now) }
+{
+    let mut done = Vec::new(alloc);
+    let mut run = None;
+    for entry in entries {
+        run = Some(go_on(&mut done, slots_at, run, entry)?);
+    }
+    if let Some(last) = run {
+        done.push(last.segment)?;
+    }
+    Ok(done)
+}
+
+/// The run after one entry more: the entry joins it, or it is done and the entry begins one.
+fn go_on(
+    done: &mut Vec<Segment>,
+    slots_at: u32,
+    run: Option<Run>,
+    entry: &Entry,
+) -> Result<Run, NoMemory>
+    requires slots { slots_at ≤ 1048576 }
+    requires room { ForSome run (λ r. r.segment.len ≤ 16777216) }
+    requires last { ForSome run (λ r. IsEntry r.last) }
+    requires entry { IsEntry entry.now }
+    ensures all { IfOk result (λ r. (es : List Entry) → done.new.items ++ run_on slots_at r.segment r.last es ≡ done.old.items ++ segments_from slots_at run (entry.now ∷ es)) }
+    ensures len { IfOk result (λ r. (m : ℕ) → ForSome run (λ q. q.segment.len ≤ m) → r.segment.len ≤ m + 1048576) }
+    ensures last { IfOk result (λ r. r.last ≡ entry.now) }
+{
+    match run {
+        Some(run) if joins(&run.last, entry) => Ok(Run {
+            segment: Segment {
+                bus: run.segment.bus,
+                len: run.segment.len + entry.span.len,
+            },
+            last: *entry,
+        }),
+        Some(run) => {
+            done.push(run.segment)?;
+            Ok(begun(slots_at, entry))
+        }
+        None => Ok(begun(slots_at, entry)),
+    }
+}
+
+/// The run that an entry begins.
+fn begun(slots_at: u32, entry: &Entry) -> Run
+    requires slots { slots_at ≤ 1048576 }
+    requires entry { IsEntry entry.now }
+    ensures value { result ≡ record { segment = segment_of slots_at entry.now; last = entry.now } }
+    ensures len { result.segment.len ≤ 1048576 }
+{
+    Run {
+        segment: segment_of(slots_at, entry),
+        last: *entry,
+    }
+}
+
+/// The bytes of the segments, one after another, are those of the entries' device ranges.
+pub fn segments_keep_the_bytes()
+    ensures { SegmentsKeepTheBytes }
+{}
