@@ -1,0 +1,10 @@
+use Rattle.std.proofs.Common.{◌≡◌, drop, length, All}
+use Rattle.serde_json.specs.View.{items_view}
+use Rattle.nc_scen.specs.Outcomes.{each}
+use Rattle.nc_scen.specs.Parts.{op_at}
+use Rattle.nc_scen.specs.Accepted.{FitsOp}
+use Rattle.nc_scen.proofs.Loops.{with_front}
+use Rattle.nc_scen.proofs.harts.read_ops.Given as goal
+
+abbrev pub invariant-loop-i : goal.invariant-loop-i
+invariant-loop-i l = (with_front (op_at l.room l.script) l.ops.items (each (op_at l.room l.script) l.i (items_view (drop l.i l.items))) ≡ each (op_at l.room l.script) 0 (items_view l.items)) × All (FitsOp l.room.harts l.room.buffers) l.ops.items × (length l.ops.items ≡ l.i)

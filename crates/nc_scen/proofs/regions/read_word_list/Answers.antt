@@ -1,0 +1,18 @@
+use Rattle.std.proofs.lemmas.Result.{err_from_is_err_and}
+use Rattle.std.proofs.lemmas.List.Elements.{All-push}
+use Rattle.nc_scen.specs.Parts.{word_at}
+use Rattle.nc_pte.specs.Words.{IsPteWord}
+use Rattle.nc_scen.proofs.Loops.{goes_on, fails, is_done, length_push}
+use Rattle.nc_scen.proofs.regions.read_word_list.Goals as goal
+
+pub returns-in_err-next-clause-gives : goal.returns-in_err-next-clause-gives
+returns-in_err-next-clause-gives c =
+    let p = err_from_is_err_and c.from_residual.result c.from_residual.ensures.1 in
+    rw (p.1, p.2) (fails (word_at c.args.ram) c.in_err-next.field-0.0 c.loop-i.words.items c.args.items.now c.loop-i.i c.index-items-i.result _ c.loop-i-test.true c.index-items-i.is c.in_err-next.ensures.gives c.loop-i.invariant.0)
+
+pub loop-i-preserved : goal.loop-i-preserved
+loop-i-preserved c =
+    rw c.in_ok-push.ensures.items (goes_on (word_at c.args.ram) c.loop-i.words.items c.args.items.now c.loop-i.i c.index-items-i.result c.in_ok-next.next _ c.loop-i-test.true c.index-items-i.is c.in_ok-next.ensures.gives c.loop-i.invariant.0, All-push (IsPteWord c.args.ram) c.loop-i.words.items c.in_ok-next.next c.loop-i.invariant.1 c.in_ok-next.ensures.valid, length_push c.loop-i.words.items c.in_ok-next.next c.loop-i.i c.loop-i.invariant.2)
+
+pub returns-clause-gives : goal.returns-clause-gives
+returns-clause-gives c = is_done (word_at c.args.ram) c.loop-i.words.items c.args.items.now c.loop-i.i _ c.loop-i-test.false c.loop-i.invariant.0

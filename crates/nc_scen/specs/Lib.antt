@@ -1,0 +1,12 @@
+pub mod Events
+pub mod Regions
+pub mod Accepted
+pub mod Paths
+pub mod Outcomes
+pub mod Json
+pub mod Values
+pub mod Texts
+pub mod Operations
+pub mod Parts
+pub mod Reading
+pub mod Fits

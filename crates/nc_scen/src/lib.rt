@@ -1,0 +1,36 @@
+//! The scenario: what a run of the machine is told, as one JSON value, and the reading of it.
+//!
+//! The contract for the crates above: `read` gives a scenario or its first refusal, for every byte string, and what
+//! it gives is accepted (`specs/Accepted.antt`): all that the machine, the driver and the schedule take for granted
+//! of a scenario. All of it is this project's own.
+#![tactic(auto)]
+
+mod arguments;
+mod events;
+mod fields;
+mod format;
+mod harts;
+mod json;
+mod keys;
+mod operations;
+mod ops;
+mod overlap;
+mod reading;
+mod refused;
+mod regions;
+mod scenario;
+mod schedule;
+mod texts;
+mod tokens;
+mod values;
+mod wrong;
+
+pub use events::Event;
+pub use ops::{BusArg, HexBytes, Op, Ops, SgEntries, SgEntry, Spot};
+pub use reading::read;
+pub use refused::{Path, Refused, ScenFault};
+
+#[cfg(test)]
+mod tests;
+
+pub use scenario::{BufferSpec, BufferSpecs, Events, HartSpec, HartSpecs, Plan, Scenario, Words};
