@@ -1,0 +1,4 @@
+pub mod Rows
+pub mod Messages
+pub mod Invariant
+pub mod Laws

@@ -1,0 +1,11 @@
+//! Flat memory: what the drivers of scripts see of a memory behind caches, store queues and channels.
+//!
+//! The crate has no code. It proves, over the definitions of the written machine, that whatever events happen in
+//! whatever order, each load and each channel read before the first touch shows the byte that was last written to its
+//! place, and that memory below the queues has the same byte wherever no queue holds a newer one. The contract for the
+//! layers above: `latest_law` and `kept_law`.
+#![tactic(auto)]
+
+mod laws;
+
+pub use laws::{events_keep_flat, kept_law, latest_law, runs_keep_flat, start_is_flat};

@@ -1,0 +1,44 @@
+-- Which events may happen. This project's own.
+use Rattle.std.specs.Prelude.{ℕ, ◌^◌, ◌&&◌, not, nat_le, Bool, true, false, is_some}
+use Rattle.nc_num.specs.declared.names.HartNo.{HartNo}
+use Rattle.nc_cache.specs.Cache.{line_at, held_by}
+use Rattle.nc_pdma.specs.declared.channel.ChanStep.{ChanStep}
+use Rattle.nc_pdma.specs.declared.channel.ChanStep.TheVariants.{Idle, Moved, Error}
+use Rattle.nc_scen.specs.declared.events.Event.{Event}
+use Rattle.nc_scen.specs.declared.events.Event.TheVariants as events
+use Rattle.nc_rules.specs.declared.steps.Next.{Next}
+use Rattle.nc_rules.specs.declared.steps.Next.TheVariants as nexts
+use Rattle.nc_rules.specs.Calls.{may_issue, io_waits, may_take, control_of, leaving, may_fill, chan_read_told, chan_write_told}
+use Rattle.nc_rules.specs.Driver.{next_of, searching}
+use Rattle.nc_rules.specs.World.{WorldState, driver_of}
+
+-- bit 30 or bit 31 of Control is set: done or error
+abbrev pub is_over : ℕ → Bool
+is_over control = nat_le (2 ^ 30) control
+
+-- a driver's next step may be made: an operation that its hart may issue; a claim, a poll and a take wait until no
+-- entry of class O is queued, a poll until the transfer is over, and a take until the buffer's message is there
+abbrev pub may_go_on : WorldState → HartNo → Next → Bool
+may_go_on w h nexts.End = false
+may_go_on w h nexts.Start = true
+may_go_on w h (nexts.Search k) = false
+may_go_on w h (nexts.Op op) = may_issue w.machine h.0 op
+may_go_on w h (nexts.Claim chan) = not (io_waits w.machine h.0)
+may_go_on w h (nexts.Poll chan) = not (io_waits w.machine h.0) && is_over (control_of w.machine chan.0)
+may_go_on w h (nexts.Take buf) = not (io_waits w.machine h.0) && may_take w.machine h.0 buf
+
+abbrev pub is_idle_step : ChanStep → Bool
+is_idle_step Idle = true
+is_idle_step (Moved span bytes done) = false
+is_idle_step (Error bus len) = false
+
+-- an event that may happen: any other changes nothing, and is skipped
+unfoldable pub enabled : WorldState → Event → Bool
+enabled w (events.Issue h) = may_go_on w h (next_of (driver_of w h.0))
+enabled w (events.Try h) = is_some (searching (driver_of w h.0))
+enabled w (events.Told h got) = is_some (searching (driver_of w h.0))
+enabled w (events.Drain h i) = is_some (leaving w.machine h.0 i)
+enabled w (events.Fill h b) = may_fill w.machine h.0 b.0
+enabled w (events.Evict h b) = held_by (line_at w.machine.cache b.0) h.0
+enabled w (events.ChanRead chan) = not (is_idle_step (chan_read_told w.machine chan.0))
+enabled w (events.ChanWrite chan) = not (is_idle_step (chan_write_told w.machine chan.0))

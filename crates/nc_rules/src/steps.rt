@@ -1,0 +1,91 @@
+//! The steps of a driver: what it does next, what it saw, and what a step leaves to do.
+
+use nc_num::{ChanNo, HartNo, Span};
+use nc_plan::HartOp;
+
+/// What a driver does next.
+#[derive(Clone, Copy, Debug, PartialEq, Eq)]
+pub enum Next {
+    /// Nothing: its script is at its end.
+    End,
+    /// A step without an operation of the hart: a start step, or a refusal.
+    Start,
+    /// It tries this slot word.
+    Search(u32),
+    /// It has its hart issue an operation.
+    Op(HartOp),
+    /// It claims a channel.
+    Claim(ChanNo),
+    /// It reads a channel's Control once done or error is set.
+    Poll(ChanNo),
+    /// It takes the message of a buffer's box.
+    Take(u8),
+}
+
+/// What a step saw.
+#[derive(Clone, Copy, Debug, PartialEq, Eq)]
+pub enum Seen {
+    /// Nothing.
+    Nothing,
+    /// A value of Control, by a poll.
+    Control(u32),
+    /// The channel was claimed.
+    Claimed,
+    /// The channel is granted to this hart.
+    Busy(HartNo),
+    /// What a register holds.
+    Value(u64),
+}
+
+/// What a step does to the pages of the coherent pool.
+#[derive(Clone, Copy, Debug, PartialEq, Eq)]
+pub enum PageMove {
+    /// Nothing.
+    Stay,
+    /// These pages are taken.
+    Take(Span),
+    /// These pages are given back.
+    Give(Span),
+}
+
+/// What a step of a plan does.
+#[derive(Clone, Copy, Debug, PartialEq, Eq)]
+pub enum Act {
+    /// An operation of the hart.
+    Op(HartOp),
+    /// The claim of a channel.
+    Claim(ChanNo),
+    /// A poll of a channel.
+    Poll(ChanNo),
+    /// A take of a buffer's message.
+    Take(u8),
+}
+
+/// What a step does to owners.
+#[derive(Clone, Copy, Debug, PartialEq, Eq)]
+pub enum Turn {
+    /// Nothing.
+    Stay,
+    /// A range is being passed to a hart.
+    Pass(Span, HartNo),
+    /// A range is the hart's own.
+    Own(Span),
+}
+
+/// A step of a plan, and what it does to owners.
+#[derive(Clone, Copy, Debug, PartialEq, Eq)]
+pub struct Step {
+    /// What it does.
+    pub act: Act,
+    /// The change of owners that comes with it.
+    pub turn: Turn,
+}
+
+/// Where the operation in hand stands.
+#[derive(Clone, Copy, Debug, PartialEq, Eq)]
+pub enum Phase {
+    /// So many of its steps are done; an operation begins at 0.
+    Steps(u32),
+    /// It has a plan, of which a rest is left.
+    Work,
+}
