@@ -1,0 +1,14 @@
+-- Looks at the rest of a plan and at a step.
+use Rattle.std.specs.Prelude.{Bool, true, false, List, [], ◌∷◌, Option, Some, None, Result, Ok, Err}
+use Rattle.nc_rules.specs.declared.answers.Refusal.{Refusal}
+use Rattle.nc_rules.specs.declared.steps.Step.{Step}
+
+abbrev pub is_nil : List Step → Bool
+is_nil [] = true
+is_nil (s ∷ rest) = false
+
+-- there is such a step, be it refused
+abbrev pub is_more : Result (Option Step) Refusal → Bool
+is_more (Err r) = true
+is_more (Ok (Some s)) = true
+is_more (Ok None) = false

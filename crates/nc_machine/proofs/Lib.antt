@@ -1,0 +1,6 @@
+pub mod Starts
+pub mod Claims
+pub mod Loads
+pub mod Keeps
+pub mod Fences
+pub mod Benches

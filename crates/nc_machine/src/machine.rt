@@ -1,0 +1,569 @@
+//! The machine, and its calls.
+
+ghost use Rattle.std.specs.Prelude.{◌≡◌, ◌≤◌, ◌<◌, ◌+◌, ◌%◌, length, map, IfOk, IfNone, IfSome, IsTrue, Some, OnOk, OnErr};
+ghost use Rattle.std.specs.List.{range_with_len};
+ghost use Rattle.nc_num.specs.Places.{block_at};
+ghost use Rattle.nc_hart.specs.Issue.{issued};
+ghost use Rattle.nc_queue.specs.Entries.{Fits, StoreFits};
+ghost use Rattle.nc_plan.specs.declared.ops.HartOp.TheVariants as ops;
+ghost use Rattle.nc_queue.specs.declared.entry.Entry.TheVariants as entries;
+ghost use Rattle.nc_rules.specs.declared.answers.Issued.TheVariants.{Loaded};
+ghost use Rattle.nc_rules.specs.Machine.{hart_of, queue_of, channel_of, grantee_of, box_of, with_hart, with_box, with_cache};
+ghost use Rattle.nc_rules.specs.View.{bytes_of, bytes_seen, below};
+ghost use Rattle.nc_rules.specs.Calls.{may_issue, issue_next, issue_answer, asks_caches, cache_loaded, load_transfers, performed, store_transfers, operation_transfers, drain_transfers, leaving, without_entry, drain_next, drain_answer, is_pooled, fill_next, fill_answer, evict_next, evict_answer, chan_read_next, chan_read_told, chan_write_next, chan_write_told, control_of, claim_next, claim_answer, may_take, take_next, io_waits, lends, register_value};
+ghost use Rattle.nc_rules.specs.Sound.{IsMachine, IsBlockIn, IsRegister, IsPieceIn, IsMessage, OpIsThere, EntryIsThere};
+ghost use Rattle.nc_rules.specs.Start.{first_machine};
+ghost use Rattle.nc_scen.specs.Accepted.{IsAccepted};
+
+use crate::{engine, harts, start};
+use nc_cache::{BusList, Domain};
+use nc_env::CboOp;
+use nc_hart::Hart;
+use nc_mail::Mail;
+use nc_mem::Ram;
+use nc_num::{Block, Bytes, ChanNo, HartNo, Label, MemType, NoMemory, Place, Span, block_of};
+use nc_pdma::{ChanStep, Channel};
+use nc_plan::HartOp;
+use nc_queue::{Entry, Queue};
+use nc_rules::Issued;
+use nc_scen::Scenario;
+use std::alloc::Global;
+use std::marker::Model;
+
+/// The machine of a scenario. Contracts see the written machine, and `spare`: for how many more blocks its caches have
+/// room.
+#[derive(Drop)]
+pub struct Machine {
+    size: u32,
+    pool: Span,
+    ram: Ram,
+    domain: Domain,
+    harts: Vec<Hart>,
+    channels: Vec<Channel>,
+    grantees: [Option<HartNo>; 4],
+    mail: Mail,
+}
+
+impl Model for Machine {
+    ghost use Rattle.nc_machine.specs.State.{MachineShown, machine_code, shown_code};
+    ghost use Rattle.nc_cache.specs.contracts.line.Line as line;
+    ghost use Rattle.nc_num.specs.contracts.places.Span as span;
+    ghost use Rattle.nc_hart.specs.contracts.hart.Hart as hart;
+    ghost use Rattle.nc_pdma.specs.contracts.channel.Channel as channel;
+    ghost use Rattle.nc_num.specs.contracts.names.HartNo as hart_no;
+
+    ghost Value = { MachineShown };
+
+    ghost coded = { shown_code (machine_code line.the_row.coded span.the_row.coded hart.the_row.coded channel.the_row.coded hart_no.the_row.coded) };
+
+    ghost use Rattle.nc_machine.specs.Inside.{shown, IsSound};
+
+    ghost view = { shown };
+
+    ghost invariant = { IsSound };
+}
+
+impl Machine {
+    // ---- the start, and room
+
+    /// The machine at the start of a scenario: memory has the buffers' first bytes, and nothing else has happened.
+    ///
+    /// # Errors
+    ///
+    /// `NoMemory` where memory runs out.
+    pub fn new(alloc: Global, sc: &Scenario) -> Result<Machine, NoMemory>
+        requires { IsAccepted sc.now }
+        ensures { IfOk result (λ m. m.machine ≡ first_machine sc.now) }
+    {
+        let harts = sc.harts.as_slice().len() as u8;
+        let boxes = sc.buffers.as_slice().len() as u8;
+        Ok(Machine {
+            size: sc.block_size,
+            pool: start::pool_of(sc),
+            ram: start::memory(alloc, sc)?,
+            domain: Domain::new(alloc, harts, sc.block_size)?,
+            harts: start::fresh_harts(alloc, harts, sc.block_size)?,
+            channels: start::new_channels(alloc)?,
+            grantees: [None; 4],
+            mail: Mail::new(alloc, boxes)?,
+        })
+    }
+
+    /// Makes room for one more block in the caches, so that the next call which brings one takes no memory.
+    ///
+    /// # Errors
+    ///
+    /// `NoMemory` where memory runs out; all is as before.
+    pub fn reserve(&mut self) -> Result<(), NoMemory>
+        ensures ok { OnOk result (1 ≤ self.new.spare) }
+        ensures machine { self.new.machine ≡ self.old.machine }
+        ensures kept { self.old.spare ≤ self.new.spare }
+        ensures err { OnErr result (self.new ≡ self.old) }
+    {
+        self.domain.reserve()
+    }
+
+    // ---- a hart's operation
+
+    /// Whether hart h may issue an operation now: its queue has room where the operation needs an entry, a fence that
+    /// waits finds no entry of its predecessor set, and an IO load none of class O.
+    pub fn can_issue(&self, h: HartNo, op: &HartOp) -> bool
+        requires { h.0 < length self.now.machine.harts }
+        ensures value { result ≡ may_issue self.now.machine h.0 op.now }
+        ensures sound { IsMachine self.now.machine }
+    {
+        self.harts[usize::from(h.0)].can_issue(op)
+    }
+
+    /// Hart h issues an operation that it may issue. What the operation names is there: a load or store is one piece in
+    /// RAM, and a store has the bytes of its span.
+    #[tactic(auto, unfolding(nc_rules::specs::Calls::issue_next))]
+    pub fn issue(&mut self, h: HartNo, op: HartOp) -> Issued
+        requires hart { h.0 < length self.old.machine.harts }
+        requires there { OpIsThere self.old.machine h.0 op }
+        requires can { IsTrue (may_issue self.old.machine h.0 op) }
+        requires spare { 1 ≤ self.old.spare }
+        ensures state { self.new.machine ≡ issue_next self.old.machine h.0 op }
+        ensures answer { result ≡ issue_answer self.old.machine h.0 op }
+        ensures spare { self.old.spare ≤ self.new.spare + 1 }
+    {
+        match op {
+            HartOp::Load { span, kind } => self.load(h, span, kind),
+            HartOp::IoLoad { chan, off, width } => Issued::Value(self.register(chan, off, width)),
+            HartOp::Fence { pred, succ } => self.fence(h, pred, succ),
+            HartOp::Store { .. } | HartOp::Cbo { .. } | HartOp::IoStore(_) | HartOp::Mark { .. } =>
+                {
+                    self.put(h, op);
+                    Issued::Queued
+                }
+        }
+    }
+
+    // ---- a drain
+
+    /// Entry i of hart h's queue, counted from the oldest, leaves the queue and is performed. None exactly where it may
+    /// not drain, and then nothing has changed.
+    #[tactic(auto, unfolding(nc_rules::specs::Calls::drain_next))]
+    pub fn drain(&mut self, h: HartNo, i: u8) -> Option<(Entry, BusList)>
+        requires hart { h.0 < length self.old.machine.harts }
+        requires spare { 1 ≤ self.old.spare }
+        ensures state { self.new.machine ≡ drain_next self.old.machine h.0 i }
+        ensures answer { result ≡ drain_answer self.old.machine h.0 i }
+        ensures spare { self.old.spare ≤ self.new.spare + 1 }
+    {
+        let e = self.leave(h, i)?;
+        let bus = self.perform(h, &e);
+        Some((e, bus))
+    }
+
+    // ---- caches, at any moment
+
+    /// A copy of a block comes to hart h. None exactly where the hart holds the block, or the block lies in the
+    /// coherent pool; then nothing has changed.
+    #[tactic(auto, unfolding(nc_rules::specs::Calls::fill_next))]
+    pub fn fill(&mut self, h: HartNo, b: Block) -> Option<BusList>
+        requires hart { h.0 < length self.old.machine.harts }
+        requires block { IsBlockIn self.old.machine.size (length self.old.machine.cache.ram) b.0 }
+        requires spare { 1 ≤ self.old.spare }
+        ensures state { self.new.machine ≡ fill_next self.old.machine h.0 b.0 }
+        ensures answer { result ≡ fill_answer self.old.machine h.0 b.0 }
+        ensures spare { self.old.spare ≤ self.new.spare + 1 }
+    {
+        if self.domain.holds(h, b) || self.is_pooled(b) {
+            return None;
+        }
+        Some(self.domain.load(&mut self.ram, h, b))
+    }
+
+    /// Hart h gives up its copy of a block, and writes it back where it is dirty. None exactly where it has none; then
+    /// nothing has changed.
+    #[tactic(auto, unfolding(nc_rules::specs::Calls::evict_next))]
+    pub fn evict(&mut self, h: HartNo, b: Block) -> Option<BusList>
+        requires hart { h.0 < length self.old.machine.harts }
+        requires block { IsBlockIn self.old.machine.size (length self.old.machine.cache.ram) b.0 }
+        ensures state { self.new.machine ≡ evict_next self.old.machine h.0 b.0 }
+        ensures answer { result ≡ evict_answer self.old.machine h.0 b.0 }
+        ensures spare { self.old.spare ≤ self.new.spare }
+    {
+        self.domain.evict(&mut self.ram, h, b)
+    }
+
+    // ---- channels
+
+    /// One read of a channel; Idle exactly where it is disabled, and then nothing has changed.
+    #[tactic(auto, unfolding(nc_rules::specs::Calls::chan_read_next))]
+    pub fn chan_read(&mut self, c: ChanNo) -> ChanStep
+        requires { c.0 < 4 }
+        ensures state { self.new.machine ≡ chan_read_next self.old.machine c.0 }
+        ensures told { result ≡ chan_read_told self.old.machine c.0 }
+        ensures spare { self.old.spare ≤ self.new.spare }
+    {
+        engine::read_step(&mut self.channels, c, &self.ram)
+    }
+
+    /// One write of a channel; Idle exactly where it is disabled, and then nothing has changed.
+    #[tactic(auto, unfolding(nc_rules::specs::Calls::chan_write_next))]
+    pub fn chan_write(&mut self, c: ChanNo) -> ChanStep
+        requires { c.0 < 4 }
+        ensures state { self.new.machine ≡ chan_write_next self.old.machine c.0 }
+        ensures told { result ≡ chan_write_told self.old.machine c.0 }
+        ensures spare { self.old.spare ≤ self.new.spare }
+    {
+        engine::write_step(&mut self.channels, c, &mut self.ram)
+    }
+
+    /// The value of a channel's Control.
+    pub fn control(&self, c: ChanNo) -> u32
+        requires { c.0 < 4 }
+        ensures value { result ≡ control_of self.now.machine c.0 }
+        ensures sound { IsMachine self.now.machine }
+    {
+        engine::control(&self.channels[usize::from(c.0)])
+    }
+
+    /// Hart h claims a channel.
+    ///
+    /// # Errors
+    ///
+    /// The grantee exactly where the channel is claimed; then nothing has changed.
+    #[tactic(auto, unfolding(nc_rules::specs::Calls::claim_next))]
+    pub fn claim(&mut self, h: HartNo, c: ChanNo) -> Result<(), HartNo>
+        requires hart { h.0 < length self.old.machine.harts }
+        requires channel { c.0 < 4 }
+        ensures state { self.new.machine ≡ claim_next self.old.machine h c.0 }
+        ensures answer { result ≡ claim_answer (grantee_of self.old.machine c.0) }
+        ensures spare { self.old.spare ≤ self.new.spare }
+    {
+        if let Some(g) = self.grantees[usize::from(c.0)] {
+            return Err(g);
+        }
+        engine::claim(&mut self.channels, c);
+        self.grantees[usize::from(c.0)] = Some(h);
+        Ok(())
+    }
+
+    /// The hart to which a channel is granted: the one whose access set its claim bit. None exactly where the bit is
+    /// clear.
+    pub fn grantee(&self, c: ChanNo) -> Option<HartNo>
+        requires { c.0 < 4 }
+        ensures value { result ≡ grantee_of self.now.machine c.0 }
+        ensures sound { IsMachine self.now.machine }
+    {
+        self.grantees[usize::from(c.0)]
+    }
+
+    // ---- the mailbox
+
+    /// Takes the message of a buffer's box, if it waits for hart h, and says whether it did.
+    #[tactic(auto, unfolding(nc_rules::specs::Calls::take_next))]
+    pub fn take(&mut self, h: HartNo, buf: u8) -> bool
+        requires { buf < length self.old.machine.boxes }
+        ensures state { self.new.machine ≡ take_next self.old.machine h.0 buf }
+        ensures answer { result ≡ may_take self.old.machine h.0 buf }
+        ensures spare { self.old.spare ≤ self.new.spare }
+    {
+        self.mail.take(buf, h)
+    }
+
+    /// The hart for which a message waits in a buffer's box.
+    pub fn waits(&self, buf: u8) -> Option<HartNo>
+        requires { buf < length self.now.machine.boxes }
+        ensures value { result ≡ box_of self.now.machine buf }
+        ensures sound { IsMachine self.now.machine }
+    {
+        self.mail.waits(buf)
+    }
+
+    // ---- looks
+
+    /// The number of entries of hart h's queue, 0 to 8.
+    pub fn queued(&self, h: HartNo) -> u8
+        requires { h.0 < length self.now.machine.harts }
+        ensures value { result ≡ length (queue_of self.now.machine h.0) }
+        ensures few { result ≤ 8 }
+        ensures sound { IsMachine self.now.machine }
+    {
+        self.queue(h).len()
+    }
+
+    /// Whether an entry of class O is queued by hart h: a store of type IO, to a register or to a mailbox, or an
+    /// ownership token.
+    pub fn io_waits(&self, h: HartNo) -> bool
+        requires { h.0 < length self.now.machine.harts }
+        ensures value { result ≡ io_waits self.now.machine h.0 }
+        ensures sound { IsMachine self.now.machine }
+    {
+        !self.queue(h).may_load(MemType::Io)
+    }
+
+    /// The entry that a drain of entry i of hart h's queue would perform. None exactly where it may not drain.
+    #[tactic(auto, unfolding(nc_queue::specs::Rules::drained))]
+    pub fn peek(&self, h: HartNo, i: u8) -> Option<Entry>
+        requires { h.0 < length self.now.machine.harts }
+        ensures value { result ≡ leaving self.now.machine h.0 i }
+        ensures sound { IsMachine self.now.machine }
+    {
+        let queue = self.queue(h);
+        if queue.may_drain(i) {
+            queue.get(i)
+        } else {
+            None
+        }
+    }
+
+    /// Whether an ownership token of the label is queued by hart h.
+    pub fn lends(&self, h: HartNo, label: Label) -> bool
+        requires { h.0 < length self.now.machine.harts }
+        ensures value { result ≡ lends self.now.machine h.0 label.0 }
+        ensures sound { IsMachine self.now.machine }
+    {
+        self.queue(h).lends(label)
+    }
+
+    /// The bytes of a span in one block of RAM: the caches', else memory's.
+    #[tactic(auto, unfolding(nc_rules::specs::View::middle))]
+    pub fn bytes(&self, span: Span) -> Bytes
+        requires one_block { span.at % self.now.machine.size + span.len ≤ self.now.machine.size }
+        requires inside { span.at + span.len ≤ length self.now.machine.cache.ram }
+        ensures value { result ≡ bytes_of self.now.machine span }
+        ensures len { length result ≡ span.len }
+        ensures sound { IsMachine self.now.machine }
+    {
+        self.domain.bytes(&self.ram, span)
+    }
+
+    // ---- what the calls are made of
+
+    /// The store queue of hart h.
+    fn queue(&self, h: HartNo) -> &Queue
+        requires { h.0 < length self.now.machine.harts }
+        ensures value { result.now ≡ (hart_of self.now.machine h.0).queue }
+        ensures size { result.now.size ≡ self.now.machine.size }
+        ensures sound { IsMachine self.now.machine }
+    {
+        self.harts[usize::from(h.0)].queue()
+    }
+
+    /// Whether a block lies in the coherent pool.
+    fn is_pooled(&self, b: Block) -> bool
+        requires { IsBlockIn self.now.machine.size (length self.now.machine.cache.ram) b.0 }
+        ensures { result ≡ is_pooled self.now.machine b.0 }
+    {
+        let at = self.size * b.0;
+        self.pool.at <= at && at - self.pool.at < self.pool.len
+    }
+
+    /// The bytes of a piece below the queues: NC and IO go past the caches (Svpbmt).
+    #[tactic(auto, using(crate::proofs::Loads::below_rules), unfolding(nc_rules::specs::View::middle))]
+    fn below(&self, span: Span, kind: MemType) -> Bytes
+        requires { IsPieceIn (length self.now.machine.cache.ram) span }
+        ensures value { result ≡ map (λ x. below self.now.machine kind x) (range_with_len span.at span.len) }
+        ensures len { length result ≡ span.len }
+    {
+        match kind {
+            MemType::Pma => self.bytes(span),
+            MemType::Nc | MemType::Io => self.ram.read(span),
+        }
+    }
+
+    /// The bytes of a piece that a load of hart h shows: each from the newest entry that gives it, else from below.
+    #[tactic(auto, using(crate::proofs::Loads::overlaid_range), unfolding(nc_rules::specs::View::seen))]
+    fn seen(&self, h: HartNo, span: Span, kind: MemType) -> Bytes
+        requires hart { h.0 < length self.now.machine.harts }
+        requires piece { IsPieceIn (length self.now.machine.cache.ram) span }
+        ensures { result ≡ bytes_seen self.now.machine h.0 kind span }
+    {
+        let below = self.below(span, kind);
+        harts::overlaid(self.queue(h), span.at, &below, self.size)
+    }
+
+    /// Whether a load of hart h asks the caches, and gets its block: one of main memory of which some byte comes from no
+    /// entry.
+    fn asks_caches(&self, h: HartNo, span: Span, kind: MemType) -> bool
+        requires hart { h.0 < length self.now.machine.harts }
+        requires piece { IsPieceIn (length self.now.machine.cache.ram) span }
+        ensures { result ≡ asks_caches self.now.machine h.0 span kind }
+    {
+        match kind {
+            MemType::Pma => harts::reaches_below(self.queue(h), span, self.size),
+            MemType::Nc | MemType::Io => false,
+        }
+    }
+
+    /// The block of a load comes to hart h, where the load asks the caches.
+    fn bring(&mut self, h: HartNo, span: Span, kind: MemType) -> BusList
+        requires hart { h.0 < length self.old.machine.harts }
+        requires piece { IsPieceIn (length self.old.machine.cache.ram) span }
+        requires spare { 1 ≤ self.old.spare }
+        ensures state { self.new.machine ≡ with_cache self.old.machine (cache_loaded self.old.machine h.0 span kind) }
+        ensures bus { result ≡ load_transfers self.old.machine h.0 span kind }
+        ensures spare { self.old.spare ≤ self.new.spare + 1 }
+    {
+        if !self.asks_caches(h, span, kind) {
+            return BusList::new();
+        }
+        let block = block_of(Place(span.at), self.size);
+        self.domain.load(&mut self.ram, h, block)
+    }
+
+    /// A load of one piece.
+    #[tactic(auto, unfolding(nc_rules::specs::Calls::issue_next))]
+    fn load(&mut self, h: HartNo, span: Span, kind: MemType) -> Issued
+        requires hart { h.0 < length self.old.machine.harts }
+        requires piece { IsPieceIn (length self.old.machine.cache.ram) span }
+        requires can { IsTrue (may_issue self.old.machine h.0 (ops.Load span kind)) }
+        requires spare { 1 ≤ self.old.spare }
+        ensures state { self.new.machine ≡ issue_next self.old.machine h.0 (ops.Load span kind) }
+        ensures answer { result ≡ Loaded (bytes_seen self.old.machine h.0 kind span) (load_transfers self.old.machine h.0 span kind) }
+        ensures spare { self.old.spare ≤ self.new.spare + 1 }
+    {
+        let bytes = self.seen(h, span, kind);
+        let bus = self.bring(h, span, kind);
+        harts::give(&mut self.harts, h, bytes);
+        Issued::Loaded { bytes, bus }
+    }
+
+    /// What a register holds; there is one of this width at the offset.
+    fn register(&self, chan: ChanNo, off: u16, width: u8) -> u64
+        requires { chan.0 < 4 }
+        ensures { result ≡ register_value self.now.machine chan.0 off width }
+    {
+        self.channels[usize::from(chan.0)]
+            .read(off, width)
+            .unwrap_or(0)
+    }
+
+    /// Puts the entry of an operation that is no load, where it has one, behind the others of hart h's queue.
+    fn put(&mut self, h: HartNo, op: HartOp)
+        requires hart { h.0 < length self.old.machine.harts }
+        requires there { OpIsThere self.old.machine h.0 op }
+        requires can { IsTrue (may_issue self.old.machine h.0 op) }
+        requires no_load { issue_next self.old.machine h.0 op ≡ with_hart self.old.machine h.0 (issued (hart_of self.old.machine h.0) op) }
+        ensures state { self.new.machine ≡ issue_next self.old.machine h.0 op }
+        ensures spare { self.old.spare ≤ self.new.spare }
+    {
+        harts::put(&mut self.harts, h, op);
+    }
+
+    /// A fence, which leaves a marker in the queue or nothing.
+    #[tactic(auto, unfolding(nc_rules::specs::Calls::issue_next))]
+    fn fence(&mut self, h: HartNo, pred: u8, succ: u8) -> Issued
+        requires hart { h.0 < length self.old.machine.harts }
+        requires can { IsTrue (may_issue self.old.machine h.0 (ops.Fence pred succ)) }
+        ensures state { self.new.machine ≡ issue_next self.old.machine h.0 (ops.Fence pred succ) }
+        ensures answer { result ≡ issue_answer self.old.machine h.0 (ops.Fence pred succ) }
+        ensures spare { self.old.spare ≤ self.new.spare }
+    {
+        let before = self.queued(h);
+        self.put(h, HartOp::Fence { pred, succ });
+        if self.queued(h) > before {
+            Issued::Queued
+        } else {
+            Issued::Passed
+        }
+    }
+
+    /// Entry i of hart h's queue leaves it, where it may drain. What it names is there.
+    fn leave(&mut self, h: HartNo, i: u8) -> Option<Entry>
+        requires hart { h.0 < length self.old.machine.harts }
+        ensures entry { result ≡ leaving self.old.machine h.0 i }
+        ensures none { IfNone result (self.new ≡ self.old) }
+        ensures some { IfSome result (λ _. self.new.machine ≡ with_hart self.old.machine h.0 (without_entry (hart_of self.old.machine h.0) i)) }
+        ensures fits { IfSome result (Fits self.new.machine.size) }
+        ensures there { IfSome result (EntryIsThere self.new.machine) }
+        ensures harts { length self.new.machine.harts ≡ length self.old.machine.harts }
+        ensures spare { self.new.spare ≡ self.old.spare }
+    {
+        harts::leave(&mut self.harts, h, i)
+    }
+
+    /// An entry of hart h's queue is performed, with these transfers.
+    #[tactic(auto, unfolding(nc_rules::specs::Calls::performed))]
+    fn perform(&mut self, h: HartNo, e: &Entry) -> BusList
+        requires hart { h.0 < length self.old.machine.harts }
+        requires there { EntryIsThere self.old.machine e.now }
+        requires fits { Fits self.old.machine.size e.now }
+        requires spare { 1 ≤ self.old.spare }
+        ensures state { self.new.machine ≡ performed self.old.machine h.0 e.now }
+        ensures bus { result ≡ drain_transfers self.old.machine h.0 e.now }
+        ensures spare { self.old.spare ≤ self.new.spare + 1 }
+    {
+        match e {
+            Entry::Store { span, bytes, kind } => self.store(h, *span, bytes, *kind),
+            Entry::Cbo { block, op } => self.operate(h, *op, *block),
+            Entry::Reg {
+                chan,
+                off,
+                width,
+                value,
+            } => {
+                self.store_register(h, *chan, *off, *width, *value);
+                BusList::new()
+            }
+            Entry::Mail { buf, to } => {
+                self.post(*buf, *to);
+                BusList::new()
+            }
+            Entry::Lend { .. } | Entry::Mark { .. } => BusList::new(),
+        }
+    }
+
+    /// A store of main memory goes to the caches, one of another type to memory.
+    #[tactic(auto, unfolding(nc_rules::specs::Calls::performed))]
+    fn store(&mut self, h: HartNo, span: Span, bytes: &Bytes, kind: MemType) -> BusList
+        requires hart { h.0 < length self.old.machine.harts }
+        requires there { span.at + span.len ≤ length self.old.machine.cache.ram }
+        requires fits { StoreFits self.old.machine.size span bytes.now }
+        requires spare { 1 ≤ self.old.spare }
+        ensures state { self.new.machine ≡ performed self.old.machine h.0 (entries.Store span bytes.now kind) }
+        ensures bus { result ≡ store_transfers self.old.machine h.0 (block_at span.at self.old.machine.size) kind }
+        ensures spare { self.old.spare ≤ self.new.spare + 1 }
+    {
+        match kind {
+            MemType::Pma => self.domain.store(&mut self.ram, h, span, bytes.as_slice()),
+            MemType::Nc | MemType::Io => {
+                self.ram.write(span, bytes.as_slice());
+                BusList::new()
+            }
+        }
+    }
+
+    /// A cache operation by its effect (CMO 1.0).
+    #[tactic(auto, unfolding(nc_rules::specs::Calls::performed))]
+    fn operate(&mut self, h: HartNo, op: CboOp, block: Block) -> BusList
+        requires hart { h.0 < length self.old.machine.harts }
+        requires there { IsBlockIn self.old.machine.size (length self.old.machine.cache.ram) block.0 }
+        requires spare { 1 ≤ self.old.spare }
+        ensures state { self.new.machine ≡ performed self.old.machine h.0 (entries.Cbo block op) }
+        ensures bus { result ≡ operation_transfers self.old.machine h.0 op block.0 }
+        ensures spare { self.old.spare ≤ self.new.spare + 1 }
+    {
+        match op {
+            CboOp::Clean => self.domain.clean(&mut self.ram, block),
+            CboOp::Flush => self.domain.flush(&mut self.ram, block),
+            CboOp::Inval => self.domain.inval(block),
+            CboOp::Zero => self.domain.zero(&mut self.ram, h, block),
+        }
+    }
+
+    /// A store of hart h to a register of a channel: one that sets the claim bit has the channel granted to h.
+    #[tactic(auto, unfolding(nc_rules::specs::Calls::performed))]
+    fn store_register(&mut self, h: HartNo, chan: ChanNo, off: u16, width: u8, value: u64)
+        requires hart { h.0 < length self.old.machine.harts }
+        requires there { IsRegister chan.0 off width }
+        ensures state { self.new.machine ≡ performed self.old.machine h.0 (entries.Reg chan off width value) }
+        ensures spare { self.old.spare ≤ self.new.spare }
+    {
+        let grantees = &mut self.grantees;
+        engine::store(&mut self.channels, grantees, h, chan, off, width, value);
+    }
+
+    /// A message about a buffer is put in its box.
+    fn post(&mut self, buf: u8, to: HartNo)
+        requires { IsMessage (length self.old.machine.boxes) (length self.old.machine.harts) buf to.0 }
+        ensures state { self.new.machine ≡ with_box self.old.machine buf (Some to) }
+        ensures spare { self.old.spare ≤ self.new.spare }
+    {
+        self.mail.post(buf, to);
+    }
+}
