@@ -1,11 +1,12 @@
 -- What is due for the words and the bytes that were read.
 use Rattle.std.specs.Prelude.{◌≡◌, ◌≢◌, ℕ, List, [], ◌∷◌, codes, Bool, false, Result, Ok, Err, if◌then◌else◌}
 use Rattle.std.specs.Str.{bytes_eq}
-use Rattle.nc_world.specs.declared.refused.Refused.{Refused}
-use Rattle.nc_world.specs.declared.scenario.Scenario.{Scenario}
-use Rattle.nc_world.specs.Scenario.{reading}
-use Rattle.nc_world.specs.Schedule.{sched}
-use Rattle.nc_world.specs.Lines.{words, report, status, refused_line}
+use Rattle.nc_scen.specs.Reading.{reading}
+use Rattle.nc_scen.specs.declared.refused.Refused.{Refused}
+use Rattle.nc_scen.specs.declared.scenario.Scenario.{Scenario}
+use Rattle.nc_rules.specs.Built.{is_built}
+use Rattle.nc_rules.specs.Schedule.{sched}
+use Rattle.nc_rules.specs.Lines.{words, report, status, refused_line}
 
 -- a status, and what is written
 pub record Due : Type 0 where
@@ -18,10 +19,21 @@ is_run [] = false
 is_run (w ∷ []) = bytes_eq w (codes "run")
 is_run (w ∷ v ∷ rest) = false
 
--- what is due for a scenario, or for a refusal
+-- a line, with the status of refused input
+abbrev pub refusal : List ℕ → Due
+refusal text = record { status = 3; text = text }
+
+-- the run of a scenario's schedule
+abbrev pub run_of : Scenario → Due
+run_of sc = record { status = status sc (sched sc); text = report sc (sched sc) }
+
+abbrev pub not_built : List ℕ
+not_built = words (codes "refused" ∷ codes "notbuilt" ∷ [])
+
+-- what is due for a scenario, which may be one that is not run yet, or for a refusal
 abbrev pub due_for : Result Scenario Refused → Due
-due_for (Ok sc) = record { status = status sc (sched sc); text = report sc (sched sc) }
-due_for (Err r) = record { status = 3; text = refused_line r }
+due_for (Ok sc) = if is_built sc then run_of sc else refusal not_built
+due_for (Err r) = refusal (refused_line r)
 
 abbrev pub unknown_words : Due
 unknown_words = record { status = 2; text = words (codes "refused" ∷ codes "words" ∷ []) }

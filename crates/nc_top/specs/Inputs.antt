@@ -3,10 +3,10 @@ use Rattle.std.specs.Prelude.{◌≡◌, ◌≢◌, ◌<◌, ◌⊎◌, ℕ, Ok,
 use Rattle.std.specs.Io.KnownBytes.{Consumes, IsAtEnd, Keeps}
 use Rattle.nc_io.specs.Streams.{GrowsByFront}
 use Rattle.nc_top.specs.Due.{due}
-use Rattle.nc_world.specs.declared.scenario.Scenario.{Scenario}
-use Rattle.nc_world.specs.Flat.{IsLatest}
-use Rattle.nc_world.specs.Scenario.{most_bytes, reading}
-use Rattle.nc_world.specs.Schedule.{sched}
+use Rattle.nc_scen.specs.Reading.{most_bytes, reading}
+use Rattle.nc_scen.specs.declared.scenario.Scenario.{Scenario}
+use Rattle.nc_rules.specs.Flat.{IsLatest, IsKept}
+use Rattle.nc_rules.specs.Schedule.{sched}
 
 -- The bytes were read, and they are all: the source told its end, or more came than a scenario may have.
 pub record HasRead (before now : Option (List ℕ)) (ended : Bool) (bytes : List ℕ) : Type 0 where
@@ -19,6 +19,7 @@ WroteFront words before now ended held_before held_now = Keeps held_before held_
     ⊎ GrowsByFront held_before held_now (due words []).text
     ⊎ ((bytes : List ℕ) × HasRead before now ended bytes × GrowsByFront held_before held_now (due words bytes).text)
 
--- Where the status is not a refusal's, the bytes are a scenario, and the run of its schedule shows flat memory.
+-- Where the status is not a refusal's, the bytes are a scenario; the loads and channel reads of the run of its schedule
+-- show flat memory up to the first touch, and while there is none flat memory's bytes are kept.
 abbrev pub IsFlat : ℕ → List ℕ → Type 0
-IsFlat status bytes = status ≢ 3 → (sc : Scenario) × (reading bytes ≡ Ok sc) × IsLatest sc (sched sc)
+IsFlat status bytes = status ≢ 3 → (sc : Scenario) × (reading bytes ≡ Ok sc) × IsLatest sc (sched sc) × IsKept sc (sched sc)

@@ -1,21 +1,36 @@
 //! A scenario's run, written event by event.
 
-ghost use Rattle.std.specs.Prelude.{◌≡◌, ◌≤◌, IfOk, OnOk, OnErr, Err};
+ghost use Rattle.std.specs.Prelude.{◌≡◌, ◌≤◌, IfOk, OnOk, OnErr, Err, length};
 ghost use Rattle.std.specs.Io.KnownBytes.{Appends};
 ghost use Rattle.nc_io.specs.Causes.{Rose};
 ghost use Rattle.nc_io.specs.Streams.{GrowsByFront};
-ghost use Rattle.nc_world.specs.Accepted.{IsAccepted};
-ghost use Rattle.nc_world.specs.Lines.{report, status, status_at};
-ghost use Rattle.nc_world.specs.Schedule.{sched};
+ghost use Rattle.nc_scen.specs.Accepted.{IsAccepted};
+ghost use Rattle.nc_rules.specs.Built.{IsBuilt};
+ghost use Rattle.nc_rules.specs.Lines.{report, status, status_at, at_end};
+ghost use Rattle.nc_rules.specs.Schedule.{sched};
 ghost use Rattle.nc_top.specs.Due.{IsAnswer};
 
 use nc_io::{Sink, Stop, write_all};
 use nc_num::HartNo;
-use nc_world::report::{step_out, tail};
-use nc_world::{Scenario, Sched, World};
+use nc_report::{step_out, tail};
+use nc_scen::Scenario;
+use nc_sched::Sched;
+use nc_world::World;
 use std::alloc::Global;
 
-/// 1 where there is a touch, else 7 where the script is not at its end, else 0.
+/// Whether every script is at its end.
+fn at_end(w: &World) -> bool
+    ensures { result ≡ at_end w.now.at }
+{
+    for h in 0..w.harts() {
+        if w.left(HartNo(h)).is_some() {
+            return false;
+        }
+    }
+    true
+}
+
+/// 1 where there is a touch, else 7 where a script is not at its end, else 0.
 fn status_of(w: &World) -> u8
     ensures value { result ≡ status_at w.now.at }
     ensures kind { IsAnswer result }
@@ -23,16 +38,17 @@ fn status_of(w: &World) -> u8
     if 0 < w.touches() {
         return 1;
     }
-    match w.left(HartNo(0)) {
-        Some(_) => 7,
-        None => 0,
+    if at_end(w) {
+        return 0;
     }
+    7
 }
 
 /// Makes the events of the scenario's schedule and writes the report as they happen. Where it stops, a front of the
 /// report was written.
 pub fn run_out<K: Sink>(alloc: Global, sc: &Scenario, out: &mut K) -> Result<u8, Stop>
-    requires { IsAccepted sc.now }
+    requires accepted { IsAccepted sc.now }
+    requires built { IsBuilt sc.now }
     ensures status { IfOk result (λ n. n ≡ status sc.now (sched sc.now)) }
     ensures kind { IfOk result IsAnswer }
     ensures text { OnOk result (Appends (K.held out.old) (K.held out.new) (report sc.now (sched sc.now))) }

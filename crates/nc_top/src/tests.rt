@@ -9,57 +9,247 @@ use std::test::Fail;
 const EMPTY_SCRIPT: &[u8] =
     b"{\"version\":1,\"ram\":4096,\"harts\":[{\"mode\":\"S\",\"menvcfg\":0,\"senvcfg\":0,\"script\":[]}],\"buffers\":[{\"at\":0,\"len\":2,\"fill\":7,\"step\":1,\"owner\":0}],\"schedule\":[]}";
 
-const TWO_HARTS: &[u8] =
-    b"{\"version\":1,\"ram\":4096,\"harts\":[{\"mode\":\"S\",\"menvcfg\":0,\"senvcfg\":0,\"script\":[]},{\"mode\":\"S\",\"menvcfg\":0,\"senvcfg\":0,\"script\":[]}],\"buffers\":[{\"at\":0,\"len\":2,\"fill\":7,\"step\":1,\"owner\":0}],\"schedule\":[]}";
-
-/// A fill and an eviction round a load. The first eviction is skipped.
-const LOADS_FILLS_EVICTS: &[u8] =
-    b"{\"version\":1,\"ram\":4096,\"harts\":[{\"mode\":\"S\",\"menvcfg\":0,\"senvcfg\":0,\"script\":[[\"ld\",\"b0\",0,2]]}],\"buffers\":[{\"at\":0,\"len\":2,\"fill\":7,\"step\":1,\"owner\":0}],\"schedule\":[\"e0.0\",\"f0.1\",\"i0\",\"e0.0\"],\"finish\":false}";
-
-const LOADS_FILLS_EVICTS_REPORT: &[u8] =
-    b"e f0.1\nfill 0 000040 mem 00000000000000000000000000000000000000000000000000000000000000000000000000000000000000000000000000000000000000000000000000000000\ne i0\nfill 0 000000 mem 07080000000000000000000000000000000000000000000000000000000000000000000000000000000000000000000000000000000000000000000000000000\nld 0 000000 0708\ne e0.0\ndrop 0 000000\nbuf 0 0708\nend events 3 touches 0\n";
-
-/// Two refused loads, which need no more than the first event of a finishing round each. The limit lets the second
-/// round begin and cuts it there.
-const CUT_IN_A_ROUND: &[u8] =
-    b"{\"version\":1,\"ram\":4096,\"harts\":[{\"mode\":\"S\",\"menvcfg\":0,\"senvcfg\":0,\"script\":[[\"ld\",\"b0\",2,1],[\"ld\",\"b0\",0,0],[\"ld\",\"b0\",0,0]]}],\"buffers\":[{\"at\":0,\"len\":2,\"fill\":7,\"step\":1,\"owner\":0}],\"schedule\":[],\"limit\":13}";
-
 fn words(alloc: Global, word: &str) -> Result<Vec<String>, AllocError> {
     let mut words = Vec::new(alloc);
     words.push(String::from_str(alloc, word)?)?;
     Ok(words)
 }
 
-#[test]
-fn reports(rt: HostRuntime) -> Result<(), Fail> {
+/// Runs a scenario, and compares its status and report.
+fn compare(
+    rt: &HostRuntime,
+    word: &str,
+    input: &[u8],
+    status: u8,
+    report: &[u8],
+) -> Result<(), Fail> {
     let alloc = rt.alloc();
-    let table: [(&str, &[u8], u8, &[u8]); 7] = [
-        (
-            "run",
-            EMPTY_SCRIPT,
-            0,
-            b"buf 0 0708\nend events 0 touches 0\n",
-        ),
-        ("run", LOADS_FILLS_EVICTS, 0, LOADS_FILLS_EVICTS_REPORT),
-        (
-            "run",
-            CUT_IN_A_ROUND,
-            7,
-            b"e i0\nans 0 0 badrange\ne i0\nans 0 1 empty\nbuf 0 0708\nleft 0 2\nend events 2 touches 0\n",
-        ),
-        ("run", TWO_HARTS, 3, b"refused notbuilt\n"),
-        ("run", b"{\"version\":1", 3, b"refused json\n"),
-        ("run", b"", 3, b"refused json\n"),
-        ("fly", b"", 2, b"refused words\n"),
-    ];
-    for (word, input, status, report) in table {
-        let mut src = MemSource::new(Vec::from_slice(alloc, input)?, 8, Vec::new(alloc));
-        let mut out = MemSink::new(alloc, Vec::new(alloc));
-        let words = words(alloc, word)?;
-        assert_eq!(rt; dmasim(alloc, &words, &mut src, &mut out), status);
-        assert_eq!(rt; out.bytes(), report);
-    }
+    let mut src = MemSource::new(Vec::from_slice(alloc, input)?, 4096, Vec::new(alloc));
+    let mut out = MemSink::new(alloc, Vec::new(alloc));
+    let words = words(alloc, word)?;
+    assert_eq!(rt; dmasim(alloc, &words, &mut src, &mut out), status);
+    assert_eq!(rt; out.bytes(), report);
     Ok(())
+}
+
+const FORWARDING: &[u8] =
+    b"{\"version\":1,\"ram\":65536,\"harts\":[{\"mode\":\"S\",\"menvcfg\":4611686018427388144,\"senvcfg\":240,\"script\":[[\"st\",\"b0\",0,\"11\"],[\"ld\",\"b0\",0,1]]}],\"buffers\":[{\"at\":0,\"len\":2,\"fill\":0,\"step\":0,\"owner\":0}],\"slots\":{\"at\":32768,\"count\":1},\"pool\":{\"at\":49152,\"pages\":2},\"schedule\":[\"i0\",\"i0\"],\"finish\":false}";
+
+const FORWARDING_REPORT: &[u8] =
+    b"e i0\nst 0 000000 11\ne i0\nld 0 000000 11\nbuf 0 0000\nend events 2 touches 0\n";
+
+const FORWARDING_FINISHED: &[u8] =
+    b"{\"version\":1,\"ram\":65536,\"harts\":[{\"mode\":\"S\",\"menvcfg\":4611686018427388144,\"senvcfg\":240,\"script\":[[\"st\",\"b0\",0,\"11\"],[\"ld\",\"b0\",0,1]]}],\"buffers\":[{\"at\":0,\"len\":2,\"fill\":0,\"step\":0,\"owner\":0}],\"slots\":{\"at\":32768,\"count\":1},\"pool\":{\"at\":49152,\"pages\":2},\"schedule\":[\"i0\",\"i0\"]}";
+
+const FORWARDING_FINISHED_REPORT: &[u8] =
+    b"e i0\nst 0 000000 11\ne i0\nld 0 000000 11\ne d0.0\ndr 0 000000 11\nown 0 000000 mem 00000000000000000000000000000000000000000000000000000000000000000000000000000000000000000000000000000000000000000000000000000000\nbuf 0 1100\nend events 3 touches 0\n";
+
+const FALSE_SHARING: &[u8] =
+    b"{\"version\":1,\"ram\":65536,\"harts\":[{\"mode\":\"S\",\"menvcfg\":4611686018427388144,\"senvcfg\":240,\"script\":[[\"st\",\"b0\",0,\"aa\"]]},{\"mode\":\"S\",\"menvcfg\":4611686018427388144,\"senvcfg\":240,\"script\":[[\"st\",\"b1\",0,\"bb\"]]}],\"buffers\":[{\"at\":0,\"len\":1,\"fill\":0,\"step\":0,\"owner\":0},{\"at\":1,\"len\":1,\"fill\":0,\"step\":0,\"owner\":1}],\"slots\":{\"at\":32768,\"count\":1},\"pool\":{\"at\":49152,\"pages\":2},\"schedule\":[\"i0\",\"i1\",\"d0.0\",\"e0.0\",\"d1.0\",\"e1.0\"],\"finish\":false}";
+
+const FALSE_SHARING_REPORT: &[u8] =
+    b"e i0\nst 0 000000 aa\ne i1\nst 1 000001 bb\ne d0.0\ndr 0 000000 aa\nown 0 000000 mem 00000000000000000000000000000000000000000000000000000000000000000000000000000000000000000000000000000000000000000000000000000000\ne e0.0\nwb 0 000000 aa000000000000000000000000000000000000000000000000000000000000000000000000000000000000000000000000000000000000000000000000000000\ndrop 0 000000\ne d1.0\ndr 1 000001 bb\nown 1 000000 mem aa000000000000000000000000000000000000000000000000000000000000000000000000000000000000000000000000000000000000000000000000000000\ne e1.0\nwb 1 000000 aabb0000000000000000000000000000000000000000000000000000000000000000000000000000000000000000000000000000000000000000000000000000\ndrop 1 000000\nbuf 0 aa\nbuf 1 bb\nend events 6 touches 0\n";
+
+const COPY_FROM_A_NEIGHBOUR: &[u8] =
+    b"{\"version\":1,\"ram\":65536,\"harts\":[{\"mode\":\"S\",\"menvcfg\":4611686018427388144,\"senvcfg\":240,\"script\":[[\"ld\",\"b0\",0,1]]},{\"mode\":\"S\",\"menvcfg\":4611686018427388144,\"senvcfg\":240,\"script\":[[\"ld\",\"b1\",0,1]]}],\"buffers\":[{\"at\":0,\"len\":1,\"fill\":7,\"step\":0,\"owner\":0},{\"at\":1,\"len\":1,\"fill\":9,\"step\":0,\"owner\":1}],\"slots\":{\"at\":32768,\"count\":1},\"pool\":{\"at\":49152,\"pages\":2},\"schedule\":[\"i0\",\"i1\",\"e0.0\"],\"finish\":false}";
+
+const COPY_FROM_A_NEIGHBOUR_REPORT: &[u8] =
+    b"e i0\nfill 0 000000 mem 07090000000000000000000000000000000000000000000000000000000000000000000000000000000000000000000000000000000000000000000000000000\nld 0 000000 07\ne i1\nfill 1 000000 hart 0\nld 1 000001 09\ne e0.0\ndrop 0 000000\nbuf 0 07\nbuf 1 09\nend events 3 touches 0\n";
+
+const HAND_WITH_STORES_QUEUED: &[u8] =
+    b"{\"version\":1,\"ram\":65536,\"harts\":[{\"mode\":\"S\",\"menvcfg\":4611686018427388144,\"senvcfg\":240,\"script\":[[\"st\",\"b0\",0,\"11\"],[\"st\",\"b0\",64,\"22\"],[\"hand\",0,1]]},{\"mode\":\"S\",\"menvcfg\":4611686018427388144,\"senvcfg\":240,\"script\":[[\"take\",0],[\"ld\",\"b0\",0,1]]}],\"buffers\":[{\"at\":0,\"len\":65,\"fill\":0,\"step\":0,\"owner\":0}],\"slots\":{\"at\":32768,\"count\":1},\"pool\":{\"at\":49152,\"pages\":2},\"schedule\":[\"i0\",\"i0\",\"i0\",\"i0\",\"i0\",\"d0.3\",\"d0.1\",\"i1\",\"d0.0\",\"d0.0\",\"d0.0\",\"i1\",\"i1\"],\"finish\":false}";
+
+const HAND_WITH_STORES_QUEUED_REPORT: &[u8] =
+    b"e i0\nst 0 000000 11\ne i0\nst 0 000040 22\ne i0\now 000000 65 passing 0 1\ne i0\nmark 0 1 4\ne i0\nio 0 mail 0 1\nans 0 2 handed\ne d0.1\ndr 0 000040 22\nown 0 000040 mem 00000000000000000000000000000000000000000000000000000000000000000000000000000000000000000000000000000000000000000000000000000000\ne d0.0\ndr 0 000000 11\nown 0 000000 mem 00000000000000000000000000000000000000000000000000000000000000000000000000000000000000000000000000000000000000000000000000000000\ne d0.0\ndr 0 mark\ne d0.0\ndr 0 mail 0 1\ne i1\now 000000 65 thread 1\nans 1 0 took\ne i1\nwb 0 000000 11000000000000000000000000000000000000000000000000000000000000000000000000000000000000000000000000000000000000000000000000000000\nfill 1 000000 hart 0\nld 1 000000 11\nbuf 0 1100000000000000000000000000000000000000000000000000000000000000000000000000000000000000000000000000000000000000000000000000000022\nend events 11 touches 0\n";
+
+const NOBODY_HANDS: &[u8] =
+    b"{\"version\":1,\"ram\":65536,\"harts\":[{\"mode\":\"S\",\"menvcfg\":4611686018427388144,\"senvcfg\":240,\"script\":[[\"take\",0]]}],\"buffers\":[{\"at\":0,\"len\":1,\"fill\":7,\"step\":0,\"owner\":0}],\"slots\":{\"at\":32768,\"count\":1},\"pool\":{\"at\":49152,\"pages\":2},\"schedule\":[]}";
+
+const NOBODY_HANDS_REPORT: &[u8] = b"buf 0 07\nleft 0 0\nend events 0 touches 0\n";
+
+const FENCE_THEN_LOAD: &[u8] =
+    b"{\"version\":1,\"ram\":65536,\"harts\":[{\"mode\":\"S\",\"menvcfg\":4611686018427388144,\"senvcfg\":240,\"script\":[[\"st\",\"b0\",0,\"01\"],[\"fence\",1,2],[\"ld\",\"b0\",0,1]]}],\"buffers\":[{\"at\":0,\"len\":8,\"fill\":0,\"step\":0,\"owner\":0}],\"slots\":{\"at\":32768,\"count\":1},\"pool\":{\"at\":49152,\"pages\":2},\"schedule\":[\"i0\",\"i0\",\"d0.0\",\"i0\",\"i0\"],\"finish\":false}";
+
+const FENCE_THEN_LOAD_REPORT: &[u8] =
+    b"e i0\nst 0 000000 01\ne d0.0\ndr 0 000000 01\nown 0 000000 mem 00000000000000000000000000000000000000000000000000000000000000000000000000000000000000000000000000000000000000000000000000000000\ne i0\nfence 0 1 2\ne i0\nld 0 000000 01\nbuf 0 0100000000000000\nend events 4 touches 0\n";
+
+const CLEAN_BEHIND_A_STORE: &[u8] =
+    b"{\"version\":1,\"ram\":65536,\"harts\":[{\"mode\":\"S\",\"menvcfg\":4611686018427388144,\"senvcfg\":240,\"script\":[[\"st\",\"b0\",0,\"aa\"],[\"cbo\",\"clean\",0,0]]}],\"buffers\":[{\"at\":0,\"len\":1,\"fill\":0,\"step\":0,\"owner\":0}],\"slots\":{\"at\":32768,\"count\":1},\"pool\":{\"at\":49152,\"pages\":2},\"schedule\":[\"i0\",\"i0\",\"d0.1\",\"d0.0\",\"d0.0\"],\"finish\":false}";
+
+const CLEAN_BEHIND_A_STORE_REPORT: &[u8] =
+    b"e i0\nst 0 000000 aa\ne i0\ncbo 0 clean 000000\ne d0.0\ndr 0 000000 aa\nown 0 000000 mem 00000000000000000000000000000000000000000000000000000000000000000000000000000000000000000000000000000000000000000000000000000000\ne d0.0\ndr 0 clean 000000\nwb 0 000000 aa000000000000000000000000000000000000000000000000000000000000000000000000000000000000000000000000000000000000000000000000000000\nbuf 0 aa\nend events 4 touches 0\n";
+
+const CLEAN_NOT_ENABLED: &[u8] =
+    b"{\"version\":1,\"ram\":65536,\"harts\":[{\"mode\":\"S\",\"menvcfg\":4611686018427388080,\"senvcfg\":240,\"script\":[[\"st\",\"b0\",0,\"aa\"],[\"cbo\",\"clean\",0,0]]}],\"buffers\":[{\"at\":0,\"len\":1,\"fill\":0,\"step\":0,\"owner\":0}],\"slots\":{\"at\":32768,\"count\":1},\"pool\":{\"at\":49152,\"pages\":2},\"schedule\":[\"i0\",\"i0\"],\"finish\":false}";
+
+const CLEAN_NOT_ENABLED_REPORT: &[u8] =
+    b"e i0\nst 0 000000 aa\ne i0\nans 0 1 illegal menvcfg.cbcfe\nbuf 0 00\nend events 2 touches 0\n";
+
+const ENABLES_ZERO_OFF: &[u8] =
+    b"{\"version\":1,\"ram\":65536,\"harts\":[{\"mode\":\"S\",\"menvcfg\":4611686018427388016,\"senvcfg\":240,\"script\":[[\"cbo\",\"zero\",0,0]]}],\"buffers\":[{\"at\":4096,\"len\":64,\"fill\":0,\"step\":0,\"owner\":0}],\"slots\":{\"at\":32768,\"count\":1},\"pool\":{\"at\":49152,\"pages\":2},\"schedule\":[\"i0\"],\"finish\":false}";
+
+const ENABLES_ZERO_OFF_REPORT: &[u8] =
+    b"e i0\nans 0 0 illegal menvcfg.cbze\nbuf 0 00000000000000000000000000000000000000000000000000000000000000000000000000000000000000000000000000000000000000000000000000000000\nend events 1 touches 0\n";
+
+const TYPES_RESERVED_FAULTS: &[u8] =
+    b"{\"version\":1,\"ram\":65536,\"harts\":[{\"mode\":\"S\",\"menvcfg\":4611686018427388144,\"senvcfg\":240,\"script\":[[\"ld\",\"v\",0,1]]}],\"buffers\":[{\"at\":0,\"len\":1,\"fill\":7,\"step\":0,\"owner\":0}],\"slots\":{\"at\":32768,\"count\":1},\"pool\":{\"at\":49152,\"pages\":2},\"schedule\":[\"i0\"],\"finish\":false,\"ptes\":[6917529028177952967]}";
+
+const TYPES_RESERVED_FAULTS_REPORT: &[u8] =
+    b"e i0\nans 0 0 pagefault 00000000 3\nbuf 0 07\nend events 1 touches 0\n";
+
+const TYPES_ALIAS: &[u8] =
+    b"{\"version\":1,\"ram\":65536,\"harts\":[{\"mode\":\"S\",\"menvcfg\":4611686018427388144,\"senvcfg\":240,\"script\":[[\"ld\",\"v\",0,1]]}],\"buffers\":[{\"at\":0,\"len\":1,\"fill\":7,\"step\":0,\"owner\":0}],\"slots\":{\"at\":32768,\"count\":1},\"pool\":{\"at\":49152,\"pages\":2},\"schedule\":[\"i0\"],\"finish\":false,\"ptes\":[2305843009750565063]}";
+
+const TYPES_ALIAS_REPORT: &[u8] =
+    b"e i0\ntouch alias hart 0 000000 1 thread 0\nld 0 000000 07\nbuf 0 07\nend events 1 touches 1\n";
+
+const DISCARD: &[u8] =
+    b"{\"version\":1,\"ram\":65536,\"harts\":[{\"mode\":\"S\",\"menvcfg\":4611686018427388144,\"senvcfg\":240,\"script\":[[\"cbo\",\"inval\",0,0]]}],\"buffers\":[{\"at\":0,\"len\":64,\"fill\":0,\"step\":0,\"owner\":0}],\"slots\":{\"at\":32768,\"count\":1},\"pool\":{\"at\":49152,\"pages\":2},\"schedule\":[\"i0\"],\"finish\":false}";
+
+const DISCARD_REPORT: &[u8] =
+    b"e i0\ntouch discard hart 0 000000 64 thread 0\ncbo 0 inval 000000\nbuf 0 00000000000000000000000000000000000000000000000000000000000000000000000000000000000000000000000000000000000000000000000000000000\nend events 1 touches 1\n";
+
+const ZERO_OF_FOUR_BLOCKS: &[u8] =
+    b"{\"version\":2,\"ram\":65536,\"harts\":[{\"mode\":\"S\",\"menvcfg\":4611686018427388144,\"senvcfg\":240,\"script\":[[\"cbo\",\"zero\",0,40]]}],\"buffers\":[{\"at\":4096,\"len\":128,\"fill\":9,\"step\":0,\"owner\":0}],\"slots\":{\"at\":32768,\"count\":1},\"pool\":{\"at\":49152,\"pages\":2},\"schedule\":[\"i0\",\"i0\",\"i0\",\"i0\"],\"block\":32,\"zero\":128}";
+
+const ZERO_OF_FOUR_BLOCKS_REPORT: &[u8] =
+    b"e i0\ncbo 0 zero 001000\ne i0\ncbo 0 zero 001020\ne i0\ncbo 0 zero 001040\ne i0\ncbo 0 zero 001060\ne d0.0\ndr 0 zero 001000\nown 0 001000 mem 0909090909090909090909090909090909090909090909090909090909090909\ne d0.0\ndr 0 zero 001020\nown 0 001020 mem 0909090909090909090909090909090909090909090909090909090909090909\ne d0.0\ndr 0 zero 001040\nown 0 001040 mem 0909090909090909090909090909090909090909090909090909090909090909\ne d0.0\ndr 0 zero 001060\nown 0 001060 mem 0909090909090909090909090909090909090909090909090909090909090909\nbuf 0 0000000000000000000000000000000000000000000000000000000000000000000000000000000000000000000000000000000000000000000000000000000000000000000000000000000000000000000000000000000000000000000000000000000000000000000000000000000000000000000000000000000000000000\nend events 8 touches 0\n";
+
+const CLAIM_BUSY: &[u8] =
+    b"{\"version\":1,\"ram\":65536,\"harts\":[{\"mode\":\"S\",\"menvcfg\":4611686018427388144,\"senvcfg\":240,\"script\":[[\"claim\",0]]},{\"mode\":\"S\",\"menvcfg\":4611686018427388144,\"senvcfg\":240,\"script\":[[\"claim\",0]]}],\"buffers\":[],\"slots\":{\"at\":32768,\"count\":1},\"pool\":{\"at\":49152,\"pages\":2},\"schedule\":[\"i0\",\"i1\"],\"finish\":false}";
+
+const CLAIM_BUSY_REPORT: &[u8] =
+    b"e i0\nans 0 0 claimed\ne i1\nans 1 0 channelbusy 0\nend events 2 touches 0\n";
+
+const FOREIGN_REGISTER: &[u8] =
+    b"{\"version\":1,\"ram\":65536,\"harts\":[{\"mode\":\"S\",\"menvcfg\":4611686018427388144,\"senvcfg\":240,\"script\":[[\"claim\",0]]},{\"mode\":\"S\",\"menvcfg\":4611686018427388144,\"senvcfg\":240,\"script\":[[\"regr\",0,0,4]]}],\"buffers\":[],\"slots\":{\"at\":32768,\"count\":1},\"pool\":{\"at\":49152,\"pages\":2},\"schedule\":[\"i0\",\"i1\"],\"finish\":false}";
+
+const FOREIGN_REGISTER_REPORT: &[u8] =
+    b"e i0\nans 0 0 claimed\ne i1\ntouch register hart 1 000000 4 thread 0\nans 1 0 value 0000000000000001\nend events 2 touches 1\n";
+
+const BAD_REGISTER: &[u8] =
+    b"{\"version\":1,\"ram\":65536,\"harts\":[{\"mode\":\"S\",\"menvcfg\":4611686018427388144,\"senvcfg\":240,\"script\":[[\"regr\",0,12,4]]}],\"buffers\":[],\"slots\":{\"at\":32768,\"count\":1},\"pool\":{\"at\":49152,\"pages\":2},\"schedule\":[\"i0\"],\"finish\":false}";
+
+const BAD_REGISTER_REPORT: &[u8] = b"e i0\nans 0 0 badmmio 00c 4\nend events 1 touches 0\n";
+
+const DEVICE_FAULT: &[u8] =
+    b"{\"version\":1,\"ram\":65536,\"harts\":[{\"mode\":\"S\",\"menvcfg\":4611686018427388144,\"senvcfg\":240,\"script\":[[\"claim\",0],[\"regs\",0,0,2147491840,64,1711276032],[\"run\",0],[\"poll\",0]]}],\"buffers\":[],\"slots\":{\"at\":32768,\"count\":1},\"pool\":{\"at\":49152,\"pages\":2},\"schedule\":[\"i0\",\"i0\",\"i0\",\"i0\",\"i0\",\"i0\",\"d0.0\",\"d0.0\",\"d0.0\",\"d0.0\",\"d0.0\",\"r0\",\"i0\"],\"finish\":false}";
+
+const DEVICE_FAULT_REPORT: &[u8] =
+    b"e i0\nans 0 0 claimed\ne i0\nio 0 reg 0 004 0000000066000000\ne i0\nio 0 reg 0 008 0000000000000040\ne i0\nio 0 reg 0 010 0000000080002000\ne i0\nio 0 reg 0 018 0000000000000000\nans 0 1 set\ne i0\nio 0 reg 0 000 0000000000000003\nans 0 2 started\ne d0.0\ndr 0 reg 0 004 0000000066000000\ne d0.0\ndr 0 reg 0 008 0000000000000040\ne d0.0\ndr 0 reg 0 010 0000000080002000\ne d0.0\ndr 0 reg 0 018 0000000000000000\ne d0.0\ndr 0 reg 0 000 0000000000000003\ne r0\nce 0 0000000000000000 64\ne i0\nans 0 3 error 80000001\nend events 13 touches 0\n";
+
+#[test]
+fn a_load_sees_the_hart_s_own_queued_store(rt: HostRuntime) -> Result<(), Fail> {
+    compare(&rt, "run", FORWARDING, 0, FORWARDING_REPORT)?;
+    compare(
+        &rt,
+        "run",
+        FORWARDING_FINISHED,
+        0,
+        FORWARDING_FINISHED_REPORT,
+    )?;
+    Ok(())
+}
+
+#[test]
+fn neighbours_share_a_block(rt: HostRuntime) -> Result<(), Fail> {
+    compare(&rt, "run", FALSE_SHARING, 0, FALSE_SHARING_REPORT)?;
+    compare(
+        &rt,
+        "run",
+        COPY_FROM_A_NEIGHBOUR,
+        0,
+        COPY_FROM_A_NEIGHBOUR_REPORT,
+    )?;
+    Ok(())
+}
+
+#[test]
+fn a_hand_passes_a_buffer_behind_its_stores(rt: HostRuntime) -> Result<(), Fail> {
+    compare(
+        &rt,
+        "run",
+        HAND_WITH_STORES_QUEUED,
+        0,
+        HAND_WITH_STORES_QUEUED_REPORT,
+    )?;
+    compare(&rt, "run", NOBODY_HANDS, 7, NOBODY_HANDS_REPORT)?;
+    Ok(())
+}
+
+#[test]
+fn fences_and_cleans_wait_behind_stores(rt: HostRuntime) -> Result<(), Fail> {
+    compare(&rt, "run", FENCE_THEN_LOAD, 0, FENCE_THEN_LOAD_REPORT)?;
+    compare(
+        &rt,
+        "run",
+        CLEAN_BEHIND_A_STORE,
+        0,
+        CLEAN_BEHIND_A_STORE_REPORT,
+    )?;
+    Ok(())
+}
+
+#[test]
+fn operations_that_are_not_enabled_are_illegal(rt: HostRuntime) -> Result<(), Fail> {
+    compare(&rt, "run", CLEAN_NOT_ENABLED, 0, CLEAN_NOT_ENABLED_REPORT)?;
+    compare(&rt, "run", ENABLES_ZERO_OFF, 0, ENABLES_ZERO_OFF_REPORT)?;
+    Ok(())
+}
+
+#[test]
+fn memory_types_fault_and_touch(rt: HostRuntime) -> Result<(), Fail> {
+    compare(
+        &rt,
+        "run",
+        TYPES_RESERVED_FAULTS,
+        0,
+        TYPES_RESERVED_FAULTS_REPORT,
+    )?;
+    compare(&rt, "run", TYPES_ALIAS, 1, TYPES_ALIAS_REPORT)?;
+    compare(&rt, "run", DISCARD, 1, DISCARD_REPORT)?;
+    Ok(())
+}
+
+#[test]
+fn a_wide_zero_is_a_step_a_block(rt: HostRuntime) -> Result<(), Fail> {
+    compare(
+        &rt,
+        "run",
+        ZERO_OF_FOUR_BLOCKS,
+        0,
+        ZERO_OF_FOUR_BLOCKS_REPORT,
+    )?;
+    Ok(())
+}
+
+#[test]
+fn channels_are_claimed_by_one_hart(rt: HostRuntime) -> Result<(), Fail> {
+    compare(&rt, "run", CLAIM_BUSY, 0, CLAIM_BUSY_REPORT)?;
+    compare(&rt, "run", FOREIGN_REGISTER, 1, FOREIGN_REGISTER_REPORT)?;
+    compare(&rt, "run", BAD_REGISTER, 0, BAD_REGISTER_REPORT)?;
+    Ok(())
+}
+
+#[test]
+fn a_channel_meets_an_error_outside_ram(rt: HostRuntime) -> Result<(), Fail> {
+    compare(&rt, "run", DEVICE_FAULT, 0, DEVICE_FAULT_REPORT)?;
+    Ok(())
+}
+
+#[test]
+fn words_and_input_are_refused(rt: HostRuntime) -> Result<(), Fail> {
+    compare(&rt, "fly", b"", 2, b"refused words\n")?;
+    compare(&rt, "run", b"", 3, b"refused json\n")?;
+    compare(&rt, "run", b"{\"version\":1", 3, b"refused json\n")?;
+    compare(&rt, "run", b"[]", 3, b"refused shape .\n")?;
+    compare(
+        &rt,
+        "run",
+        EMPTY_SCRIPT,
+        0,
+        b"buf 0 0708\nend events 0 touches 0\n",
+    )
 }
 
 #[test]

@@ -4,16 +4,20 @@ ghost use Rattle.std.specs.Prelude.{◌≡◌, ◌≢◌, ◌≤◌, ◌⊎◌, 
 ghost use Rattle.std.specs.Io.KnownBytes.{Appends, Keeps};
 ghost use Rattle.nc_io.specs.Causes.{Rose};
 ghost use Rattle.nc_io.specs.Streams.{GrowsByFront};
-ghost use Rattle.nc_world.specs.Flat.{EachRunIsLatest};
-ghost use Rattle.nc_world.specs.Scenario.{reading};
+ghost use Rattle.nc_scen.specs.Reading.{reading};
+ghost use Rattle.nc_rules.specs.Flat.{EachRunIsLatest, EachRunIsKept};
+ghost use Rattle.nc_scen.specs.Accepted.{IsAccepted};
+ghost use Rattle.nc_rules.specs.Built.{IsBuilt};
 ghost use Rattle.nc_top.specs.Due.{due, due_for, is_run, IsAnswer};
 ghost use Rattle.nc_top.specs.Inputs.{HasRead, IsFlat, WroteFront};
 
 use crate::input::{Lost, read_input};
 use crate::run::run_out;
+use nc_flat::{kept_law, latest_law};
 use nc_io::{Sink, Source, Stop, write_all};
-use nc_world::report::refused;
-use nc_world::{ScenFault, latest_law, read};
+use nc_report::refused;
+use nc_scen::{ScenFault, Scenario, read};
+use nc_world::is_built;
 use std::alloc::Global;
 
 /// Whether the words are `run`.
@@ -38,6 +42,25 @@ fn put<K: Sink>(out: &mut K, status: u8, text: &[u8]) -> u8
     }
 }
 
+/// Runs a scenario and writes its report, or refuses it where it is not run yet.
+fn answer_scenario<K: Sink>(alloc: Global, sc: &Scenario, out: &mut K) -> u8
+    requires { IsAccepted sc.now }
+    ensures written { IsAnswer result → (result ≡ (due_for (Ok sc.now)).status) × Appends (K.held out.old) (K.held out.new) (due_for (Ok sc.now)).text }
+    ensures sink { result ≡ 5 → Rose (K.faults out.old) (K.faults out.new) }
+    ensures reads { result ≢ 4 }
+    ensures built { IsAnswer result → result ≢ 3 → IsBuilt sc.now }
+    ensures front { GrowsByFront (K.held out.old) (K.held out.new) (due_for (Ok sc.now)).text }
+{
+    if !is_built(sc) {
+        return put(out, 3, b"refused notbuilt\n");
+    }
+    match run_out(alloc, sc, out) {
+        Ok(status) => status,
+        Err(Stop::Failed) => 5,
+        Err(Stop::NoMemory) => 6,
+    }
+}
+
 /// Answers an input: the report of a scenario, or the line of a refusal.
 fn answer_to<K: Sink>(alloc: Global, bytes: &[u8], out: &mut K) -> u8
     ensures written { IsAnswer result → (result ≡ (due_for (reading bytes.now)).status) × Appends (K.held out.old) (K.held out.new) (due_for (reading bytes.now)).text }
@@ -49,11 +72,8 @@ fn answer_to<K: Sink>(alloc: Global, bytes: &[u8], out: &mut K) -> u8
     match read(alloc, bytes) {
         Ok(sc) => {
             latest_law();
-            match run_out(alloc, &sc, out) {
-                Ok(status) => status,
-                Err(Stop::Failed) => 5,
-                Err(Stop::NoMemory) => 6,
-            }
+            kept_law();
+            answer_scenario(alloc, &sc, out)
         }
         Err(ScenFault::Refused(r)) => match refused(alloc, &r) {
             Ok(text) => put(out, 3, &text),
@@ -93,10 +113,13 @@ pub fn dmasim<S: Source, K: Sink>(
     // Whatever is answered, what was written is a front of what is due.
     ensures front { WroteFront (map string_bytes words.now.items) (S.left src.old) (S.left src.new) (S.ended src.new) (K.held out.old) (K.held out.new) }
 
-    // Every load of every run shows flat memory, those of the reported run among them.
+    // Up to the first touch every load and channel read of every run shows flat memory, and while there is no touch the
+    // bytes of flat memory are kept: in every run of the scenarios that are run, the reported one among them.
     ensures latest { EachRunIsLatest }
+    ensures kept { EachRunIsKept }
 {
     latest_law();
+    kept_law();
     if !is_run(words) {
         return put(out, 2, b"refused words\n");
     }

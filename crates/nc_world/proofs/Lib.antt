@@ -1,8 +1,6 @@
-pub mod Latest
-pub mod Loops
-pub mod Padding
-pub mod Items
-pub mod Seen
+pub mod Transfers
+pub mod Disabled
+pub mod Answered
+pub mod Parts
 pub mod Kept
-pub mod Coming
-pub mod Sizes
+pub mod Shapes

@@ -1,32 +1,24 @@
-//! The written machine and its world: memory, a hart's copies of blocks, its script, and the report of what happens.
+//! The world: one event at a time happens to the machine, to the drivers of its scripts and to the book of owners, and
+//! is recorded.
 //!
-//! The contract for the layer above: `World::step` gives exactly the written state and records, `Sched::next` exactly
-//! the written schedule, and `report` the written lines. `specs/` has the machine that a reader must believe.
+//! The contract for the crates above: contracts see a world as the written machine's state and the records since they
+//! were last taken. It begins as `start`, and `step` leaves the state that `next` says, adds the records that `told`
+//! says, and answers Skipped exactly where `enabled` does not hold (nc_rules). Want of memory leaves all as it was. The
+//! schedule and the report stand above it.
 #![tactic(auto)]
 
-mod events;
-mod json;
-mod laws;
-mod lines;
-mod reading;
+mod acts;
+mod built;
+mod log;
 mod records;
-mod refused;
-pub mod report;
-mod scenario;
-mod sched;
-mod script;
-mod texts;
+mod setup;
+mod steps;
 mod world;
 
-pub use events::{Answer, Event, Origin, Record, Refusal};
-pub use laws::latest_law;
-pub use reading::read;
+pub use built::is_built;
+pub use nc_rules::{Answer, Record, Refusal, ToldAnswer};
+pub use nc_scen::Event;
 pub use records::RecordList;
-pub use refused::{Refused, ScenFault};
-pub use scenario::{
-    BufferSpec, BufferSpecs, Events, HartSpec, HartSpecs, Mode, Op, Ops, Plan, Scenario, Spot,
-};
-pub use sched::Sched;
 pub use world::{Stepped, World};
 
 #[cfg(test)]

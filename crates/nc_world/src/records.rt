@@ -2,7 +2,7 @@
 
 ghost use Rattle.std.specs.Prelude.{◌≡◌};
 
-use crate::events::Record;
+use nc_rules::Record;
 use std::marker::Model;
 
 /// Some records, in order.
@@ -13,7 +13,7 @@ pub struct RecordList {
 
 impl Model for RecordList {
     ghost use Rattle.std.specs.Prelude.{List};
-    ghost use Rattle.nc_world.specs.declared.events.Record.{Record};
+    ghost use Rattle.nc_rules.specs.declared.records.Record.{Record};
 
     ghost Value = { List Record };
 

@@ -1,98 +1,80 @@
-//! What no clause says: a world's records by hand, and the printed forms.
+//! What no clause says: that the calls succeed where there is memory, and a few events whose records were worked by hand.
 
-use crate::report::{event_line, line, refused};
-use crate::{
-    Answer, Event, Record, Refusal, Refused, ScenFault, Sched, Stepped, World, latest_law, read,
-};
-use nc_num::HartNo;
+use crate::{Event, Record, Stepped, World, is_built};
+use nc_model::{Actor, Owner, Touch, TouchKind};
+use nc_num::{Block, Bytes, HartNo, Place, Span};
+use nc_scen::read;
 use std::test::Fail;
 
-/// A load, a load past the buffer, and one of no bytes.
-const LOADS: &[u8] =
-    b"{\"version\":1,\"ram\":4096,\"harts\":[{\"mode\":\"S\",\"menvcfg\":0,\"senvcfg\":0,\"script\":[[\"ld\",\"b0\",0,2],[\"ld\",\"b0\",1,2],[\"ld\",\"b0\",0,0]]}],\"buffers\":[{\"at\":0,\"len\":2,\"fill\":7,\"step\":1,\"owner\":0}],\"schedule\":[],\"limit\":2}";
+/// Hart 0 stores into its own byte, and then loads hart 1's, which is in the same block.
+const OUT_OF_TURN: &[u8] =
+    b"{\"version\":1,\"ram\":4096,\"harts\":[{\"mode\":\"S\",\"menvcfg\":0,\"senvcfg\":0,\"script\":[[\"st\",\"b0\",0,\"11\"],[\"ld\",\"b1\",0,1]]},{\"mode\":\"S\",\"menvcfg\":0,\"senvcfg\":0,\"script\":[]}],\"buffers\":[{\"at\":0,\"len\":1,\"fill\":0,\"step\":0,\"owner\":0},{\"at\":1,\"len\":1,\"fill\":7,\"step\":0,\"owner\":1}],\"schedule\":[]}";
+
+const ZERO: HartNo = HartNo(0);
 
 #[test]
-fn a_world_goes_step_by_step(rt: HostRuntime) -> Result<(), Fail> {
+fn an_access_out_of_turn_is_reported(rt: HostRuntime) -> Result<(), Fail> {
     let alloc = rt.alloc();
-    latest_law();
-    let Ok(sc) = read(alloc, LOADS) else {
+    let Ok(sc) = read(alloc, OUT_OF_TURN) else {
         assert!(rt; false);
         return Ok(());
     };
-    let mut w = World::new(alloc, &sc)?;
-    let issue = Event::Issue(HartNo(0));
-    assert_eq!(rt; w.left(HartNo(0)), Some(0));
-    assert_eq!(rt; w.step(issue)?, Stepped::Done);
-    assert_eq!(rt; w.records().len(), 3);
-    let records = w.take_records();
-    for (entry, text) in records
-        .as_slice()
-        .iter()
-        .zip([b"e i0\n".as_slice(), b"fill", b"ld 0 000000 0708\n"])
-    {
-        assert!(rt; line(alloc, entry)?.starts_with(text));
+    if !is_built(&sc) {
+        assert!(rt; false);
+        return Ok(());
     }
+    let mut w = World::new(alloc, &sc)?;
+    let issue = Event::Issue(ZERO);
     assert_eq!(rt; w.step(issue)?, Stepped::Done);
-    assert_eq!(rt; w.step(issue)?, Stepped::Done);
-    assert_eq!(rt; w.step(issue)?, Stepped::Skipped);
-    let answered = [
+    let stored = [
         Record::Event(issue),
-        Record::Ans {
-            hart: HartNo(0),
-            op: 1,
-            answer: Answer::Refused(Refusal::BadRange),
-        },
-        Record::Event(issue),
-        Record::Ans {
-            hart: HartNo(0),
-            op: 2,
-            answer: Answer::Refused(Refusal::Empty),
+        Record::St {
+            hart: ZERO,
+            at: Place(0),
+            bytes: Bytes::of(&[0x11]),
         },
     ];
-    assert!(rt; w.records() == answered.as_slice());
-    assert_eq!(rt; w.left(HartNo(0)), None);
-    assert_eq!(rt; w.events(), 3);
-    assert_eq!(rt; w.touches(), 0);
+    assert!(rt; w.records() == stored.as_slice());
+    let records = w.take_records();
+    assert_eq!(rt; records.as_slice().len(), 2);
+    assert_eq!(rt; w.step(issue)?, Stepped::Done);
+    assert_eq!(rt; w.records().len(), 4);
+    let touch = Touch {
+        kind: TouchKind::Load,
+        who: Actor::Hart(ZERO),
+        span: Span { at: 1, len: 1 },
+        holder: Owner::Thread(HartNo(1)),
+    };
+    assert!(rt; w.records()[1] == Record::Touched(touch));
+    assert_eq!(rt; w.touches(), 1);
+    assert_eq!(rt; w.left(ZERO), None);
+    assert_eq!(rt; w.step(issue)?, Stepped::Skipped);
+    assert_eq!(rt; w.step(Event::Fill(ZERO, Block(0)))?, Stepped::Skipped);
+    assert_eq!(rt; w.events(), 2);
     Ok(())
 }
 
 #[test]
-fn lines_and_schedules(rt: HostRuntime) -> Result<(), Fail> {
+fn a_world_ends_once_its_queues_are_empty(rt: HostRuntime) -> Result<(), Fail> {
     let alloc = rt.alloc();
-    assert_eq!(rt;
-        event_line(alloc, Event::Drain(HartNo(3), 7))?.as_slice(),
-        b"e d3.7\n".as_slice()
-    );
-    assert_eq!(rt;
-        refused(alloc, &Refused::NotJson)?.as_slice(),
-        b"refused json\n".as_slice()
-    );
-    let answered = Record::Ans {
-        hart: HartNo(0),
-        op: 1,
-        answer: Answer::Refused(Refusal::Empty),
-    };
-    assert_eq!(rt;
-        line(alloc, &answered)?.as_slice(),
-        b"ans 0 1 empty\n".as_slice()
-    );
-    assert!(rt;
-        matches!(
-            read(alloc, b"[]"),
-            Err(ScenFault::Refused(Refused::NotBuilt))
-        )
-    );
-    let Ok(sc) = read(alloc, LOADS) else {
+    let Ok(sc) = read(alloc, OUT_OF_TURN) else {
         assert!(rt; false);
         return Ok(());
     };
-    let w = World::new(alloc, &sc)?;
-    let mut sched = Sched::new(&sc);
-    assert_eq!(rt; sched.next(&sc, &w, None), Some(Event::Issue(HartNo(0))));
-    assert_eq!(rt;
-        sched.next(&sc, &w, Some(Stepped::Skipped)),
-        Some(Event::Drain(HartNo(0), 0))
-    );
-    assert_eq!(rt; sched.next(&sc, &w, Some(Stepped::Skipped)), None);
+    if !is_built(&sc) {
+        assert!(rt; false);
+        return Ok(());
+    }
+    let mut w = World::new(alloc, &sc)?;
+    let issue = Event::Issue(ZERO);
+    assert_eq!(rt; w.left(ZERO), Some(0));
+    assert_eq!(rt; w.step(issue)?, Stepped::Done);
+    assert_eq!(rt; w.step(issue)?, Stepped::Done);
+    assert!(rt; !w.ended());
+    assert_eq!(rt; w.step(Event::Drain(ZERO, 0))?, Stepped::Done);
+    assert!(rt; w.ended());
+    assert_eq!(rt; w.searching(ZERO), None);
+    assert_eq!(rt; w.holder(0), None);
+    assert_eq!(rt; w.harts(), 2);
     Ok(())
 }

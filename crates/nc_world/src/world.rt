@@ -1,216 +1,166 @@
-//! The world of a scenario: memory, the hart's copies, its script, and the records.
+//! The world, and its events.
 
-ghost use Rattle.std.specs.Prelude.{◌≡◌, ◌≤◌, ◌<◌, ◌+◌, ◌*◌, ◌/◌, ◌%◌, ◌++◌, [], ◌∷◌, length, IfOk, OnOk, OnErr, All, IsSome, IfSome, Some, None};
-ghost use Rattle.nc_num.specs.Memory.{splice};
-ghost use Rattle.nc_num.specs.Places.{piece};
-ghost use Rattle.nc_world.specs.Accepted.{FitsIn, IsAccepted, Names, NamesBuffer};
-ghost use Rattle.nc_world.specs.Driver.{in_hand, left_op, range_of, refusal_of, left_of};
-ghost use Rattle.nc_world.specs.Events.{IsThere};
-ghost use Rattle.nc_world.specs.Machine.{pattern, filled, memory, memory_block, script_of, start, bytes_at, line_of};
-ghost use Rattle.nc_world.specs.Next.{next, counted, after_load};
-ghost use Rattle.nc_world.specs.Shown.{answer, MayGoOn, Passes};
-ghost use Rattle.nc_world.specs.Told.{told, load_told, place};
+ghost use Rattle.std.specs.Prelude.{◌≡◌, ◌≤◌, ◌<◌, ◌+◌, ◌%◌, ◌==◌, ◌++◌, [], length, IfOk, OnOk, OnErr};
+ghost use Rattle.std.specs.List.{list_all};
+ghost use Rattle.nc_model.specs.Touches.{piece_touch};
+ghost use Rattle.nc_slots.specs.SlotWords.{holder_of};
+ghost use Rattle.nc_scen.specs.Accepted.{IsAccepted};
+ghost use Rattle.nc_scen.specs.Events.{IsThere};
+ghost use Rattle.nc_rules.specs.Built.{IsBuilt};
+ghost use Rattle.nc_rules.specs.Calls.{leaving};
+ghost use Rattle.nc_rules.specs.Driver.{next_of, left_op, searching, is_script};
+ghost use Rattle.nc_rules.specs.Events.{may_go_on};
+ghost use Rattle.nc_rules.specs.Lines.{at_end};
+ghost use Rattle.nc_rules.specs.MachineLaws.{SameShape};
+ghost use Rattle.nc_rules.specs.Next.{next, step_touch};
+ghost use Rattle.nc_rules.specs.Sound.{IsMachine, OpIsThere, IsBlockIn, IsPieceIn};
+ghost use Rattle.nc_rules.specs.Told.{told};
+ghost use Rattle.nc_rules.specs.View.{bytes_of};
+ghost use Rattle.nc_rules.specs.Watched.{owner_of, issue_touch, op_touch, cbo_touch};
+ghost use Rattle.nc_rules.specs.World.{start, driver_of};
+ghost use Rattle.nc_world.specs.Looks.{is_ended, leaving_touch};
+ghost use Rattle.nc_touch.specs.Looks.{IsSpanIn, span_of, look_touch};
+ghost use Rattle.nc_world.specs.Shown.{answer};
+ghost use Rattle.nc_world.specs.State.{IsWorld};
+ghost use Rattle.nc_world.specs.Steps.{NextFits};
 
-use crate::events::{Answer, Event, Origin, Record, Refusal};
-use crate::lines::{Copies, Line};
+use crate::acts;
+use crate::log::Log;
 use crate::records::RecordList;
-use crate::scenario::{BufferSpec, HartSpec, Op, Scenario, Spot};
-use crate::script::Script;
-use nc_num::{Block, Bytes, HartNo, NoMemory, Place, Span, block_of, first_piece};
-use std::alloc::{AllocError, Global};
+use crate::setup;
+use crate::steps;
+use nc_coherent::PagePool;
+use nc_driver::Driver;
+use nc_env::CboOp;
+use nc_machine::Machine;
+use nc_num::{Block, Bytes, ChanNo, HartNo, MemType, NoMemory, Span};
+use nc_own::{Access, Actor, Book, Touch};
+use nc_plan::HartOp;
+use nc_queue::Entry;
+use nc_rules::{Next, Record};
+use nc_scen::{Event, Scenario};
+use nc_slots::Slots;
+use nc_touch::{Look, hart_touch, register_touch};
+use std::alloc::Global;
 use std::marker::Model;
+
+/// The offset of the register Control, in bytes.
+const CONTROL: u16 = 0;
+
+/// Done or error: bit 30 or bit 31 of Control is set.
+const OVER: u32 = 1 << 30;
 
 /// Whether an event was done.
 #[derive(Clone, Copy, Debug, PartialEq, Eq)]
 pub enum Stepped {
     /// It was done, and has its records.
     Done,
-    /// It was disabled, and changed nothing.
+    /// It could not happen, and changed nothing.
     Skipped,
 }
 
-/// The world of a scenario: memory, the hart's clean copies, its script, the counts, and the records since they were
-/// last taken.
+/// The world of a scenario. Contracts see the written machine's state, and the records since they were last taken.
 #[derive(Drop)]
 pub struct World {
-    block_size: u32,
-    buffers: Vec<BufferSpec>,
-    ram: Vec<u8>,
-    copies: Copies,
-    script: Script,
+    size: u32,
+    pool: Span,
+    machine: Machine,
+    drivers: Vec<Driver>,
+    book: Book,
+    slots: Slots,
+    pages: PagePool,
+    log: Log,
     events: u64,
     touches: u64,
-    records: Vec<Record>,
 }
 
 impl Model for World {
-    ghost use Rattle.nc_world.specs.Shown.{Shown, IsWorld};
+    ghost use Rattle.nc_world.specs.Shown.{Shown};
+    ghost use Rattle.nc_world.specs.State.{state_code, shown_code};
+    ghost use Rattle.nc_machine.specs.contracts.machine.Machine as machine_type;
+    ghost use Rattle.nc_driver.specs.contracts.driver.Driver as driver_type;
+    ghost use Rattle.nc_model.specs.contracts.owners.Owner as owner_type;
+    ghost use Rattle.nc_model.specs.contracts.owners.Grant as grant_type;
+    ghost use Rattle.nc_slots.specs.contracts.slots.Slots as slots_type;
+    ghost use Rattle.nc_coherent.specs.contracts.pages.PagePool as pages_type;
+    ghost use Rattle.nc_rules.specs.contracts.records.Record as record_type;
 
     ghost Value = { Shown };
 
-    ghost view = { λ w. record {
-      at = record {
-        block_size = w.block_size;
-        buffers = w.buffers.items;
-        ram = w.ram.items;
-        lines = w.copies.lines;
-        driver = w.script;
-        events = w.events;
-        touches = w.touches;
-      };
-      records = w.records.items;
-    } };
+    ghost coded = { shown_code (state_code machine_type.the_row.coded driver_type.the_row.coded owner_type.the_row.coded grant_type.the_row.coded slots_type.the_row.coded pages_type.the_row.coded) record_type.the_row.coded };
 
-    ghost invariant = { λ w. IsWorld (record {
-      block_size = w.block_size;
-      buffers = w.buffers.items;
-      ram = w.ram.items;
-      lines = w.copies.lines;
-      driver = w.script;
-      events = w.events;
-      touches = w.touches;
-    }) };
+    ghost use Rattle.nc_world.specs.Inside.{shown, IsSound};
+
+    ghost view = { shown };
+
+    ghost invariant = { IsSound };
 }
 
-// ---- the start
-
-/// The first bytes of a buffer.
-fn pattern(alloc: Global, b: &BufferSpec) -> Result<Vec<u8>, AllocError>
-    ensures { IfOk result (λ v. v.items ≡ pattern b.now) }
-{
-    let fill = u64::from(b.fill);
-    let step = u64::from(b.step);
-    (0..b.span.len)
-        .map(|i| ((fill + u64::from(i) * step) % 256) as u8)
-        .collect(alloc)
-}
-
-/// Writes bytes at a place.
-#[tactic(auto, unfolding(nc_num::specs::Memory::splice))]
-fn put(memory: &mut [u8], at: usize, bytes: &[u8])
-    requires { at + length bytes.now ≤ length memory.old }
-    ensures { memory.new ≡ splice memory.old at bytes.now }
-{
-    memory[at..at + bytes.len()].copy_from_slice(bytes);
-}
-
-/// Writes the first bytes of each buffer.
-fn fill(alloc: Global, memory: &mut [u8], buffers: &[BufferSpec]) -> Result<(), AllocError>
-    requires { All (FitsIn (length memory.old)) buffers.now }
-    ensures { OnOk result (memory.new ≡ filled memory.old buffers.now) }
-{
-    for b in buffers {
-        let bytes = pattern(alloc, b)?;
-        put(memory, b.span.at as usize, &bytes);
-    }
-    Ok(())
-}
-
-/// Memory at the start.
-#[tactic(auto, unfolding(crate::specs::Machine::memory))]
-fn memory_of(alloc: Global, sc: &Scenario) -> Result<Vec<u8>, AllocError>
-    requires { IsAccepted sc.now }
-    ensures { IfOk result (λ v. v.items ≡ memory sc.now) }
-{
-    let mut memory = vec![in alloc; 0; sc.ram as usize]?;
-    fill(alloc, &mut memory, sc.buffers.as_slice())?;
-    Ok(memory)
-}
-
-/// The script of the first hart.
-fn first_script(harts: &[HartSpec]) -> &[Op]
-    ensures { result.now ≡ script_of harts.now }
-{
-    match harts {
-        [] => &[],
-        [first, ..] => first.script.as_slice(),
-    }
-}
-
-// ---- the step of a script
-
-/// The range that a spot names.
-fn range_of(buffers: &[BufferSpec], spot: Spot) -> Span
-    requires { Names (length buffers.now) spot }
-    ensures { result ≡ range_of buffers.now spot }
-{
-    match spot {
-        Spot::Buffer(b) => buffers[usize::from(b)].span,
-    }
-}
-
-/// Why an operation is refused.
-fn refusal_of(buffers: &[BufferSpec], op: Op) -> Option<Refusal>
-    requires { NamesBuffer (length buffers.now) op }
-    ensures { result ≡ refusal_of buffers.now op }
-{
-    match op {
-        Op::Ld { spot, off, len } => {
-            if len == 0 {
-                return Some(Refusal::Empty);
-            }
-            let range = range_of(buffers, spot);
-            if u64::from(off) + u64::from(len) <= u64::from(range.len) {
-                return None;
-            }
-            Some(Refusal::BadRange)
-        }
-    }
-}
-
-// ---- the world
-
-#[tactic(auto, unfolding(crate::specs::Events::enabled, crate::specs::Next::next, crate::specs::Next::performed, crate::specs::Told::told, crate::specs::Told::recorded, crate::specs::Machine::with_copy))]
+#[tactic(auto, unfolding(nc_rules::specs::Events::enabled, nc_rules::specs::Next::next, nc_rules::specs::Next::performed, nc_rules::specs::Next::step_next, nc_rules::specs::Told::told, nc_rules::specs::Told::recorded, nc_rules::specs::Told::step_told))]
 impl World {
-    /// The world at the start of a scenario.
-    #[tactic(auto, unfolding(crate::specs::Machine::start))]
+    // ---- the start
+
+    /// The world at the start of a scenario of those that are run.
+    ///
+    /// # Errors
+    ///
+    /// `NoMemory` where memory runs out.
+    #[tactic(auto, unfolding(nc_rules::specs::World::start))]
     pub fn new(alloc: Global, sc: &Scenario) -> Result<World, NoMemory>
-        requires { IsAccepted sc.now }
-        ensures { IfOk result (λ w. w ≡ record { at = start sc.now; records = [] }) }
+        requires accepted { IsAccepted sc.now }
+        requires built { IsBuilt sc.now }
+        ensures at { IfOk result (λ w. w.at ≡ start sc.now) }
+        ensures records { IfOk result (λ w. w.records ≡ []) }
     {
         Ok(World {
-            block_size: sc.block_size,
-            buffers: Vec::from_slice(alloc, sc.buffers.as_slice())?,
-            ram: memory_of(alloc, sc)?,
-            copies: Copies::new(alloc),
-            script: Script::new(alloc, first_script(sc.harts.as_slice()))?,
+            size: sc.block_size,
+            pool: setup::pool_of(sc),
+            machine: Machine::new(alloc, sc)?,
+            drivers: setup::drivers_of(alloc, sc)?,
+            book: setup::book_of(alloc, sc)?,
+            slots: Slots::new(alloc, sc.slots)?,
+            pages: PagePool::new(alloc, sc.pool_at, sc.pages)?,
+            log: Log::new(alloc),
             events: 0,
             touches: 0,
-            records: Vec::new(alloc),
         })
     }
 
-    /// Makes one event, or skips it where it is disabled. Where memory runs out, nothing has changed.
+    // ---- one event
+
+    /// Makes one event, or skips it where it may not happen. What the event names is there.
+    ///
+    /// # Errors
+    ///
+    /// `NoMemory` where memory runs out; then nothing has changed.
     pub fn step(&mut self, e: Event) -> Result<Stepped, NoMemory>
-        requires there { IsThere 1 self.old.at.block_size (length self.old.at.ram) e }
+        requires there { IsThere (length self.old.at.machine.harts) self.old.at.machine.size (length self.old.at.machine.cache.ram) e }
         ensures answer { IfOk result (λ s. s ≡ answer self.old.at e) }
         ensures next { OnOk result (self.new.at ≡ next self.old.at e) }
         ensures told { OnOk result (self.new.records ≡ self.old.records ++ told self.old.at e) }
+        ensures shape { OnOk result (SameShape self.old.at.machine self.new.at.machine) }
         ensures err { OnErr result (self.new ≡ self.old) }
     {
-        match e {
-            Event::Issue(h) => self.issue(h),
-            Event::Fill(h, b) => self.fill(h, b),
-            Event::Evict(h, b) => self.evict(h, b),
-            Event::Drain(..) | Event::ChanRead(_) | Event::ChanWrite(_) => Ok(Stepped::Skipped),
-        }
+        self.sound();
+        self.make(e)
     }
+
+    // ---- looks
 
     /// The records since they were last taken.
     pub fn records(&self) -> &[Record]
         ensures { result.now ≡ self.now.records }
     {
-        &self.records
+        self.log.as_slice()
     }
 
-    /// Hands the records over, and leaves none.
+    /// Hands the records over, and leaves none. It takes no memory.
     pub fn take_records(&mut self) -> RecordList
         ensures taken { result ≡ self.old.records }
         ensures state { self.new.at ≡ self.old.at }
         ensures none { self.new.records ≡ [] }
     {
-        let empty = Vec::new(*self.records.allocator());
-        RecordList::new(std::mem::replace(&mut self.records, empty))
+        self.log.take()
     }
 
     /// How many events were done.
@@ -227,281 +177,374 @@ impl World {
         self.touches
     }
 
-    /// The number of the operation in hand of a hart's script; none at the script's end.
-    pub fn left(&self, h: HartNo) -> Option<u32>
-        requires { h.0 < 1 }
-        ensures { result ≡ left_op self.now.at.driver }
+    /// The slot word that the search of hart h's driver tries next; None where it is at no search.
+    #[tactic(auto, unfolding(nc_rules::specs::Driver::searching))]
+    pub fn searching(&self, h: HartNo) -> Option<u32>
+        requires { h.0 < length self.now.at.machine.harts }
+        ensures { result ≡ searching (driver_of self.now.at h.0) }
     {
-        let _ = h;
-        self.script.left()
-    }
-
-    /// The bytes of a span in one block inside RAM, as the hart sees them.
-    pub fn bytes(&self, span: Span) -> Bytes
-        requires block { span.at % self.now.at.block_size + span.len ≤ self.now.at.block_size }
-        requires inside { span.at + span.len ≤ length self.now.at.ram }
-        ensures { result ≡ bytes_at self.now.at span.at span.len }
-    {
-        let at = span.at as usize;
-        let len = span.len as usize;
-        match self.copy_of(block_of(Place(span.at), self.block_size)) {
-            None => Bytes::of(&self.ram[at..at + len]),
-            Some(bytes) => {
-                let offset = at % self.block_size as usize;
-                Bytes::of(&bytes.as_slice()[offset..offset + len])
-            }
+        match self.coming(h) {
+            Next::Search(k) => Some(k),
+            _ => None,
         }
     }
 
-    /// The bytes of the copy of a block, where there is one.
-    fn copy_of(&self, block: Block) -> Option<Bytes>
-        ensures value { result ≡ line_of self.now.at.lines block.0 }
-        ensures whole { IfSome result (λ bytes. length bytes ≡ self.now.at.block_size) }
+    /// The number of the operation in hand of hart h's script, counted from 0; None at the script's end.
+    pub fn left(&self, h: HartNo) -> Option<u32>
+        requires { h.0 < length self.now.at.machine.harts }
+        ensures { result ≡ left_op (driver_of self.now.at h.0) }
     {
-        self.copies.of(block)
+        self.drivers[usize::from(h.0)].left()
     }
 
-    /// The start of a span that lies in one block, and the rest of the span.
-    pub fn split(&self, span: Span) -> (Span, Span)
-        requires some { 0 < span.len }
-        requires inside { span.at + span.len ≤ length self.now.at.ram }
-        ensures first { result.0.at ≡ span.at }
-        ensures some { 0 < result.0.len }
-        ensures block { result.0.at % self.now.at.block_size + result.0.len ≤ self.now.at.block_size }
-        ensures rest { result.1.at ≡ span.at + result.0.len }
-        ensures whole { result.0.len + result.1.len ≡ span.len }
+    /// The hart that holds slot word k; None exactly where it is free or not there.
+    pub fn holder(&self, k: u32) -> Option<HartNo>
+        ensures { result ≡ holder_of self.now.at.slots k }
     {
-        let _ = &self.ram;
-        let room = self.block_size - span.at % self.block_size;
-        let len = span.len.min(room);
-        let first = Span { at: span.at, len };
-        let rest = Span {
-            at: span.at + len,
-            len: span.len - len,
-        };
-        (first, rest)
+        self.slots.holder(k)
     }
 
-    /// The operation in hand.
-    fn in_hand(&self) -> Option<Op>
-        ensures value { result ≡ in_hand self.now.at.driver }
-        ensures names { IfSome result (NamesBuffer (length self.now.at.buffers)) }
-        ensures more { IfSome result (MayGoOn self.now.at.driver.done) }
+    /// Whether every script is at its end and every store queue is empty.
+    pub fn ended(&self) -> bool
+        ensures { result ≡ is_ended self.now.at }
     {
-        let _ = &self.buffers;
-        self.script.in_hand()
+        self.at_end() && self.are_empty()
     }
 
-    /// What is left of the range of an operation that is not refused.
-    fn left_of(&self, op: Op) -> Span
-        requires names { NamesBuffer (length self.now.at.buffers) op }
-        requires more { MayGoOn self.now.at.driver.done op }
-        requires good { refusal_of self.now.at.buffers op ≡ None }
-        ensures value { result ≡ left_of self.now.at.buffers self.now.at.driver.done op }
-        ensures some { 0 < result.len }
-        ensures inside { result.at + result.len ≤ length self.now.at.ram }
+    /// The bytes of a span in one block inside RAM: the caches', else memory's.
+    pub fn bytes(&self, span: Span) -> Bytes
+        requires block { span.at % self.now.at.machine.size + span.len ≤ self.now.at.machine.size }
+        requires inside { span.at + span.len ≤ length self.now.at.machine.cache.ram }
+        ensures value { result ≡ bytes_of self.now.at.machine span }
+        ensures len { length result ≡ span.len }
+    {
+        self.machine.bytes(span)
+    }
+
+    /// How many harts there are: a driver, a store queue and a cache for each.
+    pub fn harts(&self) -> u8
+        ensures machine { result ≡ length self.now.at.machine.harts }
+        ensures drivers { result ≡ length self.now.at.drivers }
+        ensures some { 1 ≤ result }
+        ensures few { result ≤ 4 }
+    {
+        acts::sound(&self.machine);
+        self.drivers.len() as u8
+    }
+
+    // ---- what the looks are made of
+
+    /// Whether every script is at its end.
+    fn at_end(&self) -> bool
+        ensures { result ≡ at_end self.now.at }
+    {
+        self.drivers.iter().all(|d| d.left().is_none())
+    }
+
+    /// Whether every store queue is empty.
+    fn are_empty(&self) -> bool
+        ensures { result ≡ list_all (λ h. length h.queue.entries == 0) self.now.at.machine.harts }
+    {
+        acts::are_empty(&self.machine, self.harts())
+    }
+
+    /// What holds of every world.
+    fn sound(&self)
+        ensures machine { IsMachine self.now.at.machine }
+        ensures world { IsWorld self.now.at }
+    {
+        acts::sound(&self.machine);
+    }
+
+    /// What the driver of hart h does next.
+    fn coming(&self, h: HartNo) -> Next
+        requires { h.0 < length self.now.at.machine.harts }
+        ensures next { result ≡ next_of (driver_of self.now.at h.0) }
+        ensures there { NextFits self.now.at.machine h.0 result }
+    {
+        self.sound();
+        self.ahead(h)
+    }
+
+    /// What comes next of the driver of hart h.
+    fn ahead(&self, h: HartNo) -> Next
+        requires { h.0 < length self.now.at.machine.harts }
+        ensures { result ≡ next_of (driver_of self.now.at h.0) }
+    {
+        self.drivers[usize::from(h.0)].next(&self.book)
+    }
+
+    /// The number of the operation in hand of hart h's script.
+    fn number(&self, h: HartNo) -> u32
+        requires { h.0 < length self.now.at.machine.harts }
+        ensures { result ≡ (driver_of self.now.at h.0).op }
+    {
+        self.drivers[usize::from(h.0)].op()
+    }
+
+    /// Whether that operation is made of the script's own accesses, and not of a plan's.
+    fn is_script(&self, h: HartNo) -> bool
+        requires { h.0 < length self.now.at.machine.harts }
+        ensures { result ≡ is_script (driver_of self.now.at h.0).phase }
+    {
+        self.drivers[usize::from(h.0)].is_script()
+    }
+
+    /// The touch that an operation of hart h's driver is.
+    fn issue_touch(&self, h: HartNo, op: &HartOp) -> Option<Touch>
+        requires hart { h.0 < length self.now.at.machine.harts }
+        requires there { OpIsThere self.now.at.machine h.0 op.now }
+        ensures { result ≡ issue_touch self.now.at h (is_script (driver_of self.now.at h.0).phase) op.now }
+    {
+        if self.is_script(h) {
+            self.op_touch(h, op)
+        } else {
+            None
+        }
+    }
+
+    /// The touch that an operation of hart h's script is.
+    #[tactic(auto, unfolding(nc_rules::specs::Watched::op_touch))]
+    fn op_touch(&self, h: HartNo, op: &HartOp) -> Option<Touch>
+        requires there { OpIsThere self.now.at.machine h.0 op.now }
+        ensures { result ≡ op_touch self.now.at h op.now }
     {
         match op {
-            Op::Ld { spot, off, len } => {
-                let range = range_of(&self.buffers, spot);
-                let done = self.script.done();
-                Span {
-                    at: range.at + off + done,
-                    len: len - done,
-                }
+            HartOp::Load { span, kind } => self.piece_touch(h, Access::Read, *span, *kind),
+            HartOp::Store { span, kind, .. } => self.piece_touch(h, Access::Write, *span, *kind),
+            HartOp::Cbo { op, block } => self.cbo_touch(h, *op, *block),
+            HartOp::IoLoad { chan, off, width } => {
+                register_touch(h, *chan, *off, *width, self.machine.grantee(*chan))
             }
+            HartOp::Fence { .. } | HartOp::IoStore(_) | HartOp::Mark { .. } => None,
         }
     }
 
-    /// The bytes of a block in memory.
-    #[tactic(auto, unfolding(nc_num::specs::Memory::span))]
-    fn memory_line(&self, block: Block) -> Line
-        requires { self.now.at.block_size * block.0 + self.now.at.block_size ≤ length self.now.at.ram }
-        ensures block { result.block ≡ block }
-        ensures bytes { result.bytes ≡ memory_block self.now.at block.0 }
-        ensures whole { length result.bytes ≡ self.now.at.block_size }
+    /// The touch that a piece of a script's load or store is.
+    fn piece_touch(&self, h: HartNo, access: Access, span: Span, kind: MemType) -> Option<Touch>
+        requires { IsPieceIn (length self.now.at.machine.cache.ram) span }
+        ensures { result ≡ piece_touch (owner_of self.now.at) self.now.at.grants self.now.at.machine.pool h access span kind }
     {
-        let size = self.block_size as usize;
-        let at = size * block.0 as usize;
-        Line {
-            block,
-            bytes: Bytes::of(&self.ram[at..at + size]),
+        self.sound();
+        let look = Look::Piece { access, span, kind };
+        hart_touch(&self.book, self.pool, h, look)
+    }
+
+    /// The touch that a script's cache operation is, by its effect.
+    fn cbo_touch(&self, h: HartNo, op: CboOp, block: Block) -> Option<Touch>
+        requires { IsBlockIn self.now.at.machine.size (length self.now.at.machine.cache.ram) block.0 }
+        ensures { result ≡ cbo_touch self.now.at h op block.0 }
+    {
+        self.sound();
+        let block = Span {
+            at: self.size * block.0,
+            len: self.size,
+        };
+        match op {
+            CboOp::Clean | CboOp::Flush => None,
+            CboOp::Inval => hart_touch(&self.book, self.pool, h, Look::Discard { block }),
+            CboOp::Zero => hart_touch(&self.book, self.pool, h, Look::Zero { block }),
         }
     }
 
-    /// The place of a block's start.
-    fn start_of(&self, block: Block) -> Place
-        requires { self.now.at.block_size * block.0 + self.now.at.block_size ≤ length self.now.at.ram }
-        ensures { result ≡ place (self.now.at.block_size * block.0) }
+    /// The touch that the drain of entry i of hart h's queue is.
+    fn leaving_touch(&self, h: HartNo, i: u8) -> Option<Touch>
+        requires { h.0 < length self.now.at.machine.harts }
+        ensures { result ≡ leaving_touch self.now.at h (leaving self.now.at.machine h.0 i) }
     {
-        let _ = &self.ram;
-        Place(self.block_size * block.0)
+        match acts::peek(&self.machine, h, i) {
+            Some(Entry::Reg {
+                chan, off, width, ..
+            }) => register_touch(h, chan, off, width, self.machine.grantee(chan)),
+            _ => None,
+        }
     }
 
-    /// A copy of the block comes into the cache, where there is none.
-    fn fill(&mut self, hart: HartNo, block: Block) -> Result<Stepped, NoMemory>
-        requires { self.old.at.block_size * block.0 + self.old.at.block_size ≤ length self.old.at.ram }
-        ensures answer { IfOk result (λ s. s ≡ answer self.old.at (Event.Fill hart block)) }
-        ensures next { OnOk result (self.new.at ≡ next self.old.at (Event.Fill hart block)) }
-        ensures told { OnOk result (self.new.records ≡ self.old.records ++ told self.old.at (Event.Fill hart block)) }
+    // ---- a driver's step
+
+    /// Whether the next step of hart h's driver may be made: an operation that the hart may issue; a claim, a poll and a
+    /// take once no entry of class O is queued, a poll once the transfer is over, and a take once the message is there.
+    fn may_go_on(&self, h: HartNo, next: &Next) -> bool
+        requires hart { h.0 < length self.now.at.machine.harts }
+        requires there { NextFits self.now.at.machine h.0 next.now }
+        ensures { result ≡ may_go_on self.now.at h next.now }
+    {
+        match next {
+            Next::End | Next::Search(_) => false,
+            Next::Start => true,
+            Next::Op(op) => self.machine.can_issue(h, op),
+            Next::Claim(_) => !self.machine.io_waits(h),
+            Next::Poll(c) => !self.machine.io_waits(h) && self.machine.control(*c) >= OVER,
+            Next::Take(b) => !self.machine.io_waits(h) && self.machine.waits(*b) == Some(h),
+        }
+    }
+
+    /// The touch that the next step of hart h's driver is.
+    fn step_touch(&self, h: HartNo, next: &Next) -> Option<Touch>
+        requires hart { h.0 < length self.now.at.machine.harts }
+        requires there { NextFits self.now.at.machine h.0 next.now }
+        ensures { result ≡ step_touch self.now.at h next.now }
+    {
+        match next {
+            Next::Op(op) => self.issue_touch(h, op),
+            Next::Poll(c) => register_touch(h, *c, CONTROL, 4, self.machine.grantee(*c)),
+            _ => None,
+        }
+    }
+
+    /// The event by its kind.
+    fn make(&mut self, e: Event) -> Result<Stepped, NoMemory>
+        requires there { IsThere (length self.old.at.machine.harts) self.old.at.machine.size (length self.old.at.machine.cache.ram) e }
+        ensures answer { IfOk result (λ s. s ≡ answer self.old.at e) }
+        ensures next { OnOk result (self.new.at ≡ next self.old.at e) }
+        ensures told { OnOk result (self.new.records ≡ self.old.records ++ told self.old.at e) }
         ensures err { OnErr result (self.new ≡ self.old) }
     {
-        if self.copies.of(block).is_some() {
+        match e {
+            Event::Issue(h) => self.go_on(h),
+            Event::Try(_) | Event::Told(..) => Ok(Stepped::Skipped),
+            Event::Drain(h, i) => self.drain(h, i),
+            Event::Fill(h, b) => self.fill(h, b),
+            Event::Evict(h, b) => self.evict(h, b),
+            Event::ChanRead(c) => self.chan_read(c),
+            Event::ChanWrite(c) => self.chan_write(c),
+        }
+    }
+
+    /// The driver of hart h goes on, where it may.
+    fn go_on(&mut self, h: HartNo) -> Result<Stepped, NoMemory>
+        requires { h.0 < length self.old.at.machine.harts }
+        ensures answer { IfOk result (λ s. s ≡ answer self.old.at (Event.Issue h)) }
+        ensures next { OnOk result (self.new.at ≡ next self.old.at (Event.Issue h)) }
+        ensures told { OnOk result (self.new.records ≡ self.old.records ++ told self.old.at (Event.Issue h)) }
+        ensures err { OnErr result (self.new ≡ self.old) }
+    {
+        let next = self.coming(h);
+        if !self.may_go_on(h, &next) {
             return Ok(Stepped::Skipped);
         }
-        let line = self.memory_line(block);
-        let filled = Record::Fill {
-            hart,
-            at: self.start_of(block),
-            from: Origin::Mem(line.bytes),
-        };
-        self.copies.reserve()?;
-        self.records
-            .extend_from_slice(&[Record::Event(Event::Fill(hart, block)), filled])?;
-        self.copies.add(&line);
-        self.events = self.events.saturating_add(1);
+        let touch = self.step_touch(h, &next);
+        let n = self.number(h);
+        let by_script = self.is_script(h);
+        let saw = acts::seen(&mut self.machine, h, &next)?;
+        steps::reserve(&mut self.machine, &mut self.book, &mut self.log)?;
+        let moves = steps::go_on(&mut self.drivers, h, &next, saw, &self.book, &self.pages)?;
+        let acted = acts::act(&mut self.machine, h, &next);
+        self.log.push(&Record::Event(Event::Issue(h)));
+        self.log.touch(touch);
+        self.log.acted(self.size, h, by_script, &next, &acted);
+        steps::turn(&mut self.book, moves.transfers.as_slice());
+        self.log.moves(h, n, &moves);
+        self.touches = steps::touches_after(self.touches, touch);
+        self.events = steps::one_more(self.events);
         Ok(Stepped::Done)
     }
 
-    /// The copy of the block goes, where there is one.
-    fn evict(&mut self, hart: HartNo, block: Block) -> Result<Stepped, NoMemory>
-        requires { self.old.at.block_size * block.0 + self.old.at.block_size ≤ length self.old.at.ram }
-        ensures answer { IfOk result (λ s. s ≡ answer self.old.at (Event.Evict hart block)) }
-        ensures next { OnOk result (self.new.at ≡ next self.old.at (Event.Evict hart block)) }
-        ensures told { OnOk result (self.new.records ≡ self.old.records ++ told self.old.at (Event.Evict hart block)) }
-        ensures err { OnErr result (self.new ≡ self.old) }
-    {
-        if self.copies.of(block).is_none() {
-            return Ok(Stepped::Skipped);
-        }
-        let dropped = Record::Drop {
-            hart,
-            at: self.start_of(block),
-        };
-        self.records
-            .extend_from_slice(&[Record::Event(Event::Evict(hart, block)), dropped])?;
-        self.copies.remove(block);
-        self.events = self.events.saturating_add(1);
-        Ok(Stepped::Done)
-    }
+    // ---- the other events
 
-    /// The next step of the script.
-    fn issue(&mut self, hart: HartNo) -> Result<Stepped, NoMemory>
-        ensures answer { IfOk result (λ s. s ≡ answer self.old.at (Event.Issue hart)) }
-        ensures next { OnOk result (self.new.at ≡ next self.old.at (Event.Issue hart)) }
-        ensures told { OnOk result (self.new.records ≡ self.old.records ++ told self.old.at (Event.Issue hart)) }
+    /// Entry i of hart h's queue drains, where it may.
+    fn drain(&mut self, h: HartNo, i: u8) -> Result<Stepped, NoMemory>
+        requires { h.0 < length self.old.at.machine.harts }
+        ensures answer { IfOk result (λ s. s ≡ answer self.old.at (Event.Drain h i)) }
+        ensures next { OnOk result (self.new.at ≡ next self.old.at (Event.Drain h i)) }
+        ensures told { OnOk result (self.new.records ≡ self.old.records ++ told self.old.at (Event.Drain h i)) }
         ensures err { OnErr result (self.new ≡ self.old) }
     {
-        let Some(op) = self.in_hand() else {
+        let touch = self.leaving_touch(h, i);
+        steps::reserve(&mut self.machine, &mut self.book, &mut self.log)?;
+        let Some((e, bus)) = acts::drain(&mut self.machine, h, i) else {
             return Ok(Stepped::Skipped);
         };
-        match refusal_of(&self.buffers, op) {
-            Some(refusal) => self.refuse(hart, op, refusal),
-            None => self.load(hart, op),
-        }
-    }
-
-    /// The operation in hand is answered, and the next one is in hand.
-    fn refuse(&mut self, hart: HartNo, op: Op, refusal: Refusal) -> Result<Stepped, NoMemory>
-        requires hand { in_hand self.old.at.driver ≡ Some op }
-        requires bad { refusal_of self.old.at.buffers op ≡ Some refusal }
-        ensures answer { IfOk result (λ s. s ≡ answer self.old.at (Event.Issue hart)) }
-        ensures next { OnOk result (self.new.at ≡ next self.old.at (Event.Issue hart)) }
-        ensures told { OnOk result (self.new.records ≡ self.old.records ++ told self.old.at (Event.Issue hart)) }
-        ensures err { OnErr result (self.new ≡ self.old) }
-    {
-        let answered = Record::Ans {
-            hart,
-            op: self.script.number(),
-            answer: Answer::Refused(refusal),
-        };
-        self.records
-            .extend_from_slice(&[Record::Event(Event::Issue(hart)), answered])?;
-        self.script.end();
-        self.events = self.events.saturating_add(1);
+        self.log.push(&Record::Event(Event::Drain(h, i)));
+        self.log.touch(touch);
+        self.log.drained(self.size, h, &e);
+        self.log.transfers(self.size, bus.as_slice());
+        self.touches = steps::touches_after(self.touches, touch);
+        self.events = steps::one_more(self.events);
         Ok(Stepped::Done)
     }
 
-    /// Loads the first piece of what is left of the operation in hand, which is not refused.
-    fn load(&mut self, hart: HartNo, op: Op) -> Result<Stepped, NoMemory>
-        requires hand { in_hand self.old.at.driver ≡ Some op }
-        requires good { refusal_of self.old.at.buffers op ≡ None }
-        requires names { NamesBuffer (length self.old.at.buffers) op }
-        requires more { MayGoOn self.old.at.driver.done op }
-        ensures answer { IfOk result (λ s. s ≡ answer self.old.at (Event.Issue hart)) }
-        ensures next { OnOk result (self.new.at ≡ next self.old.at (Event.Issue hart)) }
-        ensures told { OnOk result (self.new.records ≡ self.old.records ++ told self.old.at (Event.Issue hart)) }
+    /// A copy of a block comes to hart h, where it may.
+    fn fill(&mut self, h: HartNo, b: Block) -> Result<Stepped, NoMemory>
+        requires hart { h.0 < length self.old.at.machine.harts }
+        requires block { IsBlockIn self.old.at.machine.size (length self.old.at.machine.cache.ram) b.0 }
+        ensures answer { IfOk result (λ s. s ≡ answer self.old.at (Event.Fill h b)) }
+        ensures next { OnOk result (self.new.at ≡ next self.old.at (Event.Fill h b)) }
+        ensures told { OnOk result (self.new.records ≡ self.old.records ++ told self.old.at (Event.Fill h b)) }
         ensures err { OnErr result (self.new ≡ self.old) }
     {
-        let left = self.left_of(op);
-        let piece = first_piece(left);
-        let block = block_of(Place(piece.at), self.block_size);
-        match self.copies.of(block) {
-            Some(_) => self.load_held(hart, left, piece),
-            None => self.load_missing(hart, left, piece, block),
-        }
-    }
-
-    /// Loads a piece whose block is in the cache.
-    fn load_held(&mut self, hart: HartNo, left: Span, taken: Span) -> Result<Stepped, NoMemory>
-        requires passes { Passes self.old.at.driver taken.len left.len }
-        requires first { taken ≡ piece left }
-        requires in_block { taken.at % self.old.at.block_size + taken.len ≤ self.old.at.block_size }
-        requires inside { taken.at + taken.len ≤ length self.old.at.ram }
-        requires held { IsSome (line_of self.old.at.lines (taken.at / self.old.at.block_size)) }
-        ensures done { IfOk result (λ s. s ≡ Stepped.Done) }
-        ensures next { OnOk result (self.new.at ≡ counted (after_load self.old.at left)) }
-        ensures told { OnOk result (self.new.records ≡ self.old.records ++ Record.Event (Event.Issue hart) ∷ load_told self.old.at hart left) }
-        ensures err { OnErr result (self.new ≡ self.old) }
-    {
-        let loaded = Record::Ld {
-            hart,
-            at: Place(taken.at),
-            bytes: self.bytes(taken),
+        steps::reserve(&mut self.machine, &mut self.book, &mut self.log)?;
+        let Some(bus) = acts::fill(&mut self.machine, h, b) else {
+            return Ok(Stepped::Skipped);
         };
-        self.records
-            .extend_from_slice(&[Record::Event(Event::Issue(hart)), loaded])?;
-        self.script.pass(taken.len, left.len);
-        self.events = self.events.saturating_add(1);
+        self.log.push(&Record::Event(Event::Fill(h, b)));
+        self.log.transfers(self.size, bus.as_slice());
+        self.events = steps::one_more(self.events);
         Ok(Stepped::Done)
     }
 
-    /// Loads a piece whose block comes into the cache for it.
-    fn load_missing(
-        &mut self,
-        hart: HartNo,
-        left: Span,
-        taken: Span,
-        block: Block,
-    ) -> Result<Stepped, NoMemory>
-        requires passes { Passes self.old.at.driver taken.len left.len }
-        requires first { taken ≡ piece left }
-        requires in_block { taken.at % self.old.at.block_size + taken.len ≤ self.old.at.block_size }
-        requires inside { taken.at + taken.len ≤ length self.old.at.ram }
-        requires block { block.0 ≡ taken.at / self.old.at.block_size }
-        requires missing { line_of self.old.at.lines block.0 ≡ None }
-        ensures done { IfOk result (λ s. s ≡ Stepped.Done) }
-        ensures next { OnOk result (self.new.at ≡ counted (after_load self.old.at left)) }
-        ensures told { OnOk result (self.new.records ≡ self.old.records ++ Record.Event (Event.Issue hart) ∷ load_told self.old.at hart left) }
+    /// Hart h gives up its copy of a block, where it has one.
+    fn evict(&mut self, h: HartNo, b: Block) -> Result<Stepped, NoMemory>
+        requires hart { h.0 < length self.old.at.machine.harts }
+        requires block { IsBlockIn self.old.at.machine.size (length self.old.at.machine.cache.ram) b.0 }
+        ensures answer { IfOk result (λ s. s ≡ answer self.old.at (Event.Evict h b)) }
+        ensures next { OnOk result (self.new.at ≡ next self.old.at (Event.Evict h b)) }
+        ensures told { OnOk result (self.new.records ≡ self.old.records ++ told self.old.at (Event.Evict h b)) }
         ensures err { OnErr result (self.new ≡ self.old) }
     {
-        let line = self.memory_line(block);
-        let filled = Record::Fill {
-            hart,
-            at: self.start_of(block),
-            from: Origin::Mem(line.bytes),
+        self.log.reserve()?;
+        let Some(bus) = acts::evict(&mut self.machine, h, b) else {
+            return Ok(Stepped::Skipped);
         };
-        let loaded = Record::Ld {
-            hart,
-            at: Place(taken.at),
-            bytes: self.bytes(taken),
-        };
-        self.copies.reserve()?;
-        self.records
-            .extend_from_slice(&[Record::Event(Event::Issue(hart)), filled, loaded])?;
-        self.copies.add(&line);
-        self.script.pass(taken.len, left.len);
-        self.events = self.events.saturating_add(1);
+        self.log.push(&Record::Event(Event::Evict(h, b)));
+        self.log.transfers(self.size, bus.as_slice());
+        self.events = steps::one_more(self.events);
+        Ok(Stepped::Done)
+    }
+
+    /// A channel reads memory, where it may.
+    #[tactic(auto, using(crate::proofs::Answered::transaction_rules), unfolding(nc_rules::specs::Events::enabled, nc_rules::specs::Next::next, nc_rules::specs::Next::performed, nc_rules::specs::Told::told, nc_rules::specs::Told::recorded))]
+    fn chan_read(&mut self, c: ChanNo) -> Result<Stepped, NoMemory>
+        requires { c.0 < 4 }
+        ensures answer { IfOk result (λ s. s ≡ answer self.old.at (Event.ChanRead c)) }
+        ensures next { OnOk result (self.new.at ≡ next self.old.at (Event.ChanRead c)) }
+        ensures told { OnOk result (self.new.records ≡ self.old.records ++ told self.old.at (Event.ChanRead c)) }
+        ensures err { OnErr result (self.new ≡ self.old) }
+    {
+        self.log.reserve()?;
+        let moved = acts::chan_read(&mut self.machine, c);
+        if steps::is_idle(&moved) {
+            return Ok(Stepped::Skipped);
+        }
+        let touch = steps::transaction_touch(&self.book, c, Access::Read, &moved);
+        self.log.push(&Record::Event(Event::ChanRead(c)));
+        self.log.touch(touch);
+        self.log.chan_read(c, &moved);
+        self.touches = steps::touches_after(self.touches, touch);
+        self.events = steps::one_more(self.events);
+        Ok(Stepped::Done)
+    }
+
+    /// A channel writes memory, where it may.
+    #[tactic(auto, using(crate::proofs::Answered::transaction_rules), unfolding(nc_rules::specs::Events::enabled, nc_rules::specs::Next::next, nc_rules::specs::Next::performed, nc_rules::specs::Told::told, nc_rules::specs::Told::recorded))]
+    fn chan_write(&mut self, c: ChanNo) -> Result<Stepped, NoMemory>
+        requires { c.0 < 4 }
+        ensures answer { IfOk result (λ s. s ≡ answer self.old.at (Event.ChanWrite c)) }
+        ensures next { OnOk result (self.new.at ≡ next self.old.at (Event.ChanWrite c)) }
+        ensures told { OnOk result (self.new.records ≡ self.old.records ++ told self.old.at (Event.ChanWrite c)) }
+        ensures err { OnErr result (self.new ≡ self.old) }
+    {
+        self.log.reserve()?;
+        let moved = acts::chan_write(&mut self.machine, c);
+        if steps::is_idle(&moved) {
+            return Ok(Stepped::Skipped);
+        }
+        let touch = steps::transaction_touch(&self.book, c, Access::Write, &moved);
+        self.log.push(&Record::Event(Event::ChanWrite(c)));
+        self.log.touch(touch);
+        self.log.chan_write(c, &moved);
+        self.touches = steps::touches_after(self.touches, touch);
+        self.events = steps::one_more(self.events);
         Ok(Stepped::Done)
     }
 }

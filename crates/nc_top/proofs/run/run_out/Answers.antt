@@ -1,17 +1,20 @@
 use Rattle.std.proofs.Common.{◌≡◌, ◌≤◌, ◌∙◌, ap, subst, sym, arith, Option, List, ℕ}
 use Rattle.std.proofs.lemmas.Result.{err_from_is_err_and}
 use Rattle.nc_io.specs.Streams.{GrowsByFront}
+use Rattle.nc_world.specs.Shown.{Shown}
 use Rattle.nc_top.proofs.SoFar.{go_start, go_on, go_stopped, go_paused, go_cut, go_done, go_status}
 use Rattle.nc_top.proofs.run.run_out.Goals as goal
 
 pub running-init : goal.running-init
-running-init g c = (go_start (g.K.Sink.held c.args.out.now) c.args.sc.now c.in-Ok.w c.new-sched.result c.requires c.in-Ok.ensures c.new-sched.ensures, omega arith)
+running-init g c =
+    (go_start (g.K.Sink.held c.args.out.now) c.args.sc.now c.in-Ok.w c.new-sched.result c.requires.accepted c.in-Ok.ensures.at c.in-Ok.ensures.records c.new-sched.ensures.whole, omega arith)
 
 pub running-preserved : goal.running-preserved
 running-preserved g c =
     let held = g.K.Sink.held in (
       go_on (held c.args.out.now) (held c.running.out) (held c.step_out.new.out) c.args.sc.now c.running.w c.step_out.new.w c.running.sched c.next.new.self c.running.last c.in_ok-stepped.stepped c.in-Some.e
-          c.in-Some.ensures.event c.in_ok-stepped.ensures.world c.in_ok-stepped.ensures.answer c.in_ok-stepped.ensures.written c.running.invariant.0,
+          c.in-Some.ensures.event (ap (λ (s : Shown). s.at) c.in_ok-stepped.ensures.world) (ap (λ (s : Shown). s.records) c.in_ok-stepped.ensures.world) c.in_ok-stepped.ensures.shape
+          c.in_ok-stepped.ensures.answer c.in_ok-stepped.ensures.written c.running.invariant.0,
       omega (arith, c.running.invariant.1, c.in_ok-stepped.ensures.later),
     )
 

@@ -1,7 +1,4 @@
-use Rattle.std.proofs.Common.{◌≡◌, ◌≤◌, [], length}
-use Rattle.nc_world.specs.Machine.{start}
-use Rattle.nc_world.specs.Schedule.{sched}
-use Rattle.nc_world.specs.Stands.{to_come}
+use Rattle.std.proofs.Common.{◌≤◌}
 use Rattle.nc_top.proofs.SoFar.{Goes}
 use Rattle.nc_top.proofs.run.run_out.Given as goal
 

@@ -1,12 +1,7 @@
-use Rattle.std.proofs.Common.{◌≡◌, length, ap, ◌∙◌, arith}
-use Rattle.nc_world.specs.Machine.{script_of, start}
-use Rattle.nc_world.proofs.Kept.{first_script-fits, start-world}
+use Rattle.nc_world.specs.Inside.{state_of}
+use Rattle.nc_world.proofs.Kept.{kept_first}
 use Rattle.nc_world.proofs.world.World.new.Goals as goal
 
-pub new-requires-2 : goal.new-requires-2
-new-requires-2 c = omega (arith, (first_script-fits c.args.sc.now c.requires).short, ap length (c.first_script.ensures ∙ ap script_of c.as_slice-2.ensures))
-
 pub invariant_of-result : goal.invariant_of-result
-unfolding start
 invariant_of-result c =
-    rw (c.in_ok-from_slice.ensures.items, c.as_slice.ensures, c.in_ok-memory_of.ensures, c.new.ensures, c.in_ok-new.ensures, c.first_script.ensures, c.as_slice-2.ensures) (start-world c.args.sc.now c.requires)
+    kept_first c.args.sc.now _ c.pool_of.result c.requires.accepted c.requires.built c.in_ok-new.ensures c.in_ok-drivers_of.ensures c.in_ok-book_of.ensures.owners c.pool_of.ensures

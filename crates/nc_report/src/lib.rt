@@ -1,0 +1,19 @@
+//! The lines of a report: of events and records, of what stands after them, and of refused input.
+//!
+//! The contract for the layer above: each text is exactly the written one, to the byte, or memory ran out.
+#![tactic(auto)]
+
+mod after;
+mod digits;
+mod faults;
+mod lines;
+mod steps;
+mod words;
+
+pub use after::tail;
+pub use faults::refused;
+pub use lines::{event_line, line};
+pub use steps::step_out;
+
+#[cfg(test)]
+mod tests;

@@ -1,0 +1,54 @@
+//! The lines of one event, written to a sink as it happens.
+
+ghost use Rattle.std.specs.Prelude.{◌≡◌, ◌≤◌, [], ◌⊎◌, length, Err, IfOk, OnOk, OnErr};
+ghost use Rattle.std.specs.Io.KnownBytes.{Appends};
+ghost use Rattle.std.specs.List.{flat_map};
+ghost use Rattle.nc_io.specs.Causes.{Rose};
+ghost use Rattle.nc_io.specs.Streams.{GrowsByFront};
+ghost use Rattle.nc_scen.specs.Events.{IsThere};
+ghost use Rattle.nc_rules.specs.Lines.{line};
+ghost use Rattle.nc_rules.specs.MachineLaws.{SameShape};
+ghost use Rattle.nc_rules.specs.Next.{next};
+ghost use Rattle.nc_rules.specs.Told.{told};
+ghost use Rattle.nc_world.specs.Shown.{answer as stepped};
+
+use crate::lines::lines;
+use nc_io::{Sink, Stop, write_all};
+use nc_scen::Event;
+use nc_world::{Stepped, World};
+use std::alloc::Global;
+
+/// Makes one event, and writes the lines of its records in one piece; the records are dropped.
+///
+/// # Errors
+///
+/// Where it stops, a front of the lines was written. `Failed`: the write failed, and the world is stepped. `NoMemory`:
+/// memory ran out, and the world is stepped or as before.
+pub fn step_out<K: Sink>(
+    alloc: Global,
+    w: &mut World,
+    e: Event,
+    out: &mut K,
+) -> Result<Stepped, Stop>
+    requires there { IsThere (length w.old.at.machine.harts) w.old.at.machine.size (length w.old.at.machine.cache.ram) e }
+    requires none { w.old.records ≡ [] }
+    ensures answer { IfOk result (λ s. s ≡ stepped w.old.at e) }
+    ensures world { OnOk result (w.new ≡ record { at = next w.old.at e; records = [] }) }
+    ensures shape { OnOk result (SameShape w.old.at.machine w.new.at.machine) }
+    ensures written { OnOk result (Appends (K.held out.old) (K.held out.new) (flat_map line (told w.old.at e))) }
+    ensures front { OnErr result (GrowsByFront (K.held out.old) (K.held out.new) (flat_map line (told w.old.at e))) }
+    ensures later { K.faults out.old ≤ K.faults out.new }
+    ensures cause { result ≡ Err Stop.Failed → Rose (K.faults out.old) (K.faults out.new) }
+    ensures failed { result ≡ Err Stop.Failed → w.new ≡ record { at = next w.old.at e; records = [] } }
+    ensures memory { result ≡ Err Stop.NoMemory → (w.new.at ≡ w.old.at) ⊎ (w.new.at ≡ next w.old.at e) }
+{
+    let Ok(stepped) = w.step(e) else {
+        return Err(Stop::NoMemory);
+    };
+    let records = w.take_records();
+    let Ok(text) = lines(alloc, records.as_slice()) else {
+        return Err(Stop::NoMemory);
+    };
+    write_all(out, text.as_bytes())?;
+    Ok(stepped)
+}

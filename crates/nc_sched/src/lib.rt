@@ -1,0 +1,15 @@
+//! The schedule of a scenario: which event is tried next.
+//!
+//! A list of tokens or seeded draws comes first, then finishing rounds where they are wanted, and at most as many
+//! events in all as the limit. The contract for the layer above: `Sched::next` gives, one after another, exactly the
+//! events of the written schedule; and a run that is made again by its done events alone writes the same report.
+#![tactic(auto)]
+
+mod laws;
+mod sched;
+
+pub use laws::replay_law;
+pub use sched::{Phase, Sched};
+
+#[cfg(test)]
+mod tests;

@@ -1,0 +1,155 @@
+-- A call of the machine that answers nothing has changed nothing, and no driver is at a search.
+use Rattle.std.proofs.Common.{◌≡◌, ◌⊎◌, inl, inr, ℕ, ◌<◌, Bool, true, false, List, [], ◌∷◌, length, refl, sym, ap, ◌∙◌, subst, arith}
+use Rattle.std.specs.Prelude.{Option, Some, None, Result, Ok, Err, if◌then◌else◌, slice_index_or, slice_set}
+use Rattle.std.proofs.lemmas.List.{set-get_or}
+use Rattle.nc_cache.specs.declared.line.Line.{Line}
+use Rattle.nc_cache.specs.declared.line.BusRec.{BusRec}
+use Rattle.nc_cache.specs.Cache as caches
+use Rattle.nc_cache.specs.Cache.{Cache, line_at, held_by, holds}
+use Rattle.nc_cache.specs.Bus.{evict_bus, written}
+use Rattle.nc_plan.specs.declared.ops.HartOp.{HartOp}
+use Rattle.nc_pdma.specs.declared.channel.ChanStep.{ChanStep}
+use Rattle.nc_pdma.specs.declared.channel.ChanStep.TheVariants.{Idle}
+use Rattle.nc_pdma.specs.Channel.{ChannelState, new_channel}
+use Rattle.nc_pdma.specs.Steps.{read_next, write_next, ram_after}
+use Rattle.nc_queue.specs.declared.entry.Entry.{Entry}
+use Rattle.nc_scen.specs.declared.ops.Op.{Op}
+use Rattle.nc_rules.specs.declared.answers.Refusal.{Refusal}
+use Rattle.nc_rules.specs.declared.steps.Act.{Act}
+use Rattle.nc_rules.specs.declared.steps.Act.TheVariants as acts
+use Rattle.nc_rules.specs.declared.steps.Next.{Next}
+use Rattle.nc_rules.specs.declared.steps.Next.TheVariants as nexts
+use Rattle.nc_rules.specs.declared.steps.Phase.{Phase}
+use Rattle.nc_rules.specs.declared.steps.Phase.TheVariants.{Steps, Work}
+use Rattle.nc_rules.specs.declared.steps.Step.{Step}
+use Rattle.nc_rules.specs.Calls.{leaving, drain_next, left_with, may_fill, fill_next, fill_answer, evict_next, evict_answer, chan_read_told, chan_read_next, chan_write_told, chan_write_next}
+use Rattle.nc_rules.specs.Driver.{DriverState, in_hand, next_act, next_step, next_rest, next_in, next_of_op, next_of, searched, searching}
+use Rattle.std.specs.Prelude.{is_some}
+use Rattle.nc_num.specs.declared.names.HartNo.{HartNo}
+use Rattle.nc_scen.specs.declared.events.Event.{Event}
+use Rattle.nc_scen.specs.declared.events.Event.TheVariants as events
+use Rattle.nc_rules.specs.declared.records.Record.TheVariants as records
+use Rattle.nc_rules.specs.Events.{enabled}
+use Rattle.nc_rules.specs.Next.{next, counted, performed}
+use Rattle.nc_rules.specs.Told.{told, recorded}
+use Rattle.nc_rules.specs.World.{WorldState, driver_of}
+use Rattle.nc_world.specs.Shown.{answer}
+use Rattle.nc_world.specs.declared.world.Stepped.TheVariants.{Done, Skipped}
+use Rattle.nc_rules.specs.Machine.{MachineState, channel_of, with_cache, with_channel, with_ram}
+use Rattle.nc_rules.specs.Operations.{has_start, step_at}
+
+-- ---- the machine's calls
+
+pub drain_none : (m : MachineState) (h i : ℕ) → leaving m h i ≡ None → drain_next m h i ≡ m
+unfolding drain_next
+drain_none m h i e = ap (left_with m h i) e
+
+pub fill_none : (m : MachineState) (h b : ℕ) → may_fill m h b ≡ false → fill_next m h b ≡ m
+unfolding fill_next
+fill_none m h b e = ap (λ (t : Bool). if t then with_cache m (caches.load m.size m.cache h b) else m) e
+
+evict_line : (s : ℕ) (c : Cache) (h b : ℕ) (o : Option Line) → held_by o h ≡ false → caches.evict_of s c h b o ≡ c
+evict_line s c h b None e = refl
+evict_line s c h b (Some l) e = ap (λ (t : Bool). if t then caches.put c (caches.back s c.ram b l.bytes l.held) b (caches.without h l.bytes l.held) else c) e
+
+pub evict_none : (m : MachineState) (h b : ℕ) → held_by (line_at m.cache b) h ≡ false → evict_next m h b ≡ m
+unfolding evict_next caches.evict
+evict_none m h b e = ap (with_cache m) (evict_line m.size m.cache h b (line_at m.cache b) e)
+
+-- an eviction is answered exactly where the hart holds the block
+held_by_test : (t : Bool) (ts bus : List BusRec) → (if t then Some ts else None) ≡ Some bus → t ≡ true
+held_by_test true ts bus e = refl
+held_by_test false ts bus e = absurd (cc)
+
+held_from : (h b : ℕ) (o : Option Line) (bus : List BusRec) → evict_bus h b o ≡ Some bus → held_by o h ≡ true
+held_from h b None bus e = absurd (cc)
+held_from h b (Some l) bus e = held_by_test (holds l.held h) _ bus e
+
+not_held_by_test : (t : Bool) (ts : List BusRec) → (if t then Some ts else None) ≡ None → t ≡ false
+not_held_by_test true ts e = absurd (cc)
+not_held_by_test false ts e = refl
+
+not_held_from : (h b : ℕ) (o : Option Line) → evict_bus h b o ≡ None → held_by o h ≡ false
+not_held_from h b None e = refl
+not_held_from h b (Some l) e = not_held_by_test (holds l.held h) _ e
+
+pub evict_held : (m : MachineState) (h b : ℕ) (bus : List BusRec) → evict_answer m h b ≡ Some bus → held_by (line_at m.cache b) h ≡ true
+evict_held m h b bus e = held_from h b (line_at m.cache b) bus e
+
+pub evict_not_held : (m : MachineState) (h b : ℕ) → evict_answer m h b ≡ None → held_by (line_at m.cache b) h ≡ false
+evict_not_held m h b e = not_held_from h b (line_at m.cache b) e
+
+pub fill_may : (m : MachineState) (h b : ℕ) (bus : List BusRec) → fill_answer m h b ≡ Some bus → may_fill m h b ≡ true
+fill_may m h b bus e = held_by_test (may_fill m h b) _ bus e
+
+pub fill_may_not : (m : MachineState) (h b : ℕ) → fill_answer m h b ≡ None → may_fill m h b ≡ false
+fill_may_not m h b e = not_held_by_test (may_fill m h b) _ e
+
+set_same : (cs : List ChannelState) (c : ℕ) → slice_set cs c (slice_index_or cs c new_channel) ≡ cs
+set_same cs c = set-get_or cs c new_channel
+
+pub read_idle : (m : MachineState) (c : ℕ) → chan_read_told m c ≡ Idle → chan_read_next m c ≡ m
+unfolding chan_read_next
+read_idle m c e =
+    ap (λ (t : ChanStep). with_channel m c (read_next (channel_of m c) t)) e ∙ ap (λ (cs : List ChannelState). record m { channels = cs }) (set_same m.channels c)
+
+pub write_idle : (m : MachineState) (c : ℕ) → chan_write_told m c ≡ Idle → chan_write_next m c ≡ m
+unfolding chan_write_next
+write_idle m c e =
+    ap (λ (t : ChanStep). with_channel (with_ram m (ram_after m.cache.ram t)) c (write_next (channel_of m c) t)) e ∙ ap (λ (cs : List ChannelState). record m { channels = cs }) (set_same m.channels c)
+
+-- ---- searches
+
+no_act : (a : Act) → searched (next_act a) ≡ None
+no_act (acts.Op op) = refl
+no_act (acts.Claim chan) = refl
+no_act (acts.Poll chan) = refl
+no_act (acts.Take buf) = refl
+
+no_step : (r : Result (Option Step) Refusal) → searched (next_step r) ≡ None
+no_step (Err r) = refl
+no_step (Ok None) = refl
+no_step (Ok (Some s)) = no_act s.act
+
+no_rest : (rest : List Step) → searched (next_rest rest) ≡ None
+no_rest [] = refl
+no_rest (s ∷ rest) = no_act s.act
+
+no_in : (d : DriverState) (o : Op) (p : Phase) → searched (next_in d o p) ≡ None
+no_in d o (Steps n) = elim (has_start o) as (λ t. searched (if t then nexts.Start else next_step (step_at d.fixed o n)) ≡ None) [ true ↦ refl | false ↦ no_step (step_at d.fixed o n) ]
+no_in d o Work = no_rest d.rest
+
+no_op : (d : DriverState) (o : Option Op) → searched (next_of_op d o) ≡ None
+no_op d None = refl
+no_op d (Some o) = no_in d o d.phase
+
+-- no operation that is built searches for a slot
+pub no_search : (d : DriverState) → searching d ≡ None
+unfolding searching next_of
+no_search d = no_op d (in_hand d)
+
+pub try_off : (w : WorldState) (h : HartNo) → enabled w (events.Try h) ≡ false
+unfolding enabled
+try_off w h = ap is_some (no_search (driver_of w h.0))
+
+pub told_off : (w : WorldState) (h : HartNo) (got : Bool) → enabled w (events.Told h got) ≡ false
+unfolding enabled
+told_off w h got = ap is_some (no_search (driver_of w h.0))
+
+-- an event that may not happen
+pub record IsOff (w : WorldState) (e : Event) : Type 0 where
+  pub answer : Skipped ≡ answer w e
+  pub next : w ≡ next w e
+  pub told : told w e ≡ []
+
+pub off : (w : WorldState) (e : Event) → enabled w e ≡ false → IsOff w e
+unfolding next told
+off w e is = record {
+  answer = sym (ap (λ (t : Bool). if t then Done else Skipped) is);
+  next = sym (ap (λ (t : Bool). if t then counted (performed w e) else w) is);
+  told = ap (λ (t : Bool). if t then records.Event e ∷ recorded w e else []) is;
+}
+
+pub search_off : (w : WorldState) (e : Event) → ((h : HartNo) × (e ≡ events.Try h)) ⊎ ((h : HartNo) × (got : Bool) × (e ≡ events.Told h got)) → IsOff w e
+search_off w e (inl p) = subst (IsOff w) (sym p.1) (off w (events.Try p.0) (try_off w p.0))
+search_off w e (inr p) = subst (IsOff w) (sym p.2) (off w (events.Told p.0 p.1) (told_off w p.0 p.1))

@@ -1,6 +1,0 @@
-use Rattle.std.proofs.Common.{rules}
-use Rattle.std.proofs.lemmas.Fn.{filter_same}
-use Rattle.nc_world.proofs.lines.remove_line.Goals as goal
-
-pub returns : goal.returns
-returns c = filter_same _ _ _ (λ x b f' h. search rules) _ _ c.retain.ensures.filtered

@@ -1,0 +1,13 @@
+use Rattle.std.proofs.Common.{◌≡◌, sym, subst}
+use Rattle.nc_rules.specs.MachineLaws.{SameShape}
+use Rattle.nc_rules.specs.Next.{next}
+use Rattle.nc_rules.specs.World.{WorldState}
+use Rattle.nc_world.proofs.Shapes.{next_shape, on_ok}
+use Rattle.nc_world.proofs.world.World.step.Goals as goal
+
+pub returns-clause-shape : goal.returns-clause-shape
+returns-clause-shape c =
+    let w = c.args.self.now.at in
+    let v = c.make.new.self.at in
+    on_ok c.make.result (v ≡ next w c.args.e) (SameShape w.machine v.machine)
+    (λ is. subst (λ (u : WorldState). SameShape w.machine u.machine) (sym is) (next_shape w c.args.e c.sound.ensures.machine c.sound.ensures.world c.requires.there)) c.make.ensures.next

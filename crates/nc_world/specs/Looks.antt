@@ -1,0 +1,48 @@
+-- What is looked up in a world, beside the definitions of nc_rules.
+use Rattle.std.specs.Prelude.{ℕ, ◌+◌, ◌<◌, ◌≤◌, ◌==◌, ◌&&◌, Bool, List, length, Option, Some, None}
+use Rattle.std.specs.List.{list_all}
+use Rattle.nc_num.specs.declared.names.ChanNo.{ChanNo}
+use Rattle.nc_num.specs.declared.names.HartNo.{HartNo}
+use Rattle.nc_num.specs.declared.places.Span.{Span}
+use Rattle.nc_model.specs.declared.touches.Touch.{Touch}
+use Rattle.nc_model.specs.declared.owners.Access.{Access}
+use Rattle.nc_model.specs.declared.owners.Grant.{Grant}
+use Rattle.nc_model.specs.declared.owners.Owner.{Owner}
+use Rattle.nc_model.specs.Touches.{channel_touch}
+use Rattle.nc_own.specs.Books.{owner_in}
+use Rattle.nc_pdma.specs.declared.channel.ChanStep.{ChanStep}
+use Rattle.nc_pdma.specs.declared.channel.ChanStep.TheVariants.{Idle, Moved, Error}
+use Rattle.nc_queue.specs.declared.entry.Entry.{Entry}
+use Rattle.nc_rules.specs.Lines.{at_end}
+use Rattle.nc_rules.specs.Watched.{drain_touch}
+use Rattle.nc_rules.specs.World.{WorldState, one_more}
+
+-- every script is at its end, and every store queue is empty
+abbrev pub is_ended : WorldState → Bool
+is_ended w = at_end w && list_all (λ h. length h.queue.entries == 0) w.machine.harts
+
+-- the touch that the drain of an entry is, where one may drain
+abbrev pub leaving_touch : WorldState → HartNo → Option Entry → Option Touch
+leaving_touch w h None = None
+leaving_touch w h (Some e) = drain_touch w h e
+
+-- one more touch, where there is one
+abbrev pub touches_after : ℕ → Option Touch → ℕ
+touches_after n None = n
+touches_after n (Some t) = one_more n
+
+-- a channel's transaction, over these owners and grants
+abbrev pub transaction_touch_in : List Owner → List Grant → ChanNo → Access → ChanStep → Option Touch
+transaction_touch_in owners grants chan access (Moved span bytes done) = channel_touch (owner_in owners) grants chan access span
+transaction_touch_in owners grants chan access Idle = None
+transaction_touch_in owners grants chan access (Error bus len) = None
+
+-- some bytes of a RAM of this size
+pub record IsSome (ram : ℕ) (span : Span) : Type 0 where
+  pub some : 0 < span.len
+  pub inside : span.at + span.len ≤ ram
+
+abbrev pub IsTransactionIn : ℕ → ChanStep → Type 0
+IsTransactionIn ram (Moved span bytes done) = IsSome ram span
+IsTransactionIn ram Idle = Unit {0}
+IsTransactionIn ram (Error bus len) = Unit {0}

@@ -1,0 +1,214 @@
+//! The machine's calls, with what holds of the machine before them and what they keep of its shape.
+
+ghost use Rattle.std.specs.Prelude.{◌≡◌, ◌≤◌, ◌<◌, ◌==◌, true, false, length, All, IsTrue, IfOk, IfNone, IfSome, Some, None};
+ghost use Rattle.std.specs.List.{list_all};
+ghost use Rattle.nc_cache.specs.Cache.{line_at, held_by};
+ghost use Rattle.nc_rules.specs.Calls.{may_issue, issue_answer, leaving, drain_next, drain_transfers, may_fill, fill_next, fill_answer, evict_next, evict_answer, chan_read_next, chan_read_told, chan_write_next, chan_write_told};
+ghost use Rattle.nc_rules.specs.Events.{is_idle_step};
+ghost use Rattle.nc_rules.specs.MachineLaws.{SameShape};
+ghost use Rattle.nc_rules.specs.Next.{seen_of, step_seen, step_machine};
+ghost use Rattle.nc_rules.specs.Sound.{IsMachine, IsBlockIn, EntryIsThere};
+ghost use Rattle.nc_world.specs.Logs.{HasPlace, EntryHasPlace};
+ghost use Rattle.nc_world.specs.Looks.{IsTransactionIn};
+ghost use Rattle.nc_world.specs.Steps.{OpFits, NextFits, CanAct, acted, ActedHasPlaces};
+
+use nc_cache::BusList;
+use nc_machine::{Issued, Machine};
+use nc_num::{Block, ChanNo, HartNo, NoMemory};
+use nc_pdma::ChanStep;
+use nc_plan::HartOp;
+use nc_queue::Entry;
+use nc_rules::{Next, Seen, calls_keep_shape};
+
+/// What holds of every machine.
+pub(crate) fn sound(machine: &Machine)
+    ensures { IsMachine machine.now.machine }
+{
+    let _control = machine.control(ChanNo(0));
+}
+
+// ---- a driver's step
+
+/// What hart h's next step sees: what a register holds, whom a channel is granted to, or Control. The machine stays as it
+/// is.
+pub(crate) fn seen(machine: &mut Machine, h: HartNo, next: &Next) -> Result<Seen, NoMemory>
+    requires hart { h.0 < length machine.old.machine.harts }
+    requires there { NextFits machine.old.machine h.0 next.now }
+    requires can { CanAct machine.old.machine h.0 next.now }
+    ensures saw { IfOk result (λ s. s ≡ step_seen machine.old.machine h next.now) }
+    ensures same { machine.new.machine ≡ machine.old.machine }
+{
+    match next {
+        Next::Op(op) => seen_by(machine, h, op),
+        Next::Claim(chan) => Ok(match machine.grantee(*chan) {
+            None => Seen::Claimed,
+            Some(g) => Seen::Busy(g),
+        }),
+        Next::Poll(chan) => Ok(Seen::Control(machine.control(*chan))),
+        Next::End | Next::Start | Next::Search(_) | Next::Take(_) => Ok(Seen::Nothing),
+    }
+}
+
+/// What a hart's operation shows its driver.
+#[tactic(auto, unfolding(nc_rules::specs::Calls::issue_next))]
+fn seen_by(machine: &mut Machine, h: HartNo, op: &HartOp) -> Result<Seen, NoMemory>
+    requires hart { h.0 < length machine.old.machine.harts }
+    requires there { OpFits machine.old.machine h.0 op.now }
+    requires can { IsTrue (may_issue machine.old.machine h.0 op.now) }
+    ensures saw { IfOk result (λ s. s ≡ seen_of (issue_answer machine.old.machine h.0 op.now)) }
+    ensures same { machine.new.machine ≡ machine.old.machine }
+{
+    match op {
+        HartOp::IoLoad { chan, off, width } => {
+            machine.reserve()?;
+            let load = HartOp::IoLoad {
+                chan: *chan,
+                off: *off,
+                width: *width,
+            };
+            match machine.issue(h, load) {
+                Issued::Value(value) => Ok(Seen::Value(value)),
+                _ => unreachable!(),
+            }
+        }
+        HartOp::Load { .. }
+        | HartOp::Store { .. }
+        | HartOp::Cbo { .. }
+        | HartOp::Fence { .. }
+        | HartOp::IoStore(_)
+        | HartOp::Mark { .. } => Ok(Seen::Nothing),
+    }
+}
+
+/// The machine's part of a step that hart h's driver makes: an operation, a claim or a take, with the answer of an
+/// operation.
+pub(crate) fn act(machine: &mut Machine, h: HartNo, next: &Next) -> Option<Issued>
+    requires hart { h.0 < length machine.old.machine.harts }
+    requires there { NextFits machine.old.machine h.0 next.now }
+    requires can { CanAct machine.old.machine h.0 next.now }
+    requires spare { 1 ≤ machine.old.spare }
+    ensures state { machine.new.machine ≡ step_machine machine.old.machine h next.now }
+    ensures answer { result ≡ acted machine.old.machine h next.now }
+    ensures places { ActedHasPlaces machine.old.machine.size result }
+    ensures shape { SameShape machine.old.machine machine.new.machine }
+{
+    calls_keep_shape();
+    sound(machine);
+    match next {
+        Next::Op(op) => Some(machine.issue(h, *op)),
+        Next::Claim(chan) => {
+            let _ = machine.claim(h, *chan);
+            None
+        }
+        Next::Take(buf) => {
+            machine.take(h, *buf);
+            None
+        }
+        Next::End | Next::Start | Next::Search(_) | Next::Poll(_) => None,
+    }
+}
+
+// ---- the other events
+
+/// The entry that may leave hart h's queue as entry i.
+pub(crate) fn peek(machine: &Machine, h: HartNo, i: u8) -> Option<Entry>
+    requires { h.0 < length machine.now.machine.harts }
+    ensures entry { result ≡ leaving machine.now.machine h.0 i }
+    ensures there { IfSome result (EntryIsThere machine.now.machine) }
+{
+    machine.peek(h, i)
+}
+
+/// Entry i of hart h's queue leaves it, where it may.
+pub(crate) fn drain(machine: &mut Machine, h: HartNo, i: u8) -> Option<(Entry, BusList)>
+    requires hart { h.0 < length machine.old.machine.harts }
+    requires spare { 1 ≤ machine.old.spare }
+    ensures state { machine.new.machine ≡ drain_next machine.old.machine h.0 i }
+    ensures entry { IfSome result (λ p. leaving machine.old.machine h.0 i ≡ Some p.0) }
+    ensures bus { IfSome result (λ p. p.1 ≡ drain_transfers machine.old.machine h.0 p.0) }
+    ensures place { IfSome result (λ p. EntryHasPlace machine.old.machine.size p.0) }
+    ensures places { IfSome result (λ p. All (HasPlace machine.old.machine.size) p.1) }
+    ensures none { IfNone result (leaving machine.old.machine h.0 i ≡ None) }
+    ensures same { IfNone result (machine.new.machine ≡ machine.old.machine) }
+    ensures shape { SameShape machine.old.machine machine.new.machine }
+{
+    calls_keep_shape();
+    sound(machine);
+    machine.drain(h, i)
+}
+
+/// A copy of a block comes to hart h, where it may.
+pub(crate) fn fill(machine: &mut Machine, h: HartNo, b: Block) -> Option<BusList>
+    requires hart { h.0 < length machine.old.machine.harts }
+    requires block { IsBlockIn machine.old.machine.size (length machine.old.machine.cache.ram) b.0 }
+    requires spare { 1 ≤ machine.old.spare }
+    ensures state { machine.new.machine ≡ fill_next machine.old.machine h.0 b.0 }
+    ensures bus { IfSome result (λ bus. fill_answer machine.old.machine h.0 b.0 ≡ Some bus) }
+    ensures may { IfSome result (λ bus. may_fill machine.old.machine h.0 b.0 ≡ true) }
+    ensures places { IfSome result (λ bus. All (HasPlace machine.old.machine.size) bus) }
+    ensures none { IfNone result (may_fill machine.old.machine h.0 b.0 ≡ false) }
+    ensures same { IfNone result (machine.new.machine ≡ machine.old.machine) }
+    ensures shape { SameShape machine.old.machine machine.new.machine }
+{
+    calls_keep_shape();
+    sound(machine);
+    machine.fill(h, b)
+}
+
+/// Hart h gives up its copy of a block, where it has one.
+pub(crate) fn evict(machine: &mut Machine, h: HartNo, b: Block) -> Option<BusList>
+    requires hart { h.0 < length machine.old.machine.harts }
+    requires block { IsBlockIn machine.old.machine.size (length machine.old.machine.cache.ram) b.0 }
+    ensures state { machine.new.machine ≡ evict_next machine.old.machine h.0 b.0 }
+    ensures bus { IfSome result (λ bus. evict_answer machine.old.machine h.0 b.0 ≡ Some bus) }
+    ensures held { IfSome result (λ bus. held_by (line_at machine.old.machine.cache b.0) h.0 ≡ true) }
+    ensures places { IfSome result (λ bus. All (HasPlace machine.old.machine.size) bus) }
+    ensures none { IfNone result (held_by (line_at machine.old.machine.cache b.0) h.0 ≡ false) }
+    ensures same { IfNone result (machine.new.machine ≡ machine.old.machine) }
+    ensures shape { SameShape machine.old.machine machine.new.machine }
+{
+    calls_keep_shape();
+    sound(machine);
+    machine.evict(h, b)
+}
+
+/// A channel reads memory, where it may.
+pub(crate) fn chan_read(machine: &mut Machine, c: ChanNo) -> ChanStep
+    requires { c.0 < 4 }
+    ensures state { machine.new.machine ≡ chan_read_next machine.old.machine c.0 }
+    ensures told { result ≡ chan_read_told machine.old.machine c.0 }
+    ensures inside { IsTransactionIn (length machine.old.machine.cache.ram) result }
+    ensures same { IsTrue (is_idle_step result) → machine.new.machine ≡ machine.old.machine }
+    ensures shape { SameShape machine.old.machine machine.new.machine }
+{
+    calls_keep_shape();
+    sound(machine);
+    machine.chan_read(c)
+}
+
+/// A channel writes memory, where it may.
+pub(crate) fn chan_write(machine: &mut Machine, c: ChanNo) -> ChanStep
+    requires { c.0 < 4 }
+    ensures state { machine.new.machine ≡ chan_write_next machine.old.machine c.0 }
+    ensures told { result ≡ chan_write_told machine.old.machine c.0 }
+    ensures inside { IsTransactionIn (length machine.old.machine.cache.ram) result }
+    ensures same { IsTrue (is_idle_step result) → machine.new.machine ≡ machine.old.machine }
+    ensures shape { SameShape machine.old.machine machine.new.machine }
+{
+    calls_keep_shape();
+    sound(machine);
+    machine.chan_write(c)
+}
+
+/// Whether each store queue is empty.
+pub(crate) fn are_empty(machine: &Machine, harts: u8) -> bool
+    requires { harts ≡ length machine.now.machine.harts }
+    ensures { result ≡ list_all (λ s. length s.queue.entries == 0) machine.now.machine.harts }
+{
+    for h in 0..harts {
+        if machine.queued(HartNo(h)) != 0 {
+            return false;
+        }
+    }
+    true
+}
