@@ -237,6 +237,62 @@ fn a_channel_meets_an_error_outside_ram(rt: HostRuntime) -> Result<(), Fail> {
     Ok(())
 }
 
+const UNMAPPED_TRANSFER: &[u8] =
+    b"{\"version\":1,\"ram\":65536,\"harts\":[{\"mode\":\"S\",\"menvcfg\":4611686018427388144,\"senvcfg\":240,\"script\":[[\"claim\",0],[\"regs\",0,2147487744,2147491840,64,1711276032],[\"run\",0]]}],\"buffers\":[{\"at\":4096,\"len\":64,\"fill\":17,\"step\":0,\"owner\":0},{\"at\":8192,\"len\":64,\"fill\":34,\"step\":0,\"owner\":0}],\"slots\":{\"at\":32768,\"count\":1},\"pool\":{\"at\":49152,\"pages\":2},\"schedule\":[\"i0\",\"i0\",\"i0\",\"i0\",\"i0\",\"i0\",\"d0.0\",\"d0.0\",\"d0.0\",\"d0.0\",\"d0.0\",\"r0\",\"w0\"],\"finish\":false}";
+
+const UNMAPPED_TRANSFER_REPORT: &[u8] =
+    b"e i0\nans 0 0 claimed\ne i0\nio 0 reg 0 004 0000000066000000\ne i0\nio 0 reg 0 008 0000000000000040\ne i0\nio 0 reg 0 010 0000000080002000\ne i0\nio 0 reg 0 018 0000000080001000\nans 0 1 set\ne i0\nio 0 reg 0 000 0000000000000003\nans 0 2 started\ne d0.0\ndr 0 reg 0 004 0000000066000000\ne d0.0\ndr 0 reg 0 008 0000000000000040\ne d0.0\ndr 0 reg 0 010 0000000080002000\ne d0.0\ndr 0 reg 0 018 0000000080001000\ne d0.0\ndr 0 reg 0 000 0000000000000003\ne r0\ntouch channel chan 0 001000 64 thread 0\ncr 0 001000 11111111111111111111111111111111111111111111111111111111111111111111111111111111111111111111111111111111111111111111111111111111\ne w0\ntouch channel chan 0 002000 64 thread 0\ncw 0 002000 11111111111111111111111111111111111111111111111111111111111111111111111111111111111111111111111111111111111111111111111111111111\ncd 0\nbuf 0 11111111111111111111111111111111111111111111111111111111111111111111111111111111111111111111111111111111111111111111111111111111\nbuf 1 11111111111111111111111111111111111111111111111111111111111111111111111111111111111111111111111111111111111111111111111111111111\nend events 13 touches 2\n";
+
+const REPEATED_TRANSFER: &[u8] =
+    b"{\"version\":1,\"ram\":65536,\"harts\":[{\"mode\":\"S\",\"menvcfg\":4611686018427388144,\"senvcfg\":240,\"script\":[[\"claim\",0],[\"regs\",0,2147483652,2147483904,8,855638028],[\"run\",0],[\"regr\",0,264,8]]}],\"buffers\":[],\"slots\":{\"at\":32768,\"count\":1},\"pool\":{\"at\":49152,\"pages\":2},\"schedule\":[\"i0\",\"i0\",\"i0\",\"i0\",\"i0\",\"i0\",\"d0.0\",\"d0.0\",\"d0.0\",\"d0.0\",\"d0.0\",\"r0\",\"r0\",\"w0\",\"r0\",\"w0\",\"i0\"],\"finish\":false}";
+
+const REPEATED_TRANSFER_REPORT: &[u8] =
+    b"e i0\nans 0 0 claimed\ne i0\nio 0 reg 0 004 000000003300000c\ne i0\nio 0 reg 0 008 0000000000000008\ne i0\nio 0 reg 0 010 0000000080000100\ne i0\nio 0 reg 0 018 0000000080000004\nans 0 1 set\ne i0\nio 0 reg 0 000 0000000000000003\nans 0 2 started\ne d0.0\ndr 0 reg 0 004 000000003300000c\ne d0.0\ndr 0 reg 0 008 0000000000000008\ne d0.0\ndr 0 reg 0 010 0000000080000100\ne d0.0\ndr 0 reg 0 018 0000000080000004\ne d0.0\ndr 0 reg 0 000 0000000000000003\ne r0\ntouch channel chan 0 000004 4 pool\ncr 0 000004 00000000\ne w0\ntouch channel chan 0 000100 4 pool\ncw 0 000100 00000000\ne r0\ntouch channel chan 0 000008 4 pool\ncr 0 000008 00000000\ne w0\ntouch channel chan 0 000104 4 pool\ncw 0 000104 00000000\ncd 0\ne i0\nans 0 3 value 0000000000000008\nend events 16 touches 4\n";
+
+const FREE_DURING_A_RUN: &[u8] =
+    b"{\"version\":1,\"ram\":65536,\"harts\":[{\"mode\":\"S\",\"menvcfg\":4611686018427388144,\"senvcfg\":240,\"script\":[[\"claim\",0],[\"regs\",0,2147487744,2147491840,64,0],[\"run\",0],[\"free\",0],[\"regr\",0,0,4],[\"free\",0],[\"regr\",0,0,4]]}],\"buffers\":[],\"slots\":{\"at\":32768,\"count\":1},\"pool\":{\"at\":49152,\"pages\":2},\"schedule\":[\"i0\",\"i0\",\"i0\",\"i0\",\"i0\",\"i0\",\"d0.0\",\"d0.0\",\"d0.0\",\"d0.0\",\"d0.0\",\"r0\",\"i0\",\"i0\",\"d0.0\",\"r0\",\"i0\",\"i0\",\"d0.0\",\"i0\"],\"finish\":false}";
+
+const FREE_DURING_A_RUN_REPORT: &[u8] =
+    b"e i0\nans 0 0 claimed\ne i0\nio 0 reg 0 004 0000000000000000\ne i0\nio 0 reg 0 008 0000000000000040\ne i0\nio 0 reg 0 010 0000000080002000\ne i0\nio 0 reg 0 018 0000000080001000\nans 0 1 set\ne i0\nio 0 reg 0 000 0000000000000003\nans 0 2 started\ne d0.0\ndr 0 reg 0 004 0000000000000000\ne d0.0\ndr 0 reg 0 008 0000000000000040\ne d0.0\ndr 0 reg 0 010 0000000080002000\ne d0.0\ndr 0 reg 0 018 0000000080001000\ne d0.0\ndr 0 reg 0 000 0000000000000003\ne r0\ntouch channel chan 0 001000 1 pool\ncr 0 001000 00\ne i0\nio 0 reg 0 000 0000000000000000\nans 0 3 released\ne d0.0\ndr 0 reg 0 000 0000000000000000\ne i0\nans 0 4 value 0000000000000001\ne i0\nio 0 reg 0 000 0000000000000000\nans 0 5 released\ne d0.0\ndr 0 reg 0 000 0000000000000000\ne i0\nans 0 6 value 0000000000000000\nend events 18 touches 1\n";
+
+const REGISTERS_READ_BACK: &[u8] =
+    b"{\"version\":1,\"ram\":65536,\"harts\":[{\"mode\":\"S\",\"menvcfg\":4611686018427388144,\"senvcfg\":240,\"script\":[[\"claim\",0],[\"regs\",0,2147487744,2147491840,64,1711276032],[\"run\",0],[\"regr\",0,0,4],[\"regr\",0,4,4],[\"regr\",0,8,8],[\"regr\",0,16,8],[\"regr\",0,24,8],[\"regr\",0,260,4],[\"regr\",0,264,8],[\"regr\",0,272,8],[\"regr\",0,280,8]]}],\"buffers\":[],\"slots\":{\"at\":32768,\"count\":1},\"pool\":{\"at\":49152,\"pages\":2},\"schedule\":[\"i0\",\"i0\",\"i0\",\"i0\",\"i0\",\"i0\",\"d0.0\",\"d0.0\",\"d0.0\",\"d0.0\",\"d0.0\",\"i0\",\"i0\",\"i0\",\"i0\",\"i0\",\"i0\",\"i0\",\"i0\",\"i0\"],\"finish\":false}";
+
+const REGISTERS_READ_BACK_REPORT: &[u8] =
+    b"e i0\nans 0 0 claimed\ne i0\nio 0 reg 0 004 0000000066000000\ne i0\nio 0 reg 0 008 0000000000000040\ne i0\nio 0 reg 0 010 0000000080002000\ne i0\nio 0 reg 0 018 0000000080001000\nans 0 1 set\ne i0\nio 0 reg 0 000 0000000000000003\nans 0 2 started\ne d0.0\ndr 0 reg 0 004 0000000066000000\ne d0.0\ndr 0 reg 0 008 0000000000000040\ne d0.0\ndr 0 reg 0 010 0000000080002000\ne d0.0\ndr 0 reg 0 018 0000000080001000\ne d0.0\ndr 0 reg 0 000 0000000000000003\ne i0\nans 0 3 value 0000000000000003\ne i0\nans 0 4 value 0000000066000000\ne i0\nans 0 5 value 0000000000000040\ne i0\nans 0 6 value 0000000080002000\ne i0\nans 0 7 value 0000000080001000\ne i0\nans 0 8 value 0000000066000000\ne i0\nans 0 9 value 0000000000000040\ne i0\nans 0 10 value 0000000080002000\ne i0\nans 0 11 value 0000000080001000\nend events 20 touches 0\n";
+
+const FOREIGN_POLL: &[u8] =
+    b"{\"version\":1,\"ram\":65536,\"harts\":[{\"mode\":\"S\",\"menvcfg\":4611686018427388144,\"senvcfg\":240,\"script\":[[\"claim\",0],[\"regs\",0,2147483648,2147483648,0,0],[\"run\",0]]},{\"mode\":\"S\",\"menvcfg\":4611686018427388144,\"senvcfg\":240,\"script\":[[\"poll\",0]]}],\"buffers\":[],\"slots\":{\"at\":32768,\"count\":1},\"pool\":{\"at\":49152,\"pages\":2},\"schedule\":[\"i1\",\"i0\",\"i0\",\"i0\",\"i0\",\"i0\",\"i0\",\"d0.0\",\"d0.0\",\"d0.0\",\"d0.0\",\"d0.0\",\"i1\"],\"finish\":false}";
+
+const FOREIGN_POLL_REPORT: &[u8] =
+    b"e i0\nans 0 0 claimed\ne i0\nio 0 reg 0 004 0000000000000000\ne i0\nio 0 reg 0 008 0000000000000000\ne i0\nio 0 reg 0 010 0000000080000000\ne i0\nio 0 reg 0 018 0000000080000000\nans 0 1 set\ne i0\nio 0 reg 0 000 0000000000000003\nans 0 2 started\ne d0.0\ndr 0 reg 0 004 0000000000000000\ne d0.0\ndr 0 reg 0 008 0000000000000000\ne d0.0\ndr 0 reg 0 010 0000000080000000\ne d0.0\ndr 0 reg 0 018 0000000080000000\ne d0.0\ndr 0 reg 0 000 0000000000000003\ne i1\ntouch register hart 1 000000 4 thread 0\nans 1 0 done 40000001\nend events 12 touches 1\n";
+
+#[test]
+fn a_transfer_that_nobody_mapped_is_a_touch(rt: HostRuntime) -> Result<(), Fail> {
+    compare(&rt, "run", UNMAPPED_TRANSFER, 1, UNMAPPED_TRANSFER_REPORT)?;
+    compare(&rt, "run", REPEATED_TRANSFER, 1, REPEATED_TRANSFER_REPORT)?;
+    Ok(())
+}
+
+#[test]
+fn a_free_stops_a_transfer_and_then_lets_go(rt: HostRuntime) -> Result<(), Fail> {
+    compare(&rt, "run", FREE_DURING_A_RUN, 1, FREE_DURING_A_RUN_REPORT)?;
+    Ok(())
+}
+
+#[test]
+fn registers_are_read_back_and_polled(rt: HostRuntime) -> Result<(), Fail> {
+    compare(
+        &rt,
+        "run",
+        REGISTERS_READ_BACK,
+        0,
+        REGISTERS_READ_BACK_REPORT,
+    )?;
+    compare(&rt, "run", FOREIGN_POLL, 1, FOREIGN_POLL_REPORT)?;
+    Ok(())
+}
+
 #[test]
 fn words_and_input_are_refused(rt: HostRuntime) -> Result<(), Fail> {
     compare(&rt, "fly", b"", 2, b"refused words\n")?;
