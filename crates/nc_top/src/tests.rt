@@ -293,6 +293,35 @@ fn registers_are_read_back_and_polled(rt: HostRuntime) -> Result<(), Fail> {
     Ok(())
 }
 
+/// Two hart objects without scripts, and ten draws of the seed 7: of their events only two fills can be done.
+const SEEDED: &[u8] =
+    b"{\"version\":1,\"ram\":4096,\"harts\":[{\"mode\":\"S\",\"menvcfg\":0,\"senvcfg\":0,\"script\":[]},{\"mode\":\"S\",\"menvcfg\":0,\"senvcfg\":0,\"script\":[]}],\"buffers\":[],\"schedule\":{\"seed\":7,\"events\":10},\"finish\":false}";
+
+const SEEDED_REPORT: &[u8] =
+    b"e f0.5\nfill 0 000140 mem 00000000000000000000000000000000000000000000000000000000000000000000000000000000000000000000000000000000000000000000000000000000\ne f1.22\nfill 1 000580 mem 00000000000000000000000000000000000000000000000000000000000000000000000000000000000000000000000000000000000000000000000000000000\nend events 2 touches 0\n";
+
+/// Two refused loads, which need no more than the first event of a finishing round each. The limit lets the second
+/// round begin and cuts it there.
+const CUT_IN_A_ROUND: &[u8] =
+    b"{\"version\":1,\"ram\":4096,\"harts\":[{\"mode\":\"S\",\"menvcfg\":0,\"senvcfg\":0,\"script\":[[\"ld\",\"b0\",2,1],[\"ld\",\"b0\",0,0],[\"ld\",\"b0\",0,0]]}],\"buffers\":[{\"at\":0,\"len\":2,\"fill\":7,\"step\":1,\"owner\":0}],\"schedule\":[],\"limit\":13}";
+
+/// A script that names a mapping.
+const NOT_BUILT: &[u8] =
+    b"{\"version\":1,\"ram\":4096,\"harts\":[{\"mode\":\"S\",\"menvcfg\":0,\"senvcfg\":0,\"script\":[[\"unmap\",1]]}],\"buffers\":[],\"schedule\":[]}";
+
+#[test]
+fn schedules_are_drawn_and_cut(rt: HostRuntime) -> Result<(), Fail> {
+    compare(&rt, "run", SEEDED, 0, SEEDED_REPORT)?;
+    compare(
+        &rt,
+        "run",
+        CUT_IN_A_ROUND,
+        7,
+        b"e i0\nans 0 0 badrange\ne i0\nans 0 1 empty\nbuf 0 0708\nleft 0 2\nend events 2 touches 0\n",
+    )?;
+    compare(&rt, "run", NOT_BUILT, 3, b"refused notbuilt\n")
+}
+
 #[test]
 fn words_and_input_are_refused(rt: HostRuntime) -> Result<(), Fail> {
     compare(&rt, "fly", b"", 2, b"refused words\n")?;

@@ -20,6 +20,3 @@ pub use nc_rules::{Answer, Record, Refusal, ToldAnswer};
 pub use nc_scen::Event;
 pub use records::RecordList;
 pub use world::{Stepped, World};
-
-#[cfg(test)]
-mod tests;
