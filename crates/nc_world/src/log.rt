@@ -130,14 +130,7 @@ impl Log {
     }
 
     /// An operation that hart h issued, by the machine's answer.
-    fn issued(
-        &mut self,
-        size: u32,
-        h: HartNo,
-        by_script: bool,
-        op: &HartOp,
-        issued: &Issued,
-    )
+    fn issued(&mut self, size: u32, h: HartNo, by_script: bool, op: &HartOp, issued: &Issued)
         requires block { OpHasPlace size op.now }
         requires places { IssuedHasPlaces size issued.now }
         requires room { 7 ≤ self.old.room }

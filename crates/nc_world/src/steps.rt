@@ -24,11 +24,7 @@ use nc_rules::{Next, Seen};
 const CHANGES: u32 = 34;
 
 /// Makes room for what one event adds to the caches, to the book and to the records.
-pub(crate) fn reserve(
-    machine: &mut Machine,
-    book: &mut Book,
-    log: &mut Log,
-) -> Result<(), NoMemory>
+pub(crate) fn reserve(machine: &mut Machine, book: &mut Book, log: &mut Log) -> Result<(), NoMemory>
     ensures spare { OnOk result (1 ≤ machine.new.spare) }
     ensures changes { OnOk result (34 ≤ book.new.spare) }
     ensures room { OnOk result (64 ≤ log.new.room) }

@@ -24,11 +24,9 @@ ghost use Rattle.nc_world.specs.Shown.{answer};
 ghost use Rattle.nc_world.specs.State.{IsWorld};
 ghost use Rattle.nc_world.specs.Steps.{NextFits};
 
-use crate::acts;
 use crate::log::Log;
 use crate::records::RecordList;
-use crate::setup;
-use crate::steps;
+use crate::{acts, setup, steps};
 use nc_coherent::PagePool;
 use nc_driver::Driver;
 use nc_env::CboOp;
@@ -353,9 +351,14 @@ impl World {
         ensures { result ≡ leaving_touch self.now.at h (leaving self.now.at.machine h.0 i) }
     {
         match acts::peek(&self.machine, h, i) {
-            Some(Entry::Reg {
-                chan, off, width, ..
-            }) => register_touch(h, chan, off, width, self.machine.grantee(chan)),
+            Some(
+                Entry::Reg {
+                    chan,
+                    off,
+                    width,
+                    ..
+                },
+            ) => register_touch(h, chan, off, width, self.machine.grantee(chan)),
             _ => None,
         }
     }

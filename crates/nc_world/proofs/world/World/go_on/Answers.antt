@@ -71,15 +71,15 @@ returns-clause-told c =
     let machine : c.reserve.new.machine.machine ≡ w.machine = c.in_ok-reserve.ensures.machine ∙ c.in_ok-saw.ensures.same in
     let did : c.act-acted.result ≡ acted w.machine h n = c.act-acted.ensures.answer ∙ ap (λ (m : MachineState). acted m h n) machine in
     let moves = c.in_ok-moves.ensures.moves ∙ ap (λ (os : List Owner). moves_on d os n c.in_ok-saw.saw) c.in_ok-reserve.ensures.owners
-        ∙ ap (λ (s : Seen). moves_on d w.owners n s) c.in_ok-saw.ensures.saw ∙ sym (step_moves_is w h n) in
+    ∙ ap (λ (s : Seen). moves_on d w.owners n s) c.in_ok-saw.ensures.saw ∙ sym (step_moves_is w h n) in
     let start = c.self.inside.log.records in
     let x = records.Event (Issue h) in
     let pushed = c.push.ensures.records ∙ ap (λ (l : List Record). l ++ x ∷ []) c.in_ok-reserve.ensures.records in
     let touched = c.touch.ensures.records ∙ ap (λ (t : Option Touch). c.push.new.self.records ++ touch_told t) touch in
     let wrote = c.acted.ensures.records ∙ ap (λ (size : ℕ). c.touch.new.self.records ++ acted_told size h c.is_script-by_script.result n c.act-acted.result) c.self.invariant.size
-        ∙ ap (λ (b : Bool). c.touch.new.self.records ++ acted_told w.machine.size h b n c.act-acted.result) by_script
-        ∙ ap (λ (i : Option Issued). c.touch.new.self.records ++ acted_told w.machine.size h (is_script d.phase) n i) did
-        ∙ ap (λ (l : List Record). c.touch.new.self.records ++ l) (sym (act_told_is w h n fits)) in
+    ∙ ap (λ (b : Bool). c.touch.new.self.records ++ acted_told w.machine.size h b n c.act-acted.result) by_script
+    ∙ ap (λ (i : Option Issued). c.touch.new.self.records ++ acted_told w.machine.size h (is_script d.phase) n i) did
+    ∙ ap (λ (l : List Record). c.touch.new.self.records ++ l) (sym (act_told_is w h n fits)) in
     let all = c.moves.ensures.records ∙ ap (λ (k : ℕ). c.acted.new.self.records ++ moves_told h k (seen_as c.in_ok-moves.moves)) number ∙ ap (λ (m : Moved). c.acted.new.self.records ++ moves_told h d.op m) moves in
     let sum = joined start _ _ _ _ _ _ _ x pushed touched wrote all ∙ ap (λ (l : List Record). start ++ l) (sym (told_on w h n coming may)) in
     subst (λ (v : Shown). c.moves.new.self.records ≡ v.records ++ told v.at (Issue h)) c.self.view_is sum
