@@ -3,6 +3,7 @@
 use crate::dmasim;
 use nc_io::{MemSink, MemSource, StdSink, StdSource};
 use std::alloc::{AllocError, Global};
+use std::process::Abort;
 use std::test::Fail;
 
 /// One hart with an empty script, one buffer, the empty schedule.
@@ -17,13 +18,13 @@ fn words(alloc: Global, word: &str) -> Result<Vec<String>, AllocError> {
 
 /// Runs a scenario, and compares its status and report.
 fn compare(
-    rt: &HostRuntime,
+    rt: &impl Abort,
+    alloc: Global,
     word: &str,
     input: &[u8],
     status: u8,
     report: &[u8],
 ) -> Result<(), Fail> {
-    let alloc = rt.alloc();
     let mut src = MemSource::new(Vec::from_slice(alloc, input)?, 4096, Vec::new(alloc));
     let mut out = MemSink::new(alloc, Vec::new(alloc));
     let words = words(alloc, word)?;
@@ -140,9 +141,10 @@ const DEVICE_FAULT_REPORT: &[u8] =
 
 #[test]
 fn a_load_sees_the_hart_s_own_queued_store(rt: HostRuntime) -> Result<(), Fail> {
-    compare(&rt, "run", FORWARDING, 0, FORWARDING_REPORT)?;
+    compare(&rt, rt.alloc(), "run", FORWARDING, 0, FORWARDING_REPORT)?;
     compare(
         &rt,
+        rt.alloc(),
         "run",
         FORWARDING_FINISHED,
         0,
@@ -153,9 +155,17 @@ fn a_load_sees_the_hart_s_own_queued_store(rt: HostRuntime) -> Result<(), Fail> 
 
 #[test]
 fn neighbours_share_a_block(rt: HostRuntime) -> Result<(), Fail> {
-    compare(&rt, "run", FALSE_SHARING, 0, FALSE_SHARING_REPORT)?;
     compare(
         &rt,
+        rt.alloc(),
+        "run",
+        FALSE_SHARING,
+        0,
+        FALSE_SHARING_REPORT,
+    )?;
+    compare(
+        &rt,
+        rt.alloc(),
         "run",
         COPY_FROM_A_NEIGHBOUR,
         0,
@@ -168,20 +178,29 @@ fn neighbours_share_a_block(rt: HostRuntime) -> Result<(), Fail> {
 fn a_hand_passes_a_buffer_behind_its_stores(rt: HostRuntime) -> Result<(), Fail> {
     compare(
         &rt,
+        rt.alloc(),
         "run",
         HAND_WITH_STORES_QUEUED,
         0,
         HAND_WITH_STORES_QUEUED_REPORT,
     )?;
-    compare(&rt, "run", NOBODY_HANDS, 7, NOBODY_HANDS_REPORT)?;
+    compare(&rt, rt.alloc(), "run", NOBODY_HANDS, 7, NOBODY_HANDS_REPORT)?;
     Ok(())
 }
 
 #[test]
 fn fences_and_cleans_wait_behind_stores(rt: HostRuntime) -> Result<(), Fail> {
-    compare(&rt, "run", FENCE_THEN_LOAD, 0, FENCE_THEN_LOAD_REPORT)?;
     compare(
         &rt,
+        rt.alloc(),
+        "run",
+        FENCE_THEN_LOAD,
+        0,
+        FENCE_THEN_LOAD_REPORT,
+    )?;
+    compare(
+        &rt,
+        rt.alloc(),
         "run",
         CLEAN_BEHIND_A_STORE,
         0,
@@ -192,8 +211,22 @@ fn fences_and_cleans_wait_behind_stores(rt: HostRuntime) -> Result<(), Fail> {
 
 #[test]
 fn operations_that_are_not_enabled_are_illegal(rt: HostRuntime) -> Result<(), Fail> {
-    compare(&rt, "run", CLEAN_NOT_ENABLED, 0, CLEAN_NOT_ENABLED_REPORT)?;
-    compare(&rt, "run", ENABLES_ZERO_OFF, 0, ENABLES_ZERO_OFF_REPORT)?;
+    compare(
+        &rt,
+        rt.alloc(),
+        "run",
+        CLEAN_NOT_ENABLED,
+        0,
+        CLEAN_NOT_ENABLED_REPORT,
+    )?;
+    compare(
+        &rt,
+        rt.alloc(),
+        "run",
+        ENABLES_ZERO_OFF,
+        0,
+        ENABLES_ZERO_OFF_REPORT,
+    )?;
     Ok(())
 }
 
@@ -201,13 +234,14 @@ fn operations_that_are_not_enabled_are_illegal(rt: HostRuntime) -> Result<(), Fa
 fn memory_types_fault_and_touch(rt: HostRuntime) -> Result<(), Fail> {
     compare(
         &rt,
+        rt.alloc(),
         "run",
         TYPES_RESERVED_FAULTS,
         0,
         TYPES_RESERVED_FAULTS_REPORT,
     )?;
-    compare(&rt, "run", TYPES_ALIAS, 1, TYPES_ALIAS_REPORT)?;
-    compare(&rt, "run", DISCARD, 1, DISCARD_REPORT)?;
+    compare(&rt, rt.alloc(), "run", TYPES_ALIAS, 1, TYPES_ALIAS_REPORT)?;
+    compare(&rt, rt.alloc(), "run", DISCARD, 1, DISCARD_REPORT)?;
     Ok(())
 }
 
@@ -215,6 +249,7 @@ fn memory_types_fault_and_touch(rt: HostRuntime) -> Result<(), Fail> {
 fn a_wide_zero_is_a_step_a_block(rt: HostRuntime) -> Result<(), Fail> {
     compare(
         &rt,
+        rt.alloc(),
         "run",
         ZERO_OF_FOUR_BLOCKS,
         0,
@@ -225,15 +260,22 @@ fn a_wide_zero_is_a_step_a_block(rt: HostRuntime) -> Result<(), Fail> {
 
 #[test]
 fn channels_are_claimed_by_one_hart(rt: HostRuntime) -> Result<(), Fail> {
-    compare(&rt, "run", CLAIM_BUSY, 0, CLAIM_BUSY_REPORT)?;
-    compare(&rt, "run", FOREIGN_REGISTER, 1, FOREIGN_REGISTER_REPORT)?;
-    compare(&rt, "run", BAD_REGISTER, 0, BAD_REGISTER_REPORT)?;
+    compare(&rt, rt.alloc(), "run", CLAIM_BUSY, 0, CLAIM_BUSY_REPORT)?;
+    compare(
+        &rt,
+        rt.alloc(),
+        "run",
+        FOREIGN_REGISTER,
+        1,
+        FOREIGN_REGISTER_REPORT,
+    )?;
+    compare(&rt, rt.alloc(), "run", BAD_REGISTER, 0, BAD_REGISTER_REPORT)?;
     Ok(())
 }
 
 #[test]
 fn a_channel_meets_an_error_outside_ram(rt: HostRuntime) -> Result<(), Fail> {
-    compare(&rt, "run", DEVICE_FAULT, 0, DEVICE_FAULT_REPORT)?;
+    compare(&rt, rt.alloc(), "run", DEVICE_FAULT, 0, DEVICE_FAULT_REPORT)?;
     Ok(())
 }
 
@@ -269,14 +311,35 @@ const FOREIGN_POLL_REPORT: &[u8] =
 
 #[test]
 fn a_transfer_that_nobody_mapped_is_a_touch(rt: HostRuntime) -> Result<(), Fail> {
-    compare(&rt, "run", UNMAPPED_TRANSFER, 1, UNMAPPED_TRANSFER_REPORT)?;
-    compare(&rt, "run", REPEATED_TRANSFER, 1, REPEATED_TRANSFER_REPORT)?;
+    compare(
+        &rt,
+        rt.alloc(),
+        "run",
+        UNMAPPED_TRANSFER,
+        1,
+        UNMAPPED_TRANSFER_REPORT,
+    )?;
+    compare(
+        &rt,
+        rt.alloc(),
+        "run",
+        REPEATED_TRANSFER,
+        1,
+        REPEATED_TRANSFER_REPORT,
+    )?;
     Ok(())
 }
 
 #[test]
 fn a_free_stops_a_transfer_and_then_lets_go(rt: HostRuntime) -> Result<(), Fail> {
-    compare(&rt, "run", FREE_DURING_A_RUN, 1, FREE_DURING_A_RUN_REPORT)?;
+    compare(
+        &rt,
+        rt.alloc(),
+        "run",
+        FREE_DURING_A_RUN,
+        1,
+        FREE_DURING_A_RUN_REPORT,
+    )?;
     Ok(())
 }
 
@@ -284,12 +347,13 @@ fn a_free_stops_a_transfer_and_then_lets_go(rt: HostRuntime) -> Result<(), Fail>
 fn registers_are_read_back_and_polled(rt: HostRuntime) -> Result<(), Fail> {
     compare(
         &rt,
+        rt.alloc(),
         "run",
         REGISTERS_READ_BACK,
         0,
         REGISTERS_READ_BACK_REPORT,
     )?;
-    compare(&rt, "run", FOREIGN_POLL, 1, FOREIGN_POLL_REPORT)?;
+    compare(&rt, rt.alloc(), "run", FOREIGN_POLL, 1, FOREIGN_POLL_REPORT)?;
     Ok(())
 }
 
@@ -305,31 +369,79 @@ const SEEDED_REPORT: &[u8] =
 const CUT_IN_A_ROUND: &[u8] =
     b"{\"version\":1,\"ram\":4096,\"harts\":[{\"mode\":\"S\",\"menvcfg\":0,\"senvcfg\":0,\"script\":[[\"ld\",\"b0\",2,1],[\"ld\",\"b0\",0,0],[\"ld\",\"b0\",0,0]]}],\"buffers\":[{\"at\":0,\"len\":2,\"fill\":7,\"step\":1,\"owner\":0}],\"schedule\":[],\"limit\":13}";
 
+/// A store that is still queued where a round begins: its drain is the fourth event that is tried.
+const LIMIT_OF_THREE: &[u8] =
+    b"{\"version\":1,\"ram\":65536,\"harts\":[{\"mode\":\"S\",\"menvcfg\":4611686018427388144,\"senvcfg\":240,\"script\":[[\"st\",\"b0\",0,\"11\"],[\"ld\",\"b0\",0,1]]}],\"buffers\":[{\"at\":0,\"len\":2,\"fill\":0,\"step\":0,\"owner\":0}],\"schedule\":[\"i0\",\"i0\"],\"limit\":3}";
+
+const LIMIT_OF_FOUR: &[u8] =
+    b"{\"version\":1,\"ram\":65536,\"harts\":[{\"mode\":\"S\",\"menvcfg\":4611686018427388144,\"senvcfg\":240,\"script\":[[\"st\",\"b0\",0,\"11\"],[\"ld\",\"b0\",0,1]]}],\"buffers\":[{\"at\":0,\"len\":2,\"fill\":0,\"step\":0,\"owner\":0}],\"schedule\":[\"i0\",\"i0\"],\"limit\":4}";
+
+/// Two harts of which the second makes no step, a fill before a load, and an eviction before and behind it.
+const TWO_HARTS: &[u8] =
+    b"{\"version\":1,\"ram\":4096,\"harts\":[{\"mode\":\"S\",\"menvcfg\":0,\"senvcfg\":240,\"script\":[[\"ld\",\"b0\",0,2]]},{\"mode\":\"S\",\"menvcfg\":0,\"senvcfg\":240,\"script\":[[\"ld\",\"b0\",0,2]]}],\"buffers\":[{\"at\":0,\"len\":2,\"fill\":7,\"step\":1,\"owner\":0}],\"schedule\":[\"e0.0\",\"f0.1\",\"i0\",\"e0.0\"],\"finish\":false}";
+
+const TWO_HARTS_REPORT: &[u8] =
+    b"e f0.1\nfill 0 000040 mem 00000000000000000000000000000000000000000000000000000000000000000000000000000000000000000000000000000000000000000000000000000000\ne i0\nfill 0 000000 mem 07080000000000000000000000000000000000000000000000000000000000000000000000000000000000000000000000000000000000000000000000000000\nld 0 000000 0708\ne e0.0\ndrop 0 000000\nbuf 0 0708\nleft 1 0\nend events 3 touches 0\n";
+
 /// A script that names a mapping.
 const NOT_BUILT: &[u8] =
     b"{\"version\":1,\"ram\":4096,\"harts\":[{\"mode\":\"S\",\"menvcfg\":0,\"senvcfg\":0,\"script\":[[\"unmap\",1]]}],\"buffers\":[],\"schedule\":[]}";
 
 #[test]
 fn schedules_are_drawn_and_cut(rt: HostRuntime) -> Result<(), Fail> {
-    compare(&rt, "run", SEEDED, 0, SEEDED_REPORT)?;
+    compare(&rt, rt.alloc(), "run", SEEDED, 0, SEEDED_REPORT)?;
     compare(
         &rt,
+        rt.alloc(),
         "run",
         CUT_IN_A_ROUND,
         7,
         b"e i0\nans 0 0 badrange\ne i0\nans 0 1 empty\nbuf 0 0708\nleft 0 2\nend events 2 touches 0\n",
     )?;
-    compare(&rt, "run", NOT_BUILT, 3, b"refused notbuilt\n")
+    compare(&rt, rt.alloc(), "run", NOT_BUILT, 3, b"refused notbuilt\n")
+}
+
+#[test]
+fn a_limit_counts_what_is_tried(rt: HostRuntime) -> Result<(), Fail> {
+    compare(
+        &rt,
+        rt.alloc(),
+        "run",
+        LIMIT_OF_THREE,
+        0,
+        b"e i0\nst 0 000000 11\ne i0\nld 0 000000 11\nbuf 0 0000\nend events 2 touches 0\n",
+    )?;
+    compare(
+        &rt,
+        rt.alloc(),
+        "run",
+        LIMIT_OF_FOUR,
+        0,
+        FORWARDING_FINISHED_REPORT,
+    )
+}
+
+#[test]
+fn a_script_that_makes_no_step_is_left(rt: HostRuntime) -> Result<(), Fail> {
+    compare(&rt, rt.alloc(), "run", TWO_HARTS, 7, TWO_HARTS_REPORT)
 }
 
 #[test]
 fn words_and_input_are_refused(rt: HostRuntime) -> Result<(), Fail> {
-    compare(&rt, "fly", b"", 2, b"refused words\n")?;
-    compare(&rt, "run", b"", 3, b"refused json\n")?;
-    compare(&rt, "run", b"{\"version\":1", 3, b"refused json\n")?;
-    compare(&rt, "run", b"[]", 3, b"refused shape .\n")?;
+    compare(&rt, rt.alloc(), "fly", b"", 2, b"refused words\n")?;
+    compare(&rt, rt.alloc(), "run", b"", 3, b"refused json\n")?;
     compare(
         &rt,
+        rt.alloc(),
+        "run",
+        b"{\"version\":1",
+        3,
+        b"refused json\n",
+    )?;
+    compare(&rt, rt.alloc(), "run", b"[]", 3, b"refused shape .\n")?;
+    compare(
+        &rt,
+        rt.alloc(),
         "run",
         EMPTY_SCRIPT,
         0,
