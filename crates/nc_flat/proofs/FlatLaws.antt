@@ -24,7 +24,7 @@ use Rattle.nc_rules.specs.View.{middle}
 use Rattle.nc_rules.specs.World.{start}
 use Rattle.nc_flat.specs.Rows.{given, ThreadRow, Row}
 use Rattle.nc_flat.specs.Laws.{EachRunIsFlat}
-use Rattle.nc_flat.proofs.Views.{view_is}
+use Rattle.nc_flat.proofs.Views.{view_is, pool_shows}
 use Rattle.nc_flat.proofs.Runs.{latest_run, inv_run}
 use Rattle.nc_flat.proofs.Starts.{inv_start}
 
@@ -59,7 +59,7 @@ below m h v x none row = sym (ap (λ (o : Option ℕ). unwrap_or o (middle m x))
 kept_by : (o : Owner) (v : ℕ) (m : MachineState) (x : ℕ) → is_given m x ≡ false → Row o v m x → middle m x ≡ v
 kept_by (Thread h) v m x none row = below m h.0 v x none row
 kept_by (Passing h g) v m x none row = below m h.0 v x none row.giver
-kept_by Pool v m x none row = row.shows
+kept_by Pool v m x none row = pool_shows m v x row
 kept_by (Lending k) v m x none row = absurd row
 kept_by (Device k) v m x none row = absurd row
 kept_by (Returning k) v m x none row = absurd row
