@@ -1,6 +1,6 @@
 -- The laws, gathered.
 use Rattle.nc_cache.specs.Laws.{CallsKeepWhole, CallsKeepPlaces, CallsWritePlaces, InvalDrops, BytesAreSeen, LinesAreHeld}
-use Rattle.nc_cache.proofs.Places.{keeps_load, keeps_evict, keeps_clean, keeps_flush, clear_clean, gone_flush, keeps_both, middle-clear}
+use Rattle.nc_cache.proofs.Places.{keeps_load, middle-load, keeps_evict, keeps_clean, keeps_flush, clear_clean, gone_flush, keeps_both, middle-clear}
 use Rattle.nc_cache.proofs.Writes.{dirties_own, middle-own, dirties_store, middle-store_in, middle-store_out, dirties_zero, middle-zero_in, middle-zero_out, drops_inval, keeps_inval, both_inval, length-bytes_at, byte-bytes_at}
 use Rattle.nc_cache.proofs.Holders.{line_holder}
 use Rattle.nc_cache.proofs.Wholes.{whole_start, whole_load, whole_own, whole_store, whole_zero, whole_evict, whole_clean, whole_flush, whole_inval}
@@ -21,6 +21,7 @@ calls_keep_whole = record {
 pub calls_keep_places : CallsKeepPlaces
 calls_keep_places = record {
   of_load = keeps_load;
+  loaded = middle-load;
   of_evict = keeps_evict;
   of_clean = keeps_clean;
   of_flush = keeps_flush;

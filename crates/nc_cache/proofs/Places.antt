@@ -139,6 +139,30 @@ pub keeps_load : (s harts size : ℕ) (c : Cache) (h b x : ℕ) → Whole s hart
 unfolding load
 keeps_load s harts size c h b x w fits = keeps_load_of w.block_size harts c h b x (line_at c b) refl (w.lines b) (omega (arith, w.ram))
 
+-- no byte changes that a hart sees, whether copies are stale or not: a copy of what others hold has their bytes, and
+-- another memory's
+middle-put : (s : ℕ) (c : Cache) (ram : List ℕ) (b : ℕ) (o : Option Line) (x : ℕ) → (x / s ≢ b → byte ram x ≡ byte c.ram x) → (x / s ≡ b → line_byte s ram x o ≡ line_byte s c.ram x (line_at c b))
+    → middle s (put c ram b o) x ≡ middle s c x
+unfolding middle
+middle-put s c ram b o x other same = elim (cases_eq (x / s) b) [
+  | inl e ↦ rw (line-with_same c.lines b (x / s) o e) (same e ∙ ap (λ k. line_byte s c.ram x (line_at c k)) (sym e))
+  | inr ne ↦ rw (line-with_other c.lines b (x / s) o ne) (line_byte-other s c.ram ram x (line_at c (x / s)) (other ne))
+]
+
+middle-load_of : {s : ℕ} → IsBlockSize s → (harts : ℕ) (c : Cache) (h b x : ℕ) (o : Option Line) → line_at c b ≡ o → IsLineOf s harts o → s * b + s ≤ length c.ram → middle s (load_of s c h b o) x ≡ middle s c x
+middle-load_of {s = s} z harts c h b x None is w fits =
+    middle-put s c c.ram b (Some (record { bytes = span c.ram (s * b) s; held = Shared (only h) })) x (λ ne. refl) (λ e. byte-span_block z c.ram b x e ∙ ap (line_byte s c.ram x) (sym is))
+middle-load_of {s = s} z harts c h b x (Some l) is w fits =
+    elim (holds l.held h) as (λ t. middle s (if t then c else put c (back s c.ram b l.bytes l.held) b (Some (record { bytes = l.bytes; held = Shared (slice_set (holders l.held) h true) }))) x ≡ middle s c x) [
+      | true ↦ refl
+      | false ↦ middle-put s c (back s c.ram b l.bytes l.held) b (Some (record { bytes = l.bytes; held = Shared (slice_set (holders l.held) h true) })) x
+          (λ ne. byte-back_other z c.ram b l.bytes l.held x w.bytes fits ne) (λ e. ap (line_byte s c.ram x) (sym is))
+    ]
+
+pub middle-load : (s harts size : ℕ) (c : Cache) (h b x : ℕ) → Whole s harts size c → s * b + s ≤ size → middle s (load s c h b) x ≡ middle s c x
+unfolding load
+middle-load s harts size c h b x w fits = middle-load_of w.block_size harts c h b x (line_at c b) refl (w.lines b) (omega (arith, w.ram))
+
 -- nothing happens where h holds the block
 load_held_of : (s : ℕ) (c : Cache) (h b : ℕ) (o : Option Line) → held_by o h ≡ true → load_of s c h b o ≡ c
 load_held_of s c h b None is = absurd (let p : false ≡ true = is in cc)

@@ -19,10 +19,11 @@ pub record CallsKeepWhole : Type 0 where
   pub of_flush : (s harts size : ℕ) (c : Cache) (b : ℕ) → Whole s harts size c → s * b + s ≤ size → Whole s harts size (flush s c b)
   pub of_inval : (s harts size : ℕ) (c : Cache) (b : ℕ) → Whole s harts size c → Whole s harts size (inval c b)
 
--- load, evict, clean and flush change no byte that a hart sees; after a clean nobody has the block dirty, and after a
--- flush nobody has it
+-- load, evict, clean and flush change no byte that a hart sees where no copy is stale, and a load none at all; after a
+-- clean nobody has the block dirty, and after a flush nobody has it
 pub record CallsKeepPlaces : Type 0 where
   pub of_load : (s harts size : ℕ) (c : Cache) (h b x : ℕ) → Whole s harts size c → s * b + s ≤ size → Keeps s c (load s c h b) x
+  pub loaded : (s harts size : ℕ) (c : Cache) (h b x : ℕ) → Whole s harts size c → s * b + s ≤ size → middle s (load s c h b) x ≡ middle s c x
   pub of_evict : (s harts size : ℕ) (c : Cache) (h b x : ℕ) → Whole s harts size c → s * b + s ≤ size → Keeps s c (evict s c h b) x
   pub of_clean : (s harts size : ℕ) (c : Cache) (b x : ℕ) → Whole s harts size c → s * b + s ≤ size → Keeps s c (clean s c b) x
   pub of_flush : (s harts size : ℕ) (c : Cache) (b x : ℕ) → Whole s harts size c → s * b + s ≤ size → Keeps s c (flush s c b) x

@@ -8,8 +8,8 @@ pub fn calls_keep_whole()
     ensures { CallsKeepWhole }
 {}
 
-/// A load, fill, eviction, clean or flush changes no byte that a hart sees. After a clean nobody has the block dirty,
-/// and after a flush nobody has it.
+/// A load, fill, eviction, clean or flush changes no byte that a hart sees at a place where no copy is stale; a load or
+/// a fill changes none at any place. After a clean nobody has the block dirty, and after a flush nobody has it.
 #[tactic(auto, using(crate::proofs::LawProofs::calls_keep_places))]
 pub fn calls_keep_places()
     ensures { CallsKeepPlaces }

@@ -14,6 +14,7 @@ use Rattle.nc_rules.specs.Machine.{MachineState, no_hart, queue_of, with_cache}
 use Rattle.nc_rules.specs.Calls.{may_fill, fill_next, evict_next}
 use Rattle.nc_rules.specs.Driver.{DriverState}
 use Rattle.nc_rules.specs.MachineLaws.{SameShape}
+use Rattle.nc_rules.specs.PlaceLaws.{BothAt}
 use Rattle.nc_rules.specs.Sound.{IsMachine, IsBlockIn}
 use Rattle.nc_rules.specs.View.{middle}
 use Rattle.nc_rules.proofs.SoundSteps.{sound_fill, shape_fill, sound_evict, shape_evict}
@@ -75,8 +76,11 @@ same_middle m n x same = rw (same.size, same.cache) refl
 same_given : (m n : MachineState) (g x : ℕ) → SameMemory m n → given n g x ≡ given m g x
 same_given m n g x same = rw (same.size, same_queue m n g same.harts) refl
 
+same_both : (m n : MachineState) (v x : ℕ) → SameMemory m n → BothAt m v x → BothAt n v x
+same_both m n v x same b = rw (same.size, same.cache) b
+
 pub same_carries : (m n : MachineState) (h x : ℕ) → SameMemory m n → Carries m n h x
-same_carries m n h x same = carries_same m n h x (λ g. same_given m n g x same) (same_middle m n x same)
+same_carries m n h x same = carries_same m n h x (λ g. same_given m n g x same) (same_middle m n x same) (λ v b. same_both m n v x same b)
 
 pub same_plain : (m n : MachineState) → Plain m → IsMachine n → SameMemory m n → Plain n
 same_plain m n p sound same = record {

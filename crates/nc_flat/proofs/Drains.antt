@@ -1,5 +1,5 @@
 -- An entry drains: the bytes that are seen stay.
-use Rattle.std.specs.Prelude.{Option, Some, unwrap_or, remove}
+use Rattle.std.specs.Prelude.{Option, Some, None, unwrap_or, remove}
 use Rattle.std.proofs.Common.{◌≡◌, ◌≢◌, ℕ, ◌<◌, length, refl, sym, ap, ◌∙◌, inl, inr, arith}
 use Rattle.std.proofs.lemmas.Bool.{cases_eq}
 use Rattle.nc_queue.specs.Entries.{entry_gives}
@@ -11,7 +11,9 @@ use Rattle.nc_queue.proofs.GivesLaws.{gives-remove_none, entry_gives-none}
 use Rattle.nc_rules.specs.Machine.{MachineState, hart_of, queue_of}
 use Rattle.nc_rules.specs.Calls.{leaving, without_entry, left_with, drain_next, performed}
 use Rattle.nc_rules.specs.Sound.{EntryIsThere, IsMachine}
+use Rattle.nc_rules.specs.PlaceLaws.{BothAt}
 use Rattle.nc_rules.specs.View.{middle}
+use Rattle.nc_rules.proofs.PerformedPlaces.{both_performed}
 use Rattle.nc_rules.proofs.SoundParts.{there_same}
 use Rattle.nc_rules.proofs.SoundDrain.{LeavesFrom, leaving_is, without, sound_without, shape_without, sound_performed}
 use Rattle.nc_flat.specs.Rows.{given}
@@ -65,6 +67,11 @@ middle_drained m h i e x p out =
     performed_middle (without m h i) h e x out.sound (p.fresh x) out.plain out.from.fits out.there
     ∙ ap (λ (d : ℕ). unwrap_or (entry_gives m.size e x) d) (middle_hart m h x (without_entry (hart_of m h) i))
 
+-- an entry that does not give the byte leaves memory's and the copies' where they are one
+both_drained : (m : MachineState) (h i : ℕ) (e : Entry) (v x : ℕ) → Leaves m h i e → entry_gives m.size e x ≡ None → BothAt m v x → BothAt (drained_to m h i e) v x
+both_drained m h i e v x out none b =
+    rw (size_drained m h i e) (both_performed (without m h i) h e v x (record { sound = out.sound; fits = out.from.fits; there = out.there }) none b)
+
 pub carries_drain : (m : MachineState) (h i : ℕ) (e : Entry) (x : ℕ) → Plain m → h < length m.harts → leaving m h i ≡ Some e → Carries m (drained_to m h i e) h x
 carries_drain m h i e x p lt out =
     let leaves = leaves_is m h i e p lt out in
@@ -80,6 +87,7 @@ carries_drain m h i e x p lt out =
         given_drained m h i e x lt ∙ gives-remove_none m.size q i x hide,
         below ∙ ap (λ (o : Option ℕ). unwrap_or o (middle m x)) (entry_gives-none m.size q i e x hide (drained-some m.size q i e out).0),
       );
+      both = λ v hide b. both_drained m h i e v x leaves (entry_gives-none m.size q i e x hide (drained-some m.size q i e out).0) b;
     }
 
 pub plain_drain : (m : MachineState) (h i : ℕ) (e : Entry) → Plain m → h < length m.harts → leaving m h i ≡ Some e → Plain (drained_to m h i e)

@@ -12,7 +12,7 @@ use Rattle.nc_env.specs.declared.CboOp.TheVariants as cbos
 use Rattle.nc_cache.specs.Cache as caches
 use Rattle.nc_cache.specs.Cache.{Cache}
 use Rattle.nc_cache.specs.Facts.{Whole, Fresh, Keeps}
-use Rattle.nc_cache.proofs.Places.{keeps_clean, keeps_flush}
+use Rattle.nc_cache.proofs.Places.{keeps_both, keeps_clean, keeps_flush}
 use Rattle.nc_cache.proofs.Writes.{dirties_store, middle-store_in, middle-store_out, dirties_zero, middle-zero_in, middle-zero_out}
 use Rattle.nc_queue.specs.Entries.{entry_gives, Fits, StoreFits}
 use Rattle.nc_queue.specs.Rules.{gives}
@@ -37,7 +37,7 @@ unfolding middle
 middle_cache m c x fresh keeps = (keeps.fresh fresh).1
 
 pub carries_cache : (m : MachineState) (c : Cache) (h x : ℕ) → Fresh m.size m.cache x → Keeps m.size m.cache c x → Carries m (with_cache m c) h x
-carries_cache m c h x fresh keeps = carries_same m (with_cache m c) h x (λ g. refl) (middle_cache m c x fresh keeps)
+carries_cache m c h x fresh keeps = carries_same m (with_cache m c) h x (λ g. refl) (middle_cache m c x fresh keeps) (λ v b. keeps_both m.size m.cache c v x keeps b)
 
 pub plain_cache : (m : MachineState) (c : Cache) → Plain m → IsMachine (with_cache m c) → ((x : ℕ) → Keeps m.size m.cache c x) → Plain (with_cache m c)
 plain_cache m c p sound keeps = record { sound = sound; fresh = λ x. ((keeps x).fresh (p.fresh x)).0; plain = p.plain }

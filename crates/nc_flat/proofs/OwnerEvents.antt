@@ -100,7 +100,7 @@ unfolding middle
 middle_box m buf x to = refl
 
 carries_box : (m : MachineState) (buf h x : ℕ) (to : Option HartNo) → Carries m (with_box m buf to) h x
-carries_box m buf h x to = carries_same m (with_box m buf to) h x (λ g. refl) (middle_box m buf x to)
+carries_box m buf h x to = carries_same m (with_box m buf to) h x (λ g. refl) (middle_box m buf x to) (λ v b. b)
 
 row_taken : (o p : Owner) (h from : HartNo) (v : ℕ) (m : MachineState) (x : ℕ) → o ≡ Passing from h → p ≡ Thread h → gives m.size (queue_of m from.0) x ≡ None → Row o v m x → Row p v m x
 row_taken o p h from v m x was is none row =

@@ -95,7 +95,7 @@ flat_hart sc f m ds os h s i lt same sound =
       boxes = λ b. refl;
     })
     (drivers_same sc f m ds os i)
-    (λ x. carries_same m (with_hart m h s) h x (λ g. ap (λ (q : List Entry). gives m.size q x) (queues g)) (middle_hart m h x s))
+    (λ x. carries_same m (with_hart m h s) h x (λ g. ap (λ (q : List Entry). gives m.size q x) (queues g)) (middle_hart m h x s) (λ v b. b))
 
 -- an entry that gives nothing
 pub flat_push_silent : (sc : Scenario) (f : List ℕ) (m : MachineState) (ds es : List DriverState) (os : List Owner) (h : HartNo) (e : Entry) (s : HartState) → IsAccepted sc → Flatness sc f m ds os → DriversMove sc ds es

@@ -52,7 +52,7 @@ carries_push m h e s x lt push none =
       | inl same ↦ rw same (given_pushed m h e s x lt push ∙ gives_push_none m.size (queue_of m h) e x none)
       | inr ne ↦ given_away m h g x s ne
     ])
-    (middle_hart m h x s)
+    (middle_hart m h x s) (λ v b. b)
 
 view_pushed : (m : MachineState) (h : ℕ) (e : Entry) (s : HartState) (x : ℕ) → h < length m.harts → Pushes m h e s → view (with_hart m h s) h x ≡ unwrap_or (entry_gives m.size e x) (view m h x)
 view_pushed m h e s x lt push =

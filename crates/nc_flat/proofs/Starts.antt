@@ -26,8 +26,8 @@ use Rattle.nc_rules.specs.declared.steps.Phase.TheVariants.{Steps}
 use Rattle.nc_rules.specs.Built.{IsBuilt}
 use Rattle.nc_rules.specs.Driver.{DriverState}
 use Rattle.nc_rules.specs.Machine.{MachineState, no_hart, fresh_hart, queue_of, box_of}
+use Rattle.nc_rules.specs.PlaceLaws.{BothAt}
 use Rattle.nc_rules.specs.Start.{memory, first_machine, first_driver}
-use Rattle.nc_rules.specs.View.{middle}
 use Rattle.nc_rules.specs.World as worlds
 use Rattle.nc_rules.specs.World.{first_owners, start}
 use Rattle.nc_rules.proofs.DriverLaws.{first_drivers}
@@ -60,9 +60,9 @@ box_fresh : (sc : Scenario) (b : ℕ) → box_of (first_machine sc) b ≡ None
 unfolding first_machine
 box_fresh sc b = blank {X = Option HartNo} (length sc.buffers) b None
 
-middle_fresh : (sc : Scenario) (x : ℕ) → middle (first_machine sc) x ≡ byte (memory sc) x
-unfolding first_machine middle caches.middle
-middle_fresh sc x = rw (get-empty nat_cmp (x / sc.block_size)) refl
+both_fresh : (sc : Scenario) (x : ℕ) → BothAt (first_machine sc) (byte (memory sc) x) x
+unfolding first_machine caches.middle
+both_fresh sc x = record { memory = refl; copy = rw (get-empty nat_cmp (x / sc.block_size)) refl }
 
 fresh_fresh : (sc : Scenario) (x : ℕ) → Fresh (first_machine sc).size (first_machine sc).cache x
 unfolding first_machine
@@ -154,7 +154,7 @@ flat_start sc a b = record {
   drivers = length-map-range_with_len (λ k. first_driver sc (worlds.hart k)) 0 (length sc.harts);
   drives = λ h lt. rw (driver_start sc h lt) (drives_first sc h a b lt);
   owners = owners_size sc;
-  rows = λ x lt. row_by (owner_in (first_owners sc) x) (byte (memory sc) x) (first_machine sc) x (plain_start_owner sc x lt) (record { shows = middle_fresh sc x; none = λ g. given_fresh sc g x });
+  rows = λ x lt. row_by (owner_in (first_owners sc) x) (byte (memory sc) x) (first_machine sc) x (plain_start_owner sc x lt) (record { both = both_fresh sc x; none = λ g. given_fresh sc g x });
   pooled = λ x over. pooled_start sc x a over;
   buffers = λ k lt. status_start sc k a lt;
 }

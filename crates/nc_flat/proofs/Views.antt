@@ -5,6 +5,7 @@ use Rattle.std.proofs.lemmas.Bool.{cases_eq}
 use Rattle.nc_model.specs.declared.owners.Owner.{Owner}
 use Rattle.nc_model.specs.declared.owners.Owner.TheVariants.{Thread, Passing, Lending, Device, Returning, Synced, Pool}
 use Rattle.nc_rules.specs.Machine.{MachineState}
+use Rattle.nc_rules.specs.PlaceLaws.{BothAt}
 use Rattle.nc_rules.specs.View.{middle, seen, view}
 use Rattle.nc_flat.specs.Rows.{given, ThreadRow, PoolRow, Row}
 
@@ -17,6 +18,7 @@ pub record Carries (m n : MachineState) (h x : ℕ) : Type 0 where
   pub shows : view n h x ≡ view m h x
   pub others : (g : ℕ) → g ≢ h → given n g x ≡ given m g x
   pub none : given m h x ≡ None → (given n h x ≡ None) × (middle n x ≡ middle m x)
+  pub both : (v : ℕ) → given m h x ≡ None → BothAt m v x → BothAt n v x
 
 thread_here : (m n : MachineState) (h v x : ℕ) → Carries m n h x → ThreadRow h v m x → ThreadRow h v n x
 thread_here m n h v x c r = record { shows = c.shows ∙ r.shows; others = λ g ne. c.others g ne ∙ r.others g ne }
@@ -39,7 +41,7 @@ thread_carried m n h k v x c r =
 
 pub pool_carried : (m n : MachineState) (h v x : ℕ) → Carries m n h x → PoolRow v m x → PoolRow v n x
 pool_carried m n h v x c r = record {
-  shows = (c.none (r.none h)).1 ∙ r.shows;
+  both = c.both v (r.none h) r.both;
   none = λ g. given_away m n h g x c (r.none h) (r.none g);
 }
 
@@ -52,12 +54,13 @@ row_carried m n h (Device k) v x c r = absurd r
 row_carried m n h (Returning k) v x c r = absurd r
 row_carried m n h (Synced k) v x c r = absurd r
 
--- where no queue and no byte below changes at the place
-pub carries_same : (m n : MachineState) (h x : ℕ) → ((g : ℕ) → given n g x ≡ given m g x) → middle n x ≡ middle m x → Carries m n h x
-carries_same m n h x queues below = record {
+-- where no queue and no byte below changes at the place, nor memory's where the copies have it
+pub carries_same : (m n : MachineState) (h x : ℕ) → ((g : ℕ) → given n g x ≡ given m g x) → middle n x ≡ middle m x → ((v : ℕ) → BothAt m v x → BothAt n v x) → Carries m n h x
+carries_same m n h x queues below both = record {
   shows = view_is n h x ∙ ap (λ (o : Option ℕ). unwrap_or o (middle n x)) (queues h) ∙ ap (λ (d : ℕ). unwrap_or (given m h x) d) below ∙ sym (view_is m h x);
   others = λ g ne. queues g;
   none = λ hide. (queues h ∙ hide, below);
+  both = λ v hide b. both v b;
 }
 
 -- a hart that may write the place issues a newer byte
@@ -71,9 +74,14 @@ given_to_all m h k v x none r =
     let below : middle m x ≡ v = sym (ap (λ (o : Option ℕ). unwrap_or o (middle m x)) none) ∙ sym (view_is m h x) ∙ r.shows in
     record { shows = view_is m k x ∙ ap (λ (o : Option ℕ). unwrap_or o (middle m x)) (all k) ∙ below; others = λ g ne. all g }
 
+-- what the caches have for nobody's place, else memory
+pub pool_shows : (m : MachineState) (v x : ℕ) → PoolRow v m x → middle m x ≡ v
+unfolding middle
+pool_shows m v x r = r.both.copy
+
 -- at the start
 pub pool_to_thread : (m : MachineState) (k v x : ℕ) → PoolRow v m x → ThreadRow k v m x
 pool_to_thread m k v x r = record {
-  shows = view_is m k x ∙ ap (λ (o : Option ℕ). unwrap_or o (middle m x)) (r.none k) ∙ r.shows;
+  shows = view_is m k x ∙ ap (λ (o : Option ℕ). unwrap_or o (middle m x)) (r.none k) ∙ pool_shows m v x r;
   others = λ g ne. r.none g;
 }

@@ -5,7 +5,8 @@ use Rattle.nc_queue.specs.Rules.{gives}
 use Rattle.nc_model.specs.declared.owners.Owner.{Owner}
 use Rattle.nc_model.specs.declared.owners.Owner.TheVariants.{Thread, Passing, Lending, Device, Returning, Synced, Pool}
 use Rattle.nc_rules.specs.Machine.{MachineState, queue_of}
-use Rattle.nc_rules.specs.View.{middle, view}
+use Rattle.nc_rules.specs.PlaceLaws.{BothAt}
+use Rattle.nc_rules.specs.View.{view}
 
 -- what hart h's queue gives at a place
 abbrev pub given : MachineState → ℕ → ℕ → Option ℕ
@@ -20,9 +21,10 @@ pub record ThreadRow (h v : ℕ) (m : MachineState) (x : ℕ) : Type 0 where
 pub record PassingRow (h v : ℕ) (m : MachineState) (x : ℕ) : Type 0 where
   pub giver : ThreadRow h v m x
 
--- nobody's place: the byte stands in the caches or in memory, and no queue has one for it
+-- nobody's place: memory has the byte, and every copy in the caches, though another place of the block may be dirty; no
+-- queue has one for it
 pub record PoolRow (v : ℕ) (m : MachineState) (x : ℕ) : Type 0 where
-  pub shows : middle m x ≡ v
+  pub both : BothAt m v x
   pub none : (g : ℕ) → given m g x ≡ None
 
 -- the row of a place, by its owner; a mapping owns none

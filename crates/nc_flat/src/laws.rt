@@ -10,8 +10,9 @@ pub fn latest_law()
     ensures { EachRunIsLatest }
 {}
 
-/// While there was no touch, the bytes of threads, and those that are passed or nobody's, are flat memory's in the
-/// caches and memory, but for those that a queue still has.
+/// After each front of the run without a touch, the bytes of threads, and those that are passed or nobody's, are flat
+/// memory's outside the bounce slots: in the caches where they have the block, else in memory, but for those that a
+/// queue still has.
 #[tactic(auto, using(crate::proofs::FlatLaws::kept_always))]
 pub fn kept_law()
     ensures { EachRunIsKept }

@@ -15,7 +15,7 @@ use Rattle.nc_num.proofs.MemoryLaws.{byte-splice_below, byte-splice_in, byte-spl
 use Rattle.nc_cache.specs.Cache as caches
 use Rattle.nc_cache.specs.Cache.{Cache, line_at, held_by}
 use Rattle.nc_cache.specs.Facts.{Keeps}
-use Rattle.nc_cache.proofs.Places.{keeps_same, keeps_load, keeps_evict}
+use Rattle.nc_cache.proofs.Places.{keeps_same, keeps_load, middle-load, keeps_evict}
 use Rattle.nc_pdma_regs.specs.Laws as claims
 use Rattle.nc_pdma.specs.declared.channel.ChanStep.{ChanStep}
 use Rattle.nc_pdma.specs.declared.channel.ChanStep.TheVariants.{Idle, Moved, Error}
@@ -25,6 +25,7 @@ use Rattle.nc_pdma.proofs.Transactions.{each_write}
 use Rattle.nc_rules.specs.Machine.{MachineState, channel_of, grantee_of, box_of, with_cache, with_ram, with_channel, with_box}
 use Rattle.nc_rules.specs.Calls.{is_pooled, may_fill, fill_next, evict_next, chan_read_told, chan_read_next, chan_write_told, chan_write_next, claimed_by, claim_next, may_take, take_next}
 use Rattle.nc_rules.specs.Sound.{IsBlockIn, IsMachine}
+use Rattle.nc_rules.specs.View.{middle, view}
 use Rattle.nc_rules.specs.PlaceLaws.{NotHeld, ChannelIs, BoxIs, Stays, Moves, WritesSpan, RamAfter}
 use Rattle.nc_rules.proofs.Spans.{over_span}
 use Rattle.nc_rules.proofs.MachineParts.{channel_here, channel_away, box_here, box_away}
@@ -51,6 +52,19 @@ fill_is m h b is there =
       | true ↦ moves m (caches.load m.size m.cache h b) b (λ x. keeps_load m.size (length m.harts) (length m.cache.ram) m.cache h b x is.cache there)
           (λ x ne. untouched_load m.size (length m.harts) (length m.cache.ram) m.cache h b x is.cache there ne)
       | false ↦ moves m m.cache b (λ x. keeps_same m.size m.cache x) (λ x ne. untouched_same m.size m.cache x)
+    ]
+
+-- it changes nothing that is seen, whether copies are stale or not
+middle_filled : (m : MachineState) (h b x : ℕ) → IsMachine m → IsBlockIn m.size (length m.cache.ram) b → middle (with_cache m (caches.load m.size m.cache h b)) x ≡ middle m x
+unfolding middle
+middle_filled m h b x is there = middle-load m.size (length m.harts) (length m.cache.ram) m.cache h b x is.cache there
+
+pub fill_views : (m : MachineState) (h b g x : ℕ) → IsMachine m → IsBlockIn m.size (length m.cache.ram) b → view (fill_next m h b) g x ≡ view m g x
+unfolding fill_next
+fill_views m h b g x is there =
+    elim (may_fill m h b) as (λ t. view (if t then with_cache m (caches.load m.size m.cache h b) else m) g x ≡ view m g x) [
+      | true ↦ same_view m (with_cache m (caches.load m.size m.cache h b)) g x refl refl (middle_filled m h b x is there)
+      | false ↦ refl
     ]
 
 not_both : (held pooled : Bool) → pooled ≡ true → (not held && not pooled) ≡ false

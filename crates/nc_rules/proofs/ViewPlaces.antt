@@ -22,9 +22,9 @@ use Rattle.nc_rules.specs.Calls.{leaving, issue_next, drain_next, chan_write_tol
 use Rattle.nc_rules.specs.Sound.{IsMachine}
 use Rattle.nc_rules.specs.PlaceLaws.{FreshAt, LosesNone, parts, WritesSpan, RamAfter}
 use Rattle.nc_rules.specs.CallLaws.{PartsNone, ViewsStay, QueuesKeepOrder}
-use Rattle.nc_rules.proofs.IssuePlaces.{push_is}
+use Rattle.nc_rules.proofs.IssuePlaces.{load_is, push_is}
 use Rattle.nc_rules.proofs.DrainPlaces.{drain_is, drain_none}
-use Rattle.nc_rules.proofs.StepPlaces.{fill_is, evict_is, chan_write_ram}
+use Rattle.nc_rules.proofs.StepPlaces.{fill_views, evict_is, chan_write_ram}
 
 -- ---- what is seen
 
@@ -50,7 +50,8 @@ pub views_stay : ViewsStay
 views_stay = record {
   of_drain = λ m h i x is lt f together. own_drained m h i x (leaving m h i) is lt f together refl;
   of_drain_others = λ m h i g x is lt f together ne none. other_drained m h i g x (leaving m h i) is lt f together ne none refl;
-  of_fill = λ m h b g x is by f. ((fill_is m h b is by.block).places x).views f g;
+  of_load = λ m h span kind g x is lt piece. (load_is m h span kind is lt piece).views g x;
+  of_fill = λ m h b g x is by. fill_views m h b g x is by.block;
   of_evict = λ m h b g x is by f. ((evict_is m h b is by.block).places x).views f g;
   of_write = λ m c span bytes done x is lt told from to. (writes m c span bytes done is lt told).here x from to;
   of_write_beside = λ m c span bytes done x is lt told beside. (writes m c span bytes done is lt told).away x beside;

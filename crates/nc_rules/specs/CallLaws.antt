@@ -112,13 +112,16 @@ pub record ChannelsByPlace : Type 0 where
 abbrev pub PartsNone : MachineState → ℕ → ℕ → Type 0
 PartsNone m h x = (list_any (λ e. parts m.size e x) (queue_of m h) ≡ false) ⊎ NotHeld m x
 
--- a drain keeps what its own hart sees, and what another sees where the draining hart's queue gives nothing; a fill
--- and an eviction change nothing that is seen; a channel's write changes exactly the places that it tells
+-- a load and a fill change nothing that any hart sees at any place. Where no copy of the place is stale, an eviction
+-- changes nothing that is seen there, and a drain of a queue none of whose entries parts memory and copies there keeps
+-- what its own hart sees, and what another sees where that queue gives nothing. A channel's write changes exactly the
+-- places that it tells
 pub record ViewsStay : Type 0 where
   pub of_drain : (m : MachineState) (h i x : ℕ) → IsMachine m → h < length m.harts → FreshAt m x → PartsNone m h x → view (drain_next m h i) h x ≡ view m h x
   pub of_drain_others : (m : MachineState) (h i g x : ℕ) → IsMachine m → h < length m.harts → FreshAt m x → PartsNone m h x → g ≢ h → gives m.size (queue_of m h) x ≡ None
       → view (drain_next m h i) g x ≡ view m g x
-  pub of_fill : (m : MachineState) (h b g x : ℕ) → IsMachine m → IsMove m h b → FreshAt m x → view (fill_next m h b) g x ≡ view m g x
+  pub of_load : (m : MachineState) (h : ℕ) (span : Span) (kind : MemType) (g x : ℕ) → IsMachine m → h < length m.harts → IsPieceIn (length m.cache.ram) span → view (issue_next m h (Load span kind)) g x ≡ view m g x
+  pub of_fill : (m : MachineState) (h b g x : ℕ) → IsMachine m → IsMove m h b → view (fill_next m h b) g x ≡ view m g x
   pub of_evict : (m : MachineState) (h b g x : ℕ) → IsMachine m → IsMove m h b → FreshAt m x → view (evict_next m h b) g x ≡ view m g x
   pub of_write : (m : MachineState) (c : ℕ) (span : Span) (bytes : List ℕ) (done : Bool) (x : ℕ) → IsMachine m → c < 4 → chan_write_told m c ≡ Moved span bytes done → span.at ≤ x → x < span.at + span.len
       → byte (chan_write_next m c).cache.ram x ≡ byte bytes (x - span.at)

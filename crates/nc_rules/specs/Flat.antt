@@ -1,5 +1,5 @@
 -- Flat memory of a run: the accesses and touches among its records, and what the laws of flat memory say of them.
-use Rattle.std.specs.Prelude.{ℕ, Bool, List, [], ◌∷◌, ◌++◌, length, replicate, All, is_some}
+use Rattle.std.specs.Prelude.{ℕ, Bool, List, [], ◌∷◌, ◌++◌, length, take, replicate, All, is_some}
 use Rattle.std.specs.List.{list_any, range_with_len}
 use Rattle.nc_num.specs.Memory.{byte}
 use Rattle.nc_env.specs.declared.CboOp.{CboOp}
@@ -73,12 +73,16 @@ is_given m x = list_any (λ h. is_some (gives m.size (queue_of m h) x)) (range_w
 abbrev pub flat_after : Scenario → List Event → List ℕ
 flat_after sc es = flat (memory sc) (deeds (run_marks (start sc) es))
 
--- while there was no touch, the bytes of threads, and those that are passed or nobody's, are flat memory's, but for
--- those that a queue still has
-abbrev pub IsKept : Scenario → List Event → Type 0
-IsKept sc es =
+-- where the run had no touch, the bytes of threads, and those that are passed or nobody's, are flat memory's after it, but
+-- for those that a queue still has and those of the bounce slots
+abbrev pub IsKeptAfter : Scenario → List Event → Type 0
+IsKeptAfter sc es =
     Untouched (run_marks (start sc) es)
     → Kept sc.ram (slots_of sc) (owner_of (after (start sc) es)) (is_given (after (start sc) es).machine) (view.middle (after (start sc) es).machine) (byte (flat_after sc es))
+
+-- the same after each front of the events, the whole of them too
+abbrev pub IsKept : Scenario → List Event → Type 0
+IsKept sc es = (n : ℕ) → IsKeptAfter sc (take n es)
 
 -- whatever events happen in whatever order
 abbrev pub EachRunIsLatest : Type 0

@@ -56,7 +56,7 @@ pub record SameAt (m n : MachineState) (x : ℕ) : Type 0 where
   pub clear : ClearAt m x → ClearAt n x
   pub both : (v : ℕ) → BothAt m v x → BothAt n v x
 
--- copies are brought, written back or dropped: nothing changes that a hart sees at the place
+-- copies are brought, written back or dropped: nothing changes that a hart sees at the place if no copy of it is stale
 pub record KeepsAt (m n : MachineState) (x : ℕ) : Type 0 where
   pub cache : Keeps m.size m.cache n.cache x
   pub fresh : FreshAt m x → FreshAt n x × (middle n x ≡ middle m x)
@@ -109,13 +109,14 @@ pub record Stays (m n : MachineState) : Type 0 where
 
 -- ---- an issue
 
--- hart h loads a span of a type
+-- hart h loads a span of a type: no byte changes that a hart sees, whether copies are stale or not
 pub record Loads (m n : MachineState) (h : ℕ) (span : Span) (kind : MemType) : Type 0 where
   pub devices : SameDevices m n
   pub queues : (g : ℕ) → queue_of n g ≡ queue_of m g
   pub last : (hart_of n h).last ≡ bytes_seen m h kind span
   pub others : (g : ℕ) → g ≢ h → hart_of n g ≡ hart_of m g
   pub places : (x : ℕ) → KeepsAt m n x
+  pub views : (g x : ℕ) → view n g x ≡ view m g x
   pub apart : (x : ℕ) → (kind ≡ Pma → x / m.size ≢ block_at span.at m.size) → SameAt m n x
 
 -- an entry comes into hart h's queue

@@ -3,7 +3,6 @@
 use Rattle.std.specs.Prelude.{ℕ, zero, suc, ◌+◌, ◌-◌, ◌*◌, ◌/◌, ◌%◌, ◌==◌, nat_lt, Bool, true, false, List, [], ◌∷◌, ◌++◌, take, length, if◌then◌else◌, is_some}
 use Rattle.rand_pcg.specs.Lcg.{Lcg, started, increment_of}
 use Rattle.rand_pcg.specs.Pcg.{multiplier_64, pcg32}
-use Rattle.nc_num.specs.declared.names.HartNo.{HartNo}
 use Rattle.nc_num.specs.declared.names.ChanNo.{ChanNo}
 use Rattle.nc_scen.specs.declared.events.Event.{Event}
 use Rattle.nc_scen.specs.declared.events.Event.TheVariants.{Issue, Try, Drain, Fill, Evict, ChanRead, ChanWrite}
@@ -12,12 +11,9 @@ use Rattle.nc_scen.specs.declared.scenario.Plan.TheVariants as plans
 use Rattle.nc_scen.specs.declared.scenario.Scenario.{Scenario}
 use Rattle.nc_rules.specs.declared.records.Record.{Record}
 use Rattle.nc_rules.specs.Driver.{searching}
-use Rattle.nc_rules.specs.World.{WorldState, driver_of, start}
+use Rattle.nc_rules.specs.World.{WorldState, hart, driver_of, start}
 use Rattle.nc_rules.specs.Next.{next}
 use Rattle.nc_rules.specs.Run.{after, records}
-
-abbrev pub hart : ℕ → HartNo
-hart n = record { 0 = n }
 
 abbrev pub chan : ℕ → ChanNo
 chan n = record { 0 = n }

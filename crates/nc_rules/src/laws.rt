@@ -51,8 +51,10 @@ pub fn channels_by_place()
     ensures { ChannelsByPlace }
 {}
 
-/// A drain keeps what its own hart sees, and what another sees where the draining hart's queue gives nothing. A fill
-/// and an eviction change nothing that is seen, and a channel's write changes exactly its places.
+/// A load and a fill change nothing that any hart sees at any place. At a place of which no copy is stale, an eviction
+/// changes nothing that is seen. A drain there keeps what its own hart sees, and what another sees where the draining
+/// hart's queue gives nothing, if no entry of that queue parts memory and copies at the place or nobody holds its
+/// block. A channel's write changes exactly its places.
 #[tactic(auto, using(crate::proofs::ViewPlaces::views_stay))]
 pub fn views_stay()
     ensures { ViewsStay }
