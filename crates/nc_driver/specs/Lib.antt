@@ -2,3 +2,4 @@ pub mod Shown
 pub mod Kept
 pub mod Rests
 pub mod Safe
+pub mod Kinds

@@ -7,6 +7,7 @@ ghost use Rattle.nc_scen.specs.Accepted.{IsAccepted};
 ghost use Rattle.nc_rules.specs.Built.{is_built_op, IsBuilt};
 ghost use Rattle.nc_rules.specs.Operations.{buffer_of, effect_of};
 ghost use Rattle.nc_rules.specs.Start.{fixed_of, hart_spec, pbmte_of};
+ghost use Rattle.nc_driver.specs.Kinds.{is_memory_op, is_channel_op};
 
 use nc_env::{CboOp, Illegal};
 use nc_num::{HartNo, NoMemory, Span};
@@ -159,20 +160,43 @@ fn copy_of(alloc: Global, op: &Op) -> Result<Op, NoMemory>
     requires { is_built_op op.now ≡ true }
     ensures { IfOk result (λ o. o ≡ op.now) }
 {
-    Ok(match *op {
-        Op::Ld { spot, off, len } => Op::Ld { spot, off, len },
+    match *op {
         Op::St {
             spot,
             off,
             ref bytes,
         } => {
             let bytes = HexBytes::new(Vec::from_slice(alloc, bytes.as_slice())?);
-            Op::St { spot, off, bytes }
+            Ok(Op::St { spot, off, bytes })
         }
+        Op::Ld { .. } | Op::Cbo { .. } | Op::Fence { .. } | Op::Hand { .. } | Op::Take(_) => {
+            Ok(memory_copy(op))
+        }
+        _ => Ok(channel_copy(op)),
+    }
+}
+
+/// A copy of an operation on memory, the caches or the mailbox, of those that take no memory.
+fn memory_copy(op: &Op) -> Op
+    requires { is_memory_op op.now ≡ true }
+    ensures { result ≡ op.now }
+{
+    match *op {
+        Op::Ld { spot, off, len } => Op::Ld { spot, off, len },
         Op::Cbo { op, buf, off } => Op::Cbo { op, buf, off },
         Op::Fence { pred, succ } => Op::Fence { pred, succ },
         Op::Hand { buf, to } => Op::Hand { buf, to },
         Op::Take(buf) => Op::Take(buf),
+        _ => unreachable!(),
+    }
+}
+
+/// A copy of an operation on a channel.
+fn channel_copy(op: &Op) -> Op
+    requires { is_channel_op op.now ≡ true }
+    ensures { result ≡ op.now }
+{
+    match *op {
         Op::Claim(chan) => Op::Claim(chan),
         Op::Free(chan) => Op::Free(chan),
         Op::Regs {
@@ -203,5 +227,5 @@ fn copy_of(alloc: Global, op: &Op) -> Result<Op, NoMemory>
             value,
         },
         _ => unreachable!(),
-    })
+    }
 }

@@ -1,9 +1,8 @@
 -- The scenario of the tests is accepted.
 use Rattle.std.specs.Prelude.{All, false}
-use Rattle.std.proofs.Common.{◌≡◌, ◌≤◌, ◌<◌, ◌+◌, ℕ, List, [], ◌∷◌, length, refl, inl, inr, sym, arith}
+use Rattle.std.proofs.Common.{◌≤◌, ℕ, List, [], ◌∷◌, refl, inl, inr, arith}
 use Rattle.std.proofs.lemmas.List.Elements.{All-nil, All-cons}
 use Rattle.nc_env.specs.declared.Mode.TheVariants.{S}
-use Rattle.nc_num.specs.declared.places.Span.{Span}
 use Rattle.nc_scen.specs.declared.scenario.BufferSpec.{BufferSpec}
 use Rattle.nc_scen.specs.declared.scenario.HartSpec.{HartSpec}
 use Rattle.nc_scen.specs.declared.scenario.Plan.TheVariants as plans

@@ -1,9 +1,7 @@
 -- Control as a number, and its claim bit.
 use Rattle.std.specs.Prelude.{bit_and, bit_or, nat_eq}
-use Rattle.std.proofs.Common.{◌≡◌, ℕ, ◌+◌, ◌*◌, ◌/◌, ◌%◌, ◌^◌, ◌<◌, ◌==◌, Bool, true, false, refl, sym, ap, ◌∙◌, arith}
-use Rattle.std.specs.Int.{bit_at}
-use Rattle.std.proofs.lemmas.Bool.Decides.{nat_tests}
-use Rattle.nc_pdma_regs.specs.Control.{ControlBits, number_of, bit, one}
+use Rattle.std.proofs.Common.{◌≡◌, ℕ, ◌+◌, ◌%◌, false, ◌∙◌, arith}
+use Rattle.nc_pdma_regs.specs.Control.{ControlBits, number_of, bit}
 use Rattle.nc_pdma_regs.specs.Registers.{Registers}
 use Rattle.nc_pdma_regs.specs.Laws.{claim_value}
 use Rattle.nc_pdma_regs.proofs.Bits.{number_of-lt, claim_is, contains_pow, or_pow}

@@ -1,12 +1,12 @@
 -- A fence puts a marker exactly where the queue has grown.
-use Rattle.std.specs.Prelude.{Option, Some, None, if◌then◌else◌}
-use Rattle.std.proofs.Common.{◌≡◌, ℕ, ◌<◌, ◌≤◌, ◌+◌, Bool, true, false, List, [], ◌∷◌, ◌++◌, length, refl, sym, ap, ◌∙◌, arith, length-append}
+use Rattle.std.specs.Prelude.{Some, None, if◌then◌else◌}
+use Rattle.std.proofs.Common.{◌≡◌, ℕ, ◌<◌, ◌≤◌, Bool, true, false, [], ◌∷◌, length, refl, ap, arith, length-append}
 use Rattle.nc_queue.specs.QueueState.{QueueState}
 use Rattle.nc_queue.specs.declared.entry.Entry.{Entry}
 use Rattle.nc_plan.specs.declared.ops.HartOp.TheVariants.{Fence}
 use Rattle.nc_hart.specs.HartState.{HartState}
 use Rattle.nc_hart.specs.Issue.{marks, marker, pushed, issued}
-use Rattle.nc_rules.specs.Machine.{MachineState, hart_of, queue_of, with_hart}
+use Rattle.nc_rules.specs.Machine.{MachineState, hart_of, queue_of}
 use Rattle.nc_rules.specs.Calls.{issue_next}
 use Rattle.nc_rules.proofs.MachineParts.{hart_here}
 

@@ -1,19 +1,19 @@
 -- What a call leaves is a sound machine, whose caches have its block size and its harts.
-use Rattle.std.specs.Prelude.{Option, Some, None, IfSome, IfNone, slice_set, slice_index_or}
-use Rattle.std.proofs.Common.{◌≡◌, ℕ, ◌<◌, ◌≤◌, List, length, refl, sym, ap, subst, ◌∙◌, arith}
+use Rattle.std.specs.Prelude.{Option, Some, None, IfSome, IfNone, slice_set}
+use Rattle.std.proofs.Common.{◌≡◌, ℕ, ◌<◌, List, length, refl, sym, ap, subst, ◌∙◌}
 use Rattle.nc_cache.specs.Cache.{Cache}
 use Rattle.nc_cache.specs.State.{DomainState}
 use Rattle.nc_cache.specs.Facts.{Whole}
 use Rattle.nc_queue.specs.declared.entry.Entry.{Entry}
 use Rattle.nc_hart.specs.HartState.{HartState}
-use Rattle.nc_rules.specs.Machine.{MachineState, no_hart, hart_of, with_cache, with_hart}
+use Rattle.nc_rules.specs.Machine.{MachineState, hart_of, with_cache, with_hart}
 use Rattle.nc_rules.specs.Calls.{leaving, without_entry}
 use Rattle.nc_rules.specs.Sound.{IsMachine, EntryIsThere}
 use Rattle.nc_rules.specs.MachineLaws.{SameShape}
 use Rattle.nc_rules.proofs.SoundParts.{there_same}
 use Rattle.nc_rules.proofs.SoundWith.{sound_cache, shape_cache, shape_hart}
 use Rattle.nc_rules.proofs.SoundDrain.{leaving_is, sound_without, shape_without, without}
-use Rattle.nc_machine.specs.State.{MachineShown, IsKept}
+use Rattle.nc_machine.specs.State.{IsKept}
 
 -- the machine p, which has the shape of m
 pub kept : (m n p : MachineState) (d e : DomainState) → IsKept m d → n ≡ p → IsMachine p → SameShape m p → e.size ≡ d.size → e.harts ≡ d.harts → IsKept n e

@@ -1,6 +1,6 @@
 -- The bytes of a load, place by place.
 use Rattle.std.specs.Prelude.{unwrap_or}
-use Rattle.std.proofs.Common.{◌≡◌, ℕ, zero, suc, ◌+◌, List, [], ◌∷◌, refl, ap, map}
+use Rattle.std.proofs.Common.{◌≡◌, ℕ, zero, suc, ◌+◌, List, ◌∷◌, refl, ap, map}
 use Rattle.std.specs.List.{range_with_len}
 use Rattle.nc_num.proofs.MemoryLaws.{span-by_place}
 use Rattle.nc_queue.specs.Rules.{gives}

@@ -1,6 +1,6 @@
 //! The machine, and its calls.
 
-ghost use Rattle.std.specs.Prelude.{◌≡◌, ◌≤◌, ◌<◌, ◌+◌, ◌%◌, length, map, IfOk, IfNone, IfSome, IsTrue, Some, OnOk, OnErr};
+ghost use Rattle.std.specs.Prelude.{◌≡◌, ◌≤◌, ◌<◌, ◌+◌, ◌%◌, length, map, is_err, is_some, IfOk, IfNone, IfSome, IsTrue, true, Some, OnOk, OnErr};
 ghost use Rattle.std.specs.List.{range_with_len};
 ghost use Rattle.nc_num.specs.Places.{block_at};
 ghost use Rattle.nc_hart.specs.Issue.{issued};
@@ -10,9 +10,10 @@ ghost use Rattle.nc_queue.specs.declared.entry.Entry.TheVariants as entries;
 ghost use Rattle.nc_rules.specs.declared.answers.Issued.TheVariants.{Loaded};
 ghost use Rattle.nc_rules.specs.Machine.{hart_of, queue_of, channel_of, grantee_of, box_of, with_hart, with_box, with_cache};
 ghost use Rattle.nc_rules.specs.View.{bytes_of, bytes_seen, below};
-ghost use Rattle.nc_rules.specs.Calls.{may_issue, issue_next, issue_answer, asks_caches, cache_loaded, load_transfers, performed, store_transfers, operation_transfers, drain_transfers, leaving, without_entry, drain_next, drain_answer, is_pooled, fill_next, fill_answer, evict_next, evict_answer, chan_read_next, chan_read_told, chan_write_next, chan_write_told, control_of, claim_next, claim_answer, may_take, take_next, io_waits, lends, register_value};
+ghost use Rattle.nc_rules.specs.Calls.{may_issue, issue_next, issue_answer, asks_caches, cache_loaded, load_transfers, performed, store_transfers, operation_transfers, drain_transfers, leaving, without_entry, drain_next, drain_answer, is_pooled, fill_next, fill_answer, evict_next, evict_answer, chan_read_next, chan_read_told, chan_write_next, chan_write_told, control_of, is_claimed, claim_next, claim_answer, may_take, take_next, io_waits, lends, register_value};
 ghost use Rattle.nc_rules.specs.Sound.{IsMachine, IsBlockIn, IsRegister, IsPieceIn, IsMessage, OpIsThere, EntryIsThere};
 ghost use Rattle.nc_rules.specs.Start.{first_machine};
+ghost use Rattle.nc_machine.specs.Loads.{may_bring};
 ghost use Rattle.nc_scen.specs.Accepted.{IsAccepted};
 
 use crate::{engine, harts, start};
@@ -116,13 +117,13 @@ impl Machine {
     }
 
     /// Hart h issues an operation that it may issue. What the operation names is there: a load or store is one piece in
-    /// RAM, and a store has the bytes of its span.
+    /// RAM, and a store has the bytes of its span. Only a load of memory asks for room.
     #[tactic(auto, unfolding(nc_rules::specs::Calls::issue_next))]
     pub fn issue(&mut self, h: HartNo, op: HartOp) -> Issued
         requires hart { h.0 < length self.old.machine.harts }
         requires there { OpIsThere self.old.machine h.0 op }
         requires can { IsTrue (may_issue self.old.machine h.0 op) }
-        requires spare { 1 ≤ self.old.spare }
+        requires spare { may_bring op ≡ true → 1 ≤ self.old.spare }
         ensures state { self.new.machine ≡ issue_next self.old.machine h.0 op }
         ensures answer { result ≡ issue_answer self.old.machine h.0 op }
         ensures spare { self.old.spare ≤ self.new.spare + 1 }
@@ -232,6 +233,7 @@ impl Machine {
         requires channel { c.0 < 4 }
         ensures state { self.new.machine ≡ claim_next self.old.machine h c.0 }
         ensures answer { result ≡ claim_answer (grantee_of self.old.machine c.0) }
+        ensures claimed { is_err result ≡ is_claimed (channel_of self.old.machine c.0) }
         ensures spare { self.old.spare ≤ self.new.spare }
     {
         if let Some(g) = self.grantees[usize::from(c.0)] {
@@ -247,6 +249,7 @@ impl Machine {
     pub fn grantee(&self, c: ChanNo) -> Option<HartNo>
         requires { c.0 < 4 }
         ensures value { result ≡ grantee_of self.now.machine c.0 }
+        ensures claimed { is_some result ≡ is_claimed (channel_of self.now.machine c.0) }
         ensures sound { IsMachine self.now.machine }
     {
         self.grantees[usize::from(c.0)]

@@ -1,6 +1,5 @@
-use Rattle.std.proofs.Common.{◌≡◌, ◌∙◌, ap, ℕ, arith, subst, sym, slice_index_or, slice_set, bit_or}
+use Rattle.std.proofs.Common.{◌≡◌, ◌∙◌, ap, arith, subst, slice_index_or, slice_set, bit_or}
 use Rattle.std.proofs.lemmas.Grind.{common_steps}
-use Rattle.nc_pdma_regs.specs.Laws.{claim_value}
 use Rattle.nc_pdma_regs.specs.Control.{number_of}
 use Rattle.nc_pdma.specs.Channel.{ChannelState, IsChannel, new_channel, channel_write}
 use Rattle.nc_pdma.proofs.Claim.{claim_by_control}

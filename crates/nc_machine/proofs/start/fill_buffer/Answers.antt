@@ -1,4 +1,4 @@
-use Rattle.std.proofs.Common.{◌+◌, ◌*◌, ◌%◌, ℕ, ◌≡◌, ◌∙◌, length, arith}
+use Rattle.std.proofs.Common.{◌+◌, ◌*◌, ◌%◌, ◌≡◌, ◌∙◌, length, arith}
 use Rattle.nc_machine.proofs.Starts.{filled_more}
 use Rattle.nc_machine.proofs.start.fill_buffer.Goals as goal
 

@@ -1,4 +1,3 @@
-use Rattle.std.proofs.Common.{◌∙◌, sym, subst}
 use Rattle.nc_machine.proofs.Benches.{bench_accepted}
 use Rattle.nc_machine.proofs.tests.scenario.Goals as goal
 

@@ -1,10 +1,6 @@
-use Rattle.std.proofs.Common.{◌≡◌, ◌<◌, ◌≤◌, ◌+◌, ◌*◌, ℕ, ap, sym, subst, length, refl, ◌∙◌, arith}
-use Rattle.nc_rules.specs.Machine.{MachineState}
-use Rattle.nc_rules.specs.Sound.{IsBlockIn}
+use Rattle.std.proofs.Common.{◌≡◌, refl}
 use Rattle.nc_machine.specs.Inside.{machine_of}
-use Rattle.nc_machine.specs.State.{MachineShown}
 use Rattle.nc_machine.proofs.machine.Machine.chan_read.Goals as goal
-use Rattle.nc_pdma.specs.Channel.{ChannelState}
 use Rattle.nc_rules.specs.Calls.{chan_read_next}
 use Rattle.nc_rules.proofs.SoundSteps.{sound_chan_read, shape_chan_read}
 use Rattle.nc_machine.proofs.Keeps.{kept}

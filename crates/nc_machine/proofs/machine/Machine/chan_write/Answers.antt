@@ -1,11 +1,7 @@
-use Rattle.std.proofs.Common.{◌≡◌, ◌<◌, ◌≤◌, ◌+◌, ◌*◌, ℕ, ap, sym, subst, length, refl, ◌∙◌, arith}
-use Rattle.nc_rules.specs.Machine.{MachineState}
-use Rattle.nc_rules.specs.Sound.{IsBlockIn}
+use Rattle.std.proofs.Common.{◌≡◌, refl}
 use Rattle.nc_machine.specs.Inside.{machine_of}
-use Rattle.nc_machine.specs.State.{MachineShown}
 use Rattle.nc_machine.proofs.machine.Machine.chan_write.Goals as goal
 use Rattle.nc_rules.specs.Calls.{chan_write_next}
-use Rattle.nc_rules.specs.Machine.{with_ram}
 use Rattle.nc_rules.proofs.SoundSteps.{sound_chan_write, shape_chan_write}
 use Rattle.nc_machine.proofs.Keeps.{kept}
 

@@ -1,8 +1,5 @@
-use Rattle.std.proofs.Common.{◌≡◌, ◌<◌, ◌≤◌, ◌+◌, ◌*◌, ℕ, ap, sym, subst, length, refl, ◌∙◌, arith}
+use Rattle.std.proofs.Common.{◌≡◌, ◌<◌, ◌≤◌, ap, length, refl, arith}
 use Rattle.nc_rules.specs.Machine.{MachineState}
-use Rattle.nc_rules.specs.Sound.{IsBlockIn}
-use Rattle.nc_machine.specs.Inside.{machine_of}
-use Rattle.nc_machine.specs.State.{MachineShown}
 use Rattle.nc_machine.proofs.machine.Machine.fence.Goals as goal
 use Rattle.nc_plan.specs.declared.ops.HartOp.TheVariants.{Fence}
 use Rattle.nc_rules.specs.Machine.{queue_of}

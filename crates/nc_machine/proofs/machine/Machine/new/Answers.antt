@@ -1,8 +1,4 @@
-use Rattle.std.proofs.Common.{◌≡◌, ◌<◌, ◌≤◌, ◌+◌, ◌*◌, ℕ, ap, sym, subst, length, refl, ◌∙◌, arith}
-use Rattle.nc_rules.specs.Machine.{MachineState}
-use Rattle.nc_rules.specs.Sound.{IsBlockIn}
-use Rattle.nc_machine.specs.Inside.{machine_of}
-use Rattle.nc_machine.specs.State.{MachineShown}
+use Rattle.std.proofs.Common.{◌≡◌, ap, sym, subst, length, refl, ◌∙◌}
 use Rattle.nc_machine.proofs.machine.Machine.new.Goals as goal
 use Rattle.std.proofs.lemmas.List.{length-replicate}
 use Rattle.nc_rules.specs.Machine.{fresh_hart}

@@ -1,4 +1,4 @@
-use Rattle.std.proofs.Common.{◌≡◌, ◌<◌, ◌≤◌, ◌+◌, ◌*◌, ◌∙◌, sym, subst, length, arith}
+use Rattle.std.proofs.Common.{◌<◌, ◌∙◌, sym, subst, length, arith}
 use Rattle.nc_rules.specs.MachineLaws.{SameShape}
 use Rattle.nc_rules.specs.Sound.{IsBlockIn}
 use Rattle.nc_rules.proofs.SoundSteps.{shape_evict}
