@@ -40,7 +40,7 @@ unfolding recorded performed enabled
 recorded_goes sc f w (events.Issue h) a inv there on = issue_goes sc f w h (before sc f w h a inv there) inv.grants on
 recorded_goes sc f w (events.Try h) a inv there on = goes_silently sc f [] w refl inv
 recorded_goes sc f w (events.Told h got) a inv there on = goes_silently sc f [] w refl inv
-recorded_goes sc f w (events.Drain h i) a inv there on = drain_goes sc f w h i (leaving w.machine h.0 i) refl inv (omega (arith, inv.flatness.of_scenario.harts, there.0))
+recorded_goes sc f w (events.Drain h i) a inv there on = drain_goes sc f w h i (leaving w.machine h.0 i) refl inv (omega (arith, inv.flatness.of_scenario.harts, there))
 recorded_goes sc f w (events.Fill h b) a inv there on =
     let of = inv.flatness.of_scenario in fill_goes sc f w h b inv (omega (arith, of.harts, there.0)) (rw (of.size, of.ram) there.1)
 recorded_goes sc f w (events.Evict h b) a inv there on =

@@ -80,7 +80,7 @@ impl Machine {
         let boxes = sc.buffers.as_slice().len() as u8;
         Ok(Machine {
             size: sc.block_size,
-            pool: start::pool_of(sc),
+            pool: sc.pool(),
             ram: start::memory(alloc, sc)?,
             domain: Domain::new(alloc, harts, sc.block_size)?,
             harts: start::fresh_harts(alloc, harts, sc.block_size)?,

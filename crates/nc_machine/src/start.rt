@@ -5,7 +5,6 @@ ghost use Rattle.nc_num.specs.Memory.{splice};
 ghost use Rattle.nc_num.specs.Sizes.{IsBlockSize};
 ghost use Rattle.nc_pdma.specs.Channel.{new_channel};
 ghost use Rattle.nc_scen.specs.Accepted.{FitsBuffer, IsAccepted};
-ghost use Rattle.nc_scen.specs.Regions.{pool_of};
 ghost use Rattle.nc_rules.specs.Machine.{fresh_hart};
 ghost use Rattle.nc_rules.specs.Start.{filled, memory, pattern};
 
@@ -15,17 +14,6 @@ use nc_num::{NoMemory, Span};
 use nc_pdma::Channel;
 use nc_scen::{BufferSpec, Scenario};
 use std::alloc::{AllocError, Global};
-
-/// The coherent pool.
-pub(crate) fn pool_of(sc: &Scenario) -> Span
-    requires { IsAccepted sc.now }
-    ensures { result ≡ pool_of sc.now }
-{
-    Span {
-        at: sc.pool_at,
-        len: 4096 * sc.pages,
-    }
-}
 
 /// So many harts with empty queues, which have loaded nothing.
 #[tactic(auto, using(std::proofs::lemmas::List::replicate_more))]

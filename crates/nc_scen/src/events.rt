@@ -11,7 +11,7 @@ pub enum Event {
     Try(HartNo),
     /// The hart's driver is told what another pool said of that word: whether it got it.
     Told(HartNo, bool),
-    /// The drain of an entry, 0 to 7, of the hart's store queue.
+    /// The drain of an entry of the hart's store queue, 0 for the oldest; skipped where there is no such entry.
     Drain(HartNo, u8),
     /// A copy of the block comes into the hart's cache.
     Fill(HartNo, Block),

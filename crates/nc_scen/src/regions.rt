@@ -202,7 +202,7 @@ impl RegionKind {
     }
 
     /// The bytes of a slot or of a page.
-    fn unit(self) -> u32
+    pub fn unit(self) -> u32
         ensures { result ≡ unit_of self }
     {
         match self {

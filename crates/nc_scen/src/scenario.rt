@@ -1,9 +1,12 @@
 //! What a scenario is.
 
 ghost use Rattle.std.specs.Prelude.{◌≡◌};
+ghost use Rattle.nc_scen.specs.Accepted.{IsAccepted};
+ghost use Rattle.nc_scen.specs.Regions.{pool_of};
 
 use crate::events::Event;
 use crate::ops::Ops;
+use crate::regions::RegionKind;
 use nc_env::Mode;
 use nc_num::{HartNo, Span};
 use std::marker::Model;
@@ -206,4 +209,17 @@ pub struct Scenario {
     pub finish: bool,
     /// How many events are tried at most, up to 400,000.
     pub limit: u64,
+}
+
+impl Scenario {
+    /// The range of the coherent pool, which is empty where it has no pages.
+    pub fn pool(&self) -> Span
+        requires { IsAccepted self.now }
+        ensures { result ≡ pool_of self.now }
+    {
+        Span {
+            at: self.pool_at,
+            len: RegionKind::Pool.unit() * self.pages,
+        }
+    }
 }

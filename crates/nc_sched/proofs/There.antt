@@ -77,7 +77,7 @@ event_is harts size ram w a b p =
     let three = if nat_lt (a % 16) 12 then ChanRead (chan (a / 16 % 4)) else four in
     let two = if nat_lt (a % 16) 10 then Drain (hart h) (b % 8) else three in
     if_is harts size ram (nat_lt (a % 16) 7) (turn_of w h) two (turn_is harts size ram w h less)
-    (if_is harts size ram (nat_lt (a % 16) 10) (Drain (hart h) (b % 8)) three (less, omega arith)
+    (if_is harts size ram (nat_lt (a % 16) 10) (Drain (hart h) (b % 8)) three less
     (if_is harts size ram (nat_lt (a % 16) 12) (ChanRead (chan (a / 16 % 4))) four channel
     (if_is harts size ram (nat_lt (a % 16) 14) (ChanWrite (chan (a / 16 % 4))) five channel
     (if_is harts size ram (a % 16 == 14) fill evict (less, there) (less, there)))))
@@ -89,7 +89,7 @@ round_is harts size ram w i p less =
     let last = if nat_lt i (2 * harts) then Drain (hart (i - harts)) 0 else channel_event j in
     if_is_by harts size ram (nat_lt i harts) (turn_of w i) last (λ t. turn_is harts size ram w i (grind (arith, nat_tests)))
     (λ t. if_is_by harts size ram (nat_lt i (2 * harts)) (Drain (hart (i - harts)) 0) (channel_event j)
-    (λ u. (omega (arith, at_least i harts t, below i (2 * harts) u, p.some), omega arith))
+    (λ u. omega (arith, at_least i harts t, below i (2 * harts) u, p.some))
     (λ u. if_is harts size ram (j % 2 == 0) (ChanRead (chan (j / 2))) (ChanWrite (chan (j / 2))) channel channel))
   where
     at_least : (i n : ℕ) → nat_lt i n ≡ false → n ≤ i

@@ -60,7 +60,7 @@ performed_shape w (events.Issue h) is world there =
     is_shape w.machine (step_next w h n) (step_machine w.machine h n) (stepped_machine w h n) (shape_step w.machine h n is there (next_fits w h.0 world there))
 performed_shape w (events.Try h) is world there = shape_same w.machine
 performed_shape w (events.Told h got) is world there = shape_same w.machine
-performed_shape w (events.Drain h i) is world there = shape_drained w h i (leaving w.machine h.0 i) is there.0
+performed_shape w (events.Drain h i) is world there = shape_drained w h i (leaving w.machine h.0 i) is there
 performed_shape w (events.Fill h b) is world there = shape_fill w.machine h.0 b.0 is there.0 there.1
 performed_shape w (events.Evict h b) is world there = shape_evict w.machine h.0 b.0 is there.0 there.1
 performed_shape w (events.ChanRead c) is world there =

@@ -4,28 +4,16 @@ ghost use Rattle.std.specs.Prelude.{◌≡◌, ◌≤◌, ◌<◌, ◌+◌, [], 
 ghost use Rattle.std.specs.List.{range_with_len};
 ghost use Rattle.nc_model.specs.declared.owners.Owner.TheVariants.{Pool};
 ghost use Rattle.nc_scen.specs.Accepted.{FitsBuffer, IsAccepted};
-ghost use Rattle.nc_scen.specs.Regions.{pool_of};
 ghost use Rattle.nc_rules.specs.Built.{IsBuilt};
 ghost use Rattle.nc_rules.specs.Start.{first_driver};
 ghost use Rattle.nc_rules.specs.World.{first_owners, owned_by_harts, hart};
 
 use nc_driver::Driver;
 use nc_model::Owner;
-use nc_num::{HartNo, NoMemory, Span};
+use nc_num::{HartNo, NoMemory};
 use nc_own::Book;
 use nc_scen::{BufferSpec, Scenario};
 use std::alloc::Global;
-
-/// The coherent pool.
-pub(crate) fn pool_of(sc: &Scenario) -> Span
-    requires { IsAccepted sc.now }
-    ensures { result ≡ pool_of sc.now }
-{
-    Span {
-        at: sc.pool_at,
-        len: 4096 * sc.pages,
-    }
-}
 
 /// A driver for each hart.
 pub(crate) fn drivers_of(alloc: Global, sc: &Scenario) -> Result<Vec<Driver>, NoMemory>

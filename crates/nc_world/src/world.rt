@@ -112,7 +112,7 @@ impl World {
     {
         Ok(World {
             size: sc.block_size,
-            pool: setup::pool_of(sc),
+            pool: sc.pool(),
             machine: Machine::new(alloc, sc)?,
             drivers: setup::drivers_of(alloc, sc)?,
             book: setup::book_of(alloc, sc)?,
@@ -126,7 +126,7 @@ impl World {
 
     // ---- one event
 
-    /// Makes one event, or skips it where it may not happen. What the event names is there.
+    /// Makes one event, or skips it where it may not happen. The hart, block or channel that it names is there.
     ///
     /// # Errors
     ///

@@ -10,7 +10,7 @@ pub returns : goal.returns
 unfolding first_machine
 returns c =
     let d = c.in_ok-new.ensures in
-    rw (c.pool_of.ensures, c.in_ok-memory.ensures, d.lines, c.in_ok-fresh_harts.ensures, c.in_ok-new_channels.ensures, c.in_ok-new-2.ensures, c.as_slice.ensures, c.as_slice-2.ensures) refl
+    rw (c.pool.ensures, c.in_ok-memory.ensures, d.lines, c.in_ok-fresh_harts.ensures, c.in_ok-new_channels.ensures, c.in_ok-new-2.ensures, c.as_slice.ensures, c.as_slice-2.ensures) refl
 
 pub invariant_of-result : goal.invariant_of-result
 invariant_of-result c =
