@@ -6,7 +6,7 @@ ghost use Rattle.hex.specs.Hex.{encode_lower};
 ghost use Rattle.nc_rules.specs.Lines.{line, words, place, origin, operation, target};
 ghost use Rattle.nc_rules.specs.declared.records.Record.{Record};
 
-use crate::digits::{Six, Sixteen};
+use crate::digits::{InHex, Six, Sixteen};
 use crate::words::{
     ActorWords, AnswerWords, HeardWords, KindWord, OperationWord, OwnerWords, TargetWords, Token,
     TriedWords,
@@ -43,7 +43,6 @@ fn touch(text: &mut String, t: Touch) -> Result<(), AllocError>
 
 /// A hart's bytes at a place, behind this word.
 fn piece(
-    alloc: Global,
     text: &mut String,
     word: &str,
     hart: HartNo,
@@ -53,8 +52,7 @@ fn piece(
     ensures { OnOk result (string_bytes text.new ≡ string_bytes text.old
         ++ words (word.now ∷ decimal hart.0 ∷ place at ∷ encode_lower bytes.now ∷ [])) }
 {
-    let shown = hex::encode(alloc, bytes.as_slice())?;
-    write!(text, "{word} {} {} {shown}\n", hart.0, Six(at.0))
+    write!(text, "{word} {} {} {}\n", hart.0, Six(at.0), InHex(*bytes))
 }
 
 /// A cache operation on a block, behind this word.
@@ -100,14 +98,11 @@ fn drained_mark(text: &mut String, hart: HartNo) -> Result<(), AllocError>
 }
 
 /// Where a copy came from, and the end of its line.
-fn origin(alloc: Global, text: &mut String, from: &Origin) -> Result<(), AllocError>
+fn origin(text: &mut String, from: &Origin) -> Result<(), AllocError>
     ensures { OnOk result (string_bytes text.new ≡ string_bytes text.old ++ words (origin from.now ∷ [])) }
 {
     match from {
-        Origin::Mem(bytes) => {
-            let shown = hex::encode(alloc, bytes.as_slice())?;
-            write!(text, "mem {shown}\n")
-        }
+        Origin::Mem(bytes) => write!(text, "mem {}\n", InHex(*bytes)),
         Origin::Hart(g) => write!(text, "hart {}\n", g.0),
         Origin::Held => write!(text, "held\n"),
     }
@@ -115,7 +110,6 @@ fn origin(alloc: Global, text: &mut String, from: &Origin) -> Result<(), AllocEr
 
 /// A copy that was got, behind this word.
 fn copy(
-    alloc: Global,
     text: &mut String,
     word: &str,
     hart: HartNo,
@@ -126,7 +120,7 @@ fn copy(
         ++ words (word.now ∷ decimal hart.0 ∷ place at ∷ origin from.now ∷ [])) }
 {
     write!(text, "{word} {} {} ", hart.0, Six(at.0))?;
-    origin(alloc, text, from)
+    origin(text, from)
 }
 
 fn dropped(text: &mut String, hart: HartNo, at: Place) -> Result<(), AllocError>
@@ -137,7 +131,6 @@ fn dropped(text: &mut String, hart: HartNo, at: Place) -> Result<(), AllocError>
 
 /// A channel's bytes at a place, behind this word.
 fn transaction(
-    alloc: Global,
     text: &mut String,
     word: &str,
     chan: ChanNo,
@@ -147,8 +140,7 @@ fn transaction(
     ensures { OnOk result (string_bytes text.new ≡ string_bytes text.old
         ++ words (word.now ∷ decimal chan.0 ∷ place at ∷ encode_lower bytes.now ∷ [])) }
 {
-    let shown = hex::encode(alloc, bytes.as_slice())?;
-    write!(text, "{word} {} {} {shown}\n", chan.0, Six(at.0))
+    write!(text, "{word} {} {} {}\n", chan.0, Six(at.0), InHex(*bytes))
 }
 
 fn chan_done(text: &mut String, chan: ChanNo) -> Result<(), AllocError>
@@ -200,30 +192,30 @@ fn answered(text: &mut String, hart: HartNo, op: u32, answer: &Answer) -> Result
 }
 
 /// Writes the line of a record behind a text.
-fn put_line(alloc: Global, text: &mut String, entry: &Record) -> Result<(), AllocError>
+fn put_line(text: &mut String, entry: &Record) -> Result<(), AllocError>
     ensures { OnOk result (string_bytes text.new ≡ string_bytes text.old ++ line entry.now) }
 {
     match entry {
         Record::Event(e) => event(text, *e),
         Record::Touched(t) => touch(text, *t),
-        Record::Ld { hart, at, bytes } => piece(alloc, text, "ld", *hart, *at, bytes),
-        Record::St { hart, at, bytes } => piece(alloc, text, "st", *hart, *at, bytes),
-        Record::Pl { hart, at, bytes } => piece(alloc, text, "pl", *hart, *at, bytes),
-        Record::Ps { hart, at, bytes } => piece(alloc, text, "ps", *hart, *at, bytes),
+        Record::Ld { hart, at, bytes } => piece(text, "ld", *hart, *at, bytes),
+        Record::St { hart, at, bytes } => piece(text, "st", *hart, *at, bytes),
+        Record::Pl { hart, at, bytes } => piece(text, "pl", *hart, *at, bytes),
+        Record::Ps { hart, at, bytes } => piece(text, "ps", *hart, *at, bytes),
         Record::Cbo { hart, op, at } => operation(text, "cbo", *hart, *op, *at),
         Record::Fence { hart, pred, succ } => sets(text, "fence", *hart, *pred, *succ),
         Record::Mark { hart, pred, succ } => sets(text, "mark", *hart, *pred, *succ),
         Record::Io { hart, target: to } => target(text, "io", *hart, *to),
-        Record::DrStore { hart, at, bytes } => piece(alloc, text, "dr", *hart, *at, bytes),
+        Record::DrStore { hart, at, bytes } => piece(text, "dr", *hart, *at, bytes),
         Record::DrCbo { hart, op, at } => operation(text, "dr", *hart, *op, *at),
         Record::DrIo { hart, target: to } => target(text, "dr", *hart, *to),
         Record::DrMark(hart) => drained_mark(text, *hart),
-        Record::Fill { hart, at, from } => copy(alloc, text, "fill", *hart, *at, from),
-        Record::Own { hart, at, from } => copy(alloc, text, "own", *hart, *at, from),
-        Record::Wb { hart, at, bytes } => piece(alloc, text, "wb", *hart, *at, bytes),
+        Record::Fill { hart, at, from } => copy(text, "fill", *hart, *at, from),
+        Record::Own { hart, at, from } => copy(text, "own", *hart, *at, from),
+        Record::Wb { hart, at, bytes } => piece(text, "wb", *hart, *at, bytes),
         Record::Drop { hart, at } => dropped(text, *hart, *at),
-        Record::Cr { chan, at, bytes } => transaction(alloc, text, "cr", *chan, *at, bytes),
-        Record::Cw { chan, at, bytes } => transaction(alloc, text, "cw", *chan, *at, bytes),
+        Record::Cr { chan, at, bytes } => transaction(text, "cr", *chan, *at, bytes),
+        Record::Cw { chan, at, bytes } => transaction(text, "cw", *chan, *at, bytes),
         Record::Cd(chan) => chan_done(text, *chan),
         Record::Ce { chan, bus, len } => chan_error(text, *chan, *bus, *len),
         Record::Ow { span, owner } => owned(text, *span, *owner),
@@ -240,7 +232,7 @@ pub(crate) fn lines(alloc: Global, records: &[Record]) -> Result<String, AllocEr
 {
     let mut text = String::new(alloc);
     for entry in records {
-        put_line(alloc, &mut text, entry)?;
+        put_line(&mut text, entry)?;
     }
     Ok(text)
 }
@@ -267,6 +259,6 @@ pub fn line(alloc: Global, entry: &Record) -> Result<Vec<u8>, NoMemory>
     ensures { IfOk result (λ v. v.items ≡ line entry.now) }
 {
     let mut text = String::new(alloc);
-    put_line(alloc, &mut text, entry)?;
+    put_line(&mut text, entry)?;
     Ok(text.into_bytes())
 }

@@ -23,7 +23,7 @@ use std::alloc::Global;
 /// # Errors
 ///
 /// Where it stops, a front of the lines was written. `Failed`: the write failed, and the world is stepped. `NoMemory`:
-/// memory ran out, and the world is stepped or as before.
+/// memory ran out, and the world is stepped or as before. In each case no records wait, and more events may follow.
 pub fn step_out<K: Sink>(
     alloc: Global,
     w: &mut World,
@@ -40,13 +40,14 @@ pub fn step_out<K: Sink>(
     ensures later { K.faults out.old ≤ K.faults out.new }
     ensures cause { result ≡ Err Stop.Failed → Rose (K.faults out.old) (K.faults out.new) }
     ensures failed { result ≡ Err Stop.Failed → w.new ≡ record { at = next w.old.at e; records = [] } }
-    ensures memory { result ≡ Err Stop.NoMemory → (w.new.at ≡ w.old.at) ⊎ (w.new.at ≡ next w.old.at e) }
+    ensures memory { result ≡ Err Stop.NoMemory → (w.new ≡ w.old) ⊎ (w.new ≡ record { at = next w.old.at e; records = [] }) }
 {
     let Ok(stepped) = w.step(e) else {
         return Err(Stop::NoMemory);
     };
-    let records = w.take_records();
-    let Ok(text) = lines(alloc, records.as_slice()) else {
+    let text = lines(alloc, w.records());
+    w.clear_records();
+    let Ok(text) = text else {
         return Err(Stop::NoMemory);
     };
     write_all(out, text.as_bytes())?;

@@ -545,3 +545,23 @@ fn an_event_is_written_and_the_end_is_shown(rt: HostRuntime) -> Result<(), Fail>
     assert_eq!(rt; w.records().len(), 0);
     Ok(())
 }
+
+#[test]
+fn a_world_is_looked_at(rt: HostRuntime) -> Result<(), Fail> {
+    let Some((_, mut w)) = started(rt.alloc(), STORE) else {
+        assert!(rt; false);
+        return Ok(());
+    };
+    assert_eq!(rt; w.harts(), 2);
+    assert!(rt; !w.ended());
+    assert_eq!(rt; w.searching(HartNo(1)), None);
+    assert_eq!(rt; w.holder(0), None);
+    assert_eq!(rt; w.step(Event::Issue(HartNo(1))), Ok(Stepped::Done));
+    assert_eq!(rt; w.take_records().as_slice().len(), 2);
+    assert!(rt; w.records().is_empty());
+    assert_eq!(rt; w.harts(), 2);
+    assert!(rt; !w.ended());
+    assert_eq!(rt; w.step(Event::Drain(HartNo(1), 0)), Ok(Stepped::Done));
+    assert!(rt; w.ended());
+    Ok(())
+}

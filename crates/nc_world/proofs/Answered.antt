@@ -1,7 +1,6 @@
 -- What the machine answers: where it answers nothing it has changed nothing, and what it names starts at places.
-use Rattle.std.proofs.Common.{◌≡◌, ℕ, ◌+◌, ◌<◌, ◌≤◌, Bool, true, false, List, [], ◌∷◌, ◌++◌, length, refl, sym, ap, ◌∙◌, subst, arith, append_assoc}
+use Rattle.std.proofs.Common.{◌≡◌, ℕ, ◌<◌, Bool, true, false, List, [], ◌∷◌, ◌++◌, length, refl, sym, ap, ◌∙◌, append_assoc}
 use Rattle.std.specs.Prelude.{not, if◌then◌else◌, All, Option, Some, None, IfSome, IfNone, option_map}
-use Rattle.nc_num.specs.declared.places.Span.{Span}
 use Rattle.nc_cache.specs.declared.line.BusRec.{BusRec}
 use Rattle.nc_pdma.specs.declared.channel.ChanStep.{ChanStep}
 use Rattle.nc_pdma.specs.declared.channel.ChanStep.TheVariants.{Idle, Moved, Error}
@@ -27,7 +26,7 @@ use Rattle.nc_rules.specs.Sound.{IsMachine, IsBlockIn, EntryIsThere}
 use Rattle.nc_rules.proofs.SoundDrain.{leaving_is}
 use Rattle.nc_world.specs.Logs.{HasPlace, EntryHasPlace}
 use Rattle.nc_world.specs.Looks.{IsTransactionIn, transaction_touch_in}
-use Rattle.nc_world.proofs.Transfers.{HavePlaces, SomeHavePlaces, block_small, drain_places, fill_places}
+use Rattle.nc_world.proofs.Transfers.{SomeHavePlaces, block_small, drain_places, fill_places}
 use Rattle.nc_world.proofs.Disabled.{drain_none, fill_none, fill_may_not, evict_none, evict_not_held}
 
 -- ---- drains

@@ -1,23 +1,20 @@
 -- A call of the machine that answers nothing has changed nothing, and no driver is at a search.
-use Rattle.std.proofs.Common.{◌≡◌, ◌⊎◌, inl, inr, ℕ, ◌<◌, Bool, true, false, List, [], ◌∷◌, length, refl, sym, ap, ◌∙◌, subst, arith}
+use Rattle.std.proofs.Common.{◌≡◌, ◌⊎◌, inl, inr, ℕ, Bool, true, false, List, [], ◌∷◌, refl, sym, ap, ◌∙◌, subst}
 use Rattle.std.specs.Prelude.{Option, Some, None, Result, Ok, Err, if◌then◌else◌, slice_index_or, slice_set}
 use Rattle.std.proofs.lemmas.List.{set-get_or}
 use Rattle.nc_cache.specs.declared.line.Line.{Line}
 use Rattle.nc_cache.specs.declared.line.BusRec.{BusRec}
 use Rattle.nc_cache.specs.Cache as caches
 use Rattle.nc_cache.specs.Cache.{Cache, line_at, held_by, holds}
-use Rattle.nc_cache.specs.Bus.{evict_bus, written}
-use Rattle.nc_plan.specs.declared.ops.HartOp.{HartOp}
+use Rattle.nc_cache.specs.Bus.{evict_bus}
 use Rattle.nc_pdma.specs.declared.channel.ChanStep.{ChanStep}
 use Rattle.nc_pdma.specs.declared.channel.ChanStep.TheVariants.{Idle}
 use Rattle.nc_pdma.specs.Channel.{ChannelState, new_channel}
 use Rattle.nc_pdma.specs.Steps.{read_next, write_next, ram_after}
-use Rattle.nc_queue.specs.declared.entry.Entry.{Entry}
 use Rattle.nc_scen.specs.declared.ops.Op.{Op}
 use Rattle.nc_rules.specs.declared.answers.Refusal.{Refusal}
 use Rattle.nc_rules.specs.declared.steps.Act.{Act}
 use Rattle.nc_rules.specs.declared.steps.Act.TheVariants as acts
-use Rattle.nc_rules.specs.declared.steps.Next.{Next}
 use Rattle.nc_rules.specs.declared.steps.Next.TheVariants as nexts
 use Rattle.nc_rules.specs.declared.steps.Phase.{Phase}
 use Rattle.nc_rules.specs.declared.steps.Phase.TheVariants.{Steps, Work}

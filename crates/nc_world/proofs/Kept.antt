@@ -1,19 +1,18 @@
 -- What a world keeps through each event: a driver of its machine for each hart, and an owner for each place.
-use Rattle.std.proofs.Common.{◌≡◌, ◌≢◌, ℕ, ◌+◌, ◌<◌, ◌≤◌, Bool, true, false, List, [], ◌∷◌, length, refl, sym, ap, ◌∙◌, arith, subst, map, replicate, inl, inr}
-use Rattle.std.specs.Prelude.{Option, Some, None, Result, Ok, Err, All, if◌then◌else◌, slice_index_or, slice_set}
+use Rattle.std.proofs.Common.{◌≡◌, ℕ, ◌+◌, ◌<◌, true, List, [], ◌∷◌, length, refl, sym, ap, ◌∙◌, arith, subst, map, replicate, inl, inr}
+use Rattle.std.specs.Prelude.{Option, Some, None, Result, Ok, Err, slice_index_or, slice_set}
 use Rattle.std.specs.List.{range_with_len}
 use Rattle.std.proofs.lemmas.List.{length-set, get_or-set_same, get_or-set_other, length-map, length-replicate}
 use Rattle.std.proofs.lemmas.Grind.{get_or-set_at}
 use Rattle.std.proofs.lemmas.List.FromFn.{length-map-range_with_len, get_or-map-range_with_len}
 use Rattle.std.proofs.lemmas.Bool.{cases_eq}
-use Rattle.nc_num.specs.declared.names.HartNo.{HartNo}
 use Rattle.nc_num.specs.declared.places.Span.{Span}
 use Rattle.nc_num.specs.declared.names.MemType.{MemType}
 use Rattle.nc_hart.specs.HartState.{HartState}
-use Rattle.nc_num.specs.Places.{IsPieceLen, covers}
+use Rattle.nc_num.specs.Places.{IsPieceLen}
 use Rattle.nc_model.specs.declared.owners.Owner.{Owner}
 use Rattle.nc_model.specs.declared.owners.Owner.TheVariants.{Pool}
-use Rattle.nc_own.specs.Books.{owner_in, transferred}
+use Rattle.nc_own.specs.Books.{transferred}
 use Rattle.nc_plan.specs.declared.ops.HartOp.{HartOp}
 use Rattle.nc_plan.specs.declared.ops.HartOp.TheVariants.{Load, Store, Cbo, Fence, IoLoad, IoStore, Mark}
 use Rattle.nc_plan.specs.declared.ops.Payload.{Payload}
@@ -30,20 +29,20 @@ use Rattle.nc_rules.specs.declared.steps.Phase.TheVariants.{Steps, Work}
 use Rattle.nc_rules.specs.declared.steps.Seen.{Seen}
 use Rattle.nc_rules.specs.declared.steps.Step.{Step}
 use Rattle.nc_rules.specs.Built.{IsBuilt}
-use Rattle.nc_rules.specs.Driver.{DriverState, next_of, in_hand, over, counted, went, opened, tested, started, started_of, stepped, done, done_of, done_unless, done_in, done_rest, busy}
+use Rattle.nc_rules.specs.Driver.{DriverState, next_of, in_hand, went, opened, tested, started, started_of, stepped, done, done_of, done_unless, done_in, done_rest, busy}
 use Rattle.nc_rules.specs.Machine.{MachineState, hart_of, no_hart, fresh_hart, with_hart}
 use Rattle.nc_rules.specs.MachineLaws.{SameShape}
 use Rattle.nc_rules.specs.Operations.{Fixed, plan_of, step_at}
-use Rattle.nc_rules.specs.Scripts.{IsDriver, IsDriven, IsRangeIn, NextIsThere, AreThere, is_act}
+use Rattle.nc_rules.specs.Scripts.{IsDriver, IsDriven, NextIsThere, AreThere, is_act}
 use Rattle.nc_rules.specs.Sound.{OpIsThere}
 use Rattle.nc_rules.specs.Start.{first_driver, first_machine, memory}
-use Rattle.nc_rules.specs.World.{WorldState, driver_of, no_driver, owners_moved, owned_by_harts, first_owners, hart, start}
-use Rattle.nc_rules.proofs.DriverLaws.{first_drivers, drivers_stay, started_is, done_is, start_moves_there, done_moves_there, next_there}
+use Rattle.nc_rules.specs.World.{WorldState, driver_of, no_driver, owned_by_harts, first_owners, hart, start}
+use Rattle.nc_rules.proofs.DriverLaws.{first_drivers, started_is, done_is, start_moves_there, done_moves_there, next_there}
 use Rattle.nc_rules.proofs.SoundStart.{length-memory}
 use Rattle.nc_rules.proofs.SoundWith.{shape_same}
 use Rattle.nc_scen.specs.Regions.{pool_of}
 use Rattle.nc_world.specs.State.{IsDriverOf, IsWorld, IsKept}
-use Rattle.nc_world.specs.Steps.{IsGivenPayload, IsGiven, OpFits, NextFits, is_going, went_on, moves_on}
+use Rattle.nc_world.specs.Steps.{IsGivenPayload, IsGiven, NextFits, is_going, went_on, moves_on}
 
 -- ---- what a driver does next is there
 

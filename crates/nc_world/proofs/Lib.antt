@@ -4,3 +4,4 @@ pub mod Answered
 pub mod Parts
 pub mod Kept
 pub mod Shapes
+pub mod Starts

@@ -1,15 +1,12 @@
 -- A driver's step, by its parts: what is recorded of the machine's part, and what the driver's part is.
-use Rattle.std.proofs.Common.{◌≡◌, ℕ, ◌+◌, ◌*◌, ◌<◌, ◌≤◌, ◌^◌, Bool, true, false, List, [], ◌∷◌, ◌++◌, length, refl, sym, ap, ◌∙◌, arith, subst, append_assoc}
-use Rattle.std.specs.Prelude.{Option, Some, None, if◌then◌else◌, IsTrue}
+use Rattle.std.proofs.Common.{◌≡◌, ℕ, Bool, true, false, List, [], ◌∷◌, ◌++◌, refl, ap, ◌∙◌, append_assoc}
+use Rattle.std.specs.Prelude.{if◌then◌else◌}
 use Rattle.nc_num.specs.declared.names.HartNo.{HartNo}
-use Rattle.nc_num.specs.declared.places.Span.{Span}
-use Rattle.nc_num.specs.declared.names.MemType.{MemType}
 use Rattle.nc_hart.specs.Issue.{marks, payload}
 use Rattle.nc_plan.specs.declared.ops.HartOp.{HartOp}
 use Rattle.nc_plan.specs.declared.ops.HartOp.TheVariants.{Load, Store, Cbo, Fence, IoLoad, IoStore, Mark}
 use Rattle.nc_plan.specs.declared.ops.Payload.{Payload}
 use Rattle.nc_plan.specs.declared.ops.Payload.TheVariants.{Given, Last}
-use Rattle.nc_rules.specs.declared.answers.Issued.{Issued}
 use Rattle.nc_rules.specs.declared.answers.Issued.TheVariants.{Queued, Passed}
 use Rattle.nc_rules.specs.declared.records.Record.{Record}
 use Rattle.nc_rules.specs.declared.records.Record.TheVariants as records
@@ -21,7 +18,7 @@ use Rattle.nc_scen.specs.declared.events.Event.TheVariants as events
 use Rattle.nc_rules.specs.Driver.{next_of, is_script}
 use Rattle.nc_rules.specs.Events.{may_go_on, enabled}
 use Rattle.nc_rules.specs.Next.{step_driver, step_moves, step_seen, step_touch}
-use Rattle.nc_rules.specs.Sound.{IsMachine, IsBlockIn, OpIsThere}
+use Rattle.nc_rules.specs.Sound.{IsMachine, OpIsThere}
 use Rattle.nc_rules.specs.Told.{op_told, act_told, mark_told, store_told, touch_told, moves_told, step_told, recorded, told}
 use Rattle.nc_rules.specs.World.{WorldState, driver_of}
 use Rattle.nc_world.specs.Logs.{OpHasPlace, IssuedHasPlaces, payload_told, fence_told, issued_told}

@@ -1,6 +1,6 @@
 -- The parts of a driver's step: what it names is there, what the machine answers to it, and what it moves. Each is a part
 -- of nc_rules' definitions that speaks of the machine or of the driver alone.
-use Rattle.std.specs.Prelude.{ℕ, ◌≡◌, ◌<◌, Bool, true, false, List, [], length, Option, Some, None, IsTrue}
+use Rattle.std.specs.Prelude.{ℕ, ◌<◌, Bool, true, false, List, [], length, Option, Some, None, IsTrue}
 use Rattle.nc_num.specs.declared.names.HartNo.{HartNo}
 use Rattle.nc_model.specs.declared.owners.Owner.{Owner}
 use Rattle.nc_plan.specs.declared.ops.HartOp.{HartOp}

@@ -1,6 +1,6 @@
 //! Which scenarios are run.
 
-ghost use Rattle.std.specs.Prelude.{◌≡◌, true};
+ghost use Rattle.std.specs.Prelude.{◌≡◌, ◌↔◌, true};
 ghost use Rattle.nc_rules.specs.Built.{is_built_spot, is_built_bus, is_built_op, is_built_script, is_built, IsBuilt};
 
 use nc_scen::{BusArg, HartSpec, Op, Scenario, Spot};
@@ -61,7 +61,7 @@ fn is_built_script(hart: &HartSpec) -> bool
 /// Whether a scenario is run today: none of its scripts names a mapping, list, coherent area or copy.
 pub fn is_built(sc: &Scenario) -> bool
     ensures value { result ≡ is_built sc.now }
-    ensures built { result ≡ true → IsBuilt sc.now }
+    ensures built { result ≡ true ↔ IsBuilt sc.now }
 {
     for hart in sc.harts.as_slice() {
         if !is_built_script(hart) {

@@ -73,6 +73,13 @@ impl Log {
         RecordList::new(std::mem::replace(&mut self.items, empty))
     }
 
+    /// Drops the records; the room for them stays.
+    pub(crate) fn clear(&mut self)
+        ensures { self.new.records ≡ [] }
+    {
+        self.items.clear();
+    }
+
     /// One more record.
     pub(crate) fn push(&mut self, entry: &Record)
         requires room { 1 ≤ self.old.room }

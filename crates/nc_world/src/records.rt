@@ -22,7 +22,7 @@ impl Model for RecordList {
 
 impl RecordList {
     /// These records.
-    pub fn new(items: Vec<Record>) -> RecordList
+    pub(crate) fn new(items: Vec<Record>) -> RecordList
         ensures { result ≡ items.items }
     {
         RecordList { items }

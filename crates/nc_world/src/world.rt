@@ -161,6 +161,14 @@ impl World {
         self.log.take()
     }
 
+    /// Drops the records. It takes no memory, and the next event finds the room for its records here.
+    pub fn clear_records(&mut self)
+        ensures state { self.new.at ≡ self.old.at }
+        ensures none { self.new.records ≡ [] }
+    {
+        self.log.clear();
+    }
+
     /// How many events were done.
     pub fn events(&self) -> u64
         ensures { result ≡ self.now.at.events }

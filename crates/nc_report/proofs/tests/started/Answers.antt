@@ -1,4 +1,4 @@
-use Rattle.nc_report.proofs.Starts.{start_size, start_ram}
+use Rattle.nc_world.proofs.Starts.{start_size, start_ram}
 use Rattle.nc_report.proofs.tests.started.Goals as goal
 
 pub returns-clause-size : goal.returns-clause-size

@@ -1,4 +1,4 @@
-use Rattle.std.proofs.Common.{◌≡◌, ◌<◌, ℕ, Bool, true, false, List, [], ◌∷◌, ◌++◌, length, sym, ap, ◌∙◌, subst}
+use Rattle.std.proofs.Common.{◌≡◌, ◌<◌, ℕ, Bool, true, List, [], ◌∷◌, ◌++◌, length, sym, ap, ◌∙◌, subst}
 use Rattle.std.specs.Prelude.{All, Option, slice_set}
 use Rattle.nc_model.specs.declared.owners.Owner.{Owner}
 use Rattle.nc_model.specs.declared.touches.Touch.{Touch}
@@ -7,14 +7,14 @@ use Rattle.nc_rules.specs.declared.answers.Issued.{Issued}
 use Rattle.nc_rules.specs.declared.records.Record.{Record}
 use Rattle.nc_rules.specs.declared.records.Record.TheVariants as records
 use Rattle.nc_rules.specs.declared.steps.Seen.{Seen}
-use Rattle.nc_rules.specs.Driver.{DriverState, Moved, next_of, is_script}
+use Rattle.nc_rules.specs.Driver.{Moved, next_of, is_script}
 use Rattle.nc_rules.specs.Events.{may_go_on}
 use Rattle.nc_rules.specs.Machine.{MachineState}
 use Rattle.nc_rules.specs.MachineLaws.{SameShape}
-use Rattle.nc_rules.specs.Next.{step_touch, step_moves}
+use Rattle.nc_rules.specs.Next.{step_touch}
 use Rattle.nc_rules.specs.Scripts.{IsRangeIn}
 use Rattle.nc_rules.specs.Told.{touch_told, moves_told, told}
-use Rattle.nc_rules.specs.World.{WorldState, driver_of}
+use Rattle.nc_rules.specs.World.{driver_of}
 use Rattle.nc_driver.specs.Shown.{seen_as}
 use Rattle.nc_world.specs.Inside.{state_of}
 use Rattle.nc_world.specs.Shown.{Shown}

@@ -1,4 +1,3 @@
-use Rattle.nc_world.specs.Inside.{state_of}
 use Rattle.nc_world.proofs.Kept.{kept_first}
 use Rattle.nc_world.proofs.world.World.new.Goals as goal
 

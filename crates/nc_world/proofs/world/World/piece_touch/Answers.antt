@@ -1,4 +1,4 @@
-use Rattle.std.proofs.Common.{◌≡◌, ap, ◌∙◌}
+use Rattle.std.proofs.Common.{ap, ◌∙◌}
 use Rattle.nc_model.specs.Touches.{piece_touch}
 use Rattle.nc_num.specs.declared.places.Span.{Span}
 use Rattle.nc_rules.specs.Watched.{owner_of}
