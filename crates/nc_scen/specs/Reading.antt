@@ -86,13 +86,13 @@ apart land = none_meet (first_overlap 0 (regions land.buffers (slots_span land.s
 abbrev pub harts_known : Data → Result Items Refused
 harts_known d = list_at 1 4 [] (codes "harts") d >>= λ items. check_each hart_checked 0 items >>= λ known. Ok items
 
+-- the schedule but for its tokens
 abbrev pub schedule_checked : Data → Result ⊤ Refused
 schedule_checked d = schedule_of d >>= plan_checked
 
--- how the run ends, behind the shape of the schedule
+-- how the run ends
 unfoldable pub terms_of : Data → Result Terms Refused
 terms_of d = do
-  planned ← schedule_checked d
   finish ← finish_or_true (get (codes "finish") d)
   limit ← limit_or_default (get (codes "limit") d)
   Ok (record { finish = finish; limit = limit })
@@ -112,6 +112,7 @@ scenario_of d = do
   ram ← ram_of d
   items ← harts_known d
   land ← land_of ram (items_len items) d
+  planned ← schedule_checked d
   terms ← terms_of d
   no_overlap ← apart land
   harts ← harts_of land items

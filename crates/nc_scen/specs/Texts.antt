@@ -65,7 +65,8 @@ abbrev pub bus_in : List ℕ → Option BusText
 bus_in [] = None
 bus_in (c ∷ text) = if c == 109 then mapping_in text else (if c == 99 then option_map (λ n. buses.Area n) (number_in text) else None)
 
--- ---- tokens: harts, channels and entries are at most ten, so that their numbers have one digit
+-- ---- tokens: there are at most four harts and four channels, so that their numbers have one digit; an entry and a
+-- block are numbers of any length, below 8 and below the number of blocks
 
 abbrev pub hart : ℕ → HartNo
 hart n = record { 0 = n }

@@ -73,10 +73,7 @@ fn fences_or_full(alloc: Global, value: Option<&Value>) -> Result<bool, ScenFaul
     let Some(value) = value else {
         return Ok(false);
     };
-    match fences(value) {
-        Ok(light) => Ok(light),
-        Err(w) => Err(w.at(Path::of(alloc, "fences")?)),
-    }
+    placed(alloc, fences(value), &Path::root(alloc), "fences")
 }
 
 #[tactic(auto, unfolding(crate::specs::Parts::old_format))]

@@ -10,7 +10,7 @@ ghost use Rattle.nc_scen.specs.Parts.{finish_or_true, limit_in, limit_or_default
 ghost use Rattle.nc_scen.specs.Reading.{land_of, apart, terms_of, harts_known, harts_of, scenario_of, reading};
 
 use crate::arguments::Room;
-use crate::fields::list_at;
+use crate::fields::{list_at, placed};
 use crate::format::read_format;
 use crate::harts::{check_harts, read_harts};
 use crate::json::value_of;
@@ -21,7 +21,7 @@ use crate::regions::{
     Region, RegionKind, least_reach, read_buffers, read_ram, read_reach, read_words, region_or_none,
 };
 use crate::scenario::{BufferSpecs, HartSpecs, Scenario, Words};
-use crate::schedule::{check_schedule, read_schedule};
+use crate::schedule::{MOST_EVENTS, check_schedule, read_schedule};
 use crate::values::{most, number, truth};
 use crate::wrong::Wrong;
 use nc_num::Span;
@@ -73,17 +73,14 @@ fn finish_or_true(alloc: Global, value: Option<&Value>) -> Result<bool, ScenFaul
     let Some(value) = value else {
         return Ok(true);
     };
-    match truth(value) {
-        Ok(b) => Ok(b),
-        Err(w) => Err(w.at(Path::of(alloc, "finish")?)),
-    }
+    placed(alloc, truth(value), &Path::root(alloc), "finish")
 }
 
 fn limit_in(value: &Value) -> Result<u64, Wrong>
     ensures value { result ≡ limit_in (view value.now) }
     ensures most { IfOk result (λ n. n ≤ 400000) }
 {
-    most(number(value)?, 400_000)
+    most(number(value)?, MOST_EVENTS)
 }
 
 /// How many events are tried at most, 100,000 where nothing is said.
@@ -94,10 +91,7 @@ fn limit_or_default(alloc: Global, value: Option<&Value>) -> Result<u64, ScenFau
     let Some(value) = value else {
         return Ok(100_000);
     };
-    match limit_in(value) {
-        Ok(n) => Ok(n),
-        Err(w) => Err(w.at(Path::of(alloc, "limit")?)),
-    }
+    placed(alloc, limit_in(value), &Path::root(alloc), "limit")
 }
 
 /// That no two regions share a byte.
@@ -110,11 +104,11 @@ fn check_apart(alloc: Global, land: &Land) -> Result<(), ScenFault>
 {
     let slots = Span {
         at: land.slots.at,
-        len: 2048 * land.slots.count,
+        len: RegionKind::Slots.unit() * land.slots.count,
     };
     let pool = Span {
         at: land.pool.at,
-        len: 4096 * land.pool.count,
+        len: RegionKind::Pool.unit() * land.pool.count,
     };
     let all = regions(alloc, land.buffers.as_slice(), slots, pool)?;
     match first_overlap(&all) {
@@ -132,13 +126,12 @@ pub struct Terms {
     pub limit: u64,
 }
 
-/// How the run ends, behind the shape of the schedule.
+/// How the run ends.
 #[tactic(auto, unfolding(crate::specs::Reading::terms_of))]
 fn read_terms(alloc: Global, value: &Value) -> Result<Terms, ScenFault>
     ensures gives { Gives (λ t. t) result (terms_of (view value.now)) }
     ensures most { IfOk result (λ t. t.limit ≤ 400000) }
 {
-    check_schedule(alloc, value)?;
     let finish = finish_or_true(alloc, value.get("finish"))?;
     let limit = limit_or_default(alloc, value.get("limit"))?;
     Ok(Terms { finish, limit })
@@ -183,6 +176,7 @@ fn read_scenario(alloc: Global, value: &Value) -> Result<Scenario, ScenFault>
     let items = known_harts(alloc, value)?;
     let count = items.len() as u8;
     let land = read_land(alloc, ram, count, value)?;
+    check_schedule(alloc, value)?;
     let terms = read_terms(alloc, value)?;
     check_apart(alloc, &land)?;
     let harts = harts_of(alloc, &land, items)?;
@@ -209,6 +203,10 @@ fn read_scenario(alloc: Global, value: &Value) -> Result<Scenario, ScenFault>
 
 /// The scenario that the bytes are, or the first refusal: of length, JSON, keys, values, regions, operations and
 /// tokens, in this order.
+///
+/// # Errors
+///
+/// `Refused` with that refusal, and `NoMemory` where memory runs out.
 #[tactic(auto, unfolding(crate::specs::Reading::reading))]
 pub fn read(alloc: Global, bytes: &[u8]) -> Result<Scenario, ScenFault>
     ensures gives { Gives (λ sc. sc) result (reading bytes.now) }

@@ -17,6 +17,9 @@ use crate::values::text;
 use serde_json::Value;
 use std::alloc::Global;
 
+/// How many tokens a schedule lists, how many events it draws, and how many a run tries, at most.
+pub const MOST_EVENTS: u64 = 400_000;
+
 /// The value of the schedule.
 fn schedule_at(alloc: Global, value: &Value) -> Result<&Value, ScenFault>
     ensures { Gives (λ v. view v.now) result (schedule_of (view value.now)) }
@@ -35,7 +38,7 @@ fn read_seeded(alloc: Global, value: &Value) -> Result<Plan, ScenFault>
     let path = Path::of(alloc, "schedule")?;
     check_keys(alloc, value, Keys::Seeded, &path)?;
     let seed = number_at(alloc, value, &path, "seed")?;
-    let events = number_to_at(alloc, value, &path, "events", 400_000)?;
+    let events = number_to_at(alloc, value, &path, "events", MOST_EVENTS)?;
     Ok(Plan::Seeded { seed, events })
 }
 
@@ -43,7 +46,7 @@ fn token_items(alloc: Global, value: &Value) -> Result<&Vec<Value>, ScenFault>
     ensures gives { Gives (λ v. items_view v.now.items) result (tokens_of (view value.now)) }
     ensures most { IfOk result (λ v. length v.now.items ≤ 400000) }
 {
-    match sized(value, 0, 400_000) {
+    match sized(value, 0, MOST_EVENTS as usize) {
         Ok(items) => Ok(items),
         Err(w) => Err(w.at(Path::of(alloc, "schedule")?)),
     }

@@ -69,8 +69,8 @@ pub fn digit_below(c: u8, bound: u8) -> Option<u8>
     ensures value { result ≡ digit_below bound c }
     ensures below { IfSome result (λ n. n < bound) }
 {
-    if 48 <= c && c < 48 + bound {
-        Some(c - 48)
+    if b'0' <= c && c < b'0' + bound {
+        Some(c - b'0')
     } else {
         None
     }

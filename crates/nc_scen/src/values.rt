@@ -173,12 +173,15 @@ pub fn dir(n: u64) -> Result<Dir, Wrong>
     }
 }
 
+/// The repeat bit of a Config value, bit 2.
+const REPEAT: u64 = 4;
+
 /// A Config value of 32 bits without the repeat bit.
 pub fn once(cfg: u64) -> Result<u32, Wrong>
     ensures value { result ≡ once cfg }
     ensures fits { IfOk result HasNoRepeat }
 {
-    if cfg < 4_294_967_296 && cfg / 4 % 2 == 0 {
+    if cfg < 4_294_967_296 && cfg / REPEAT % 2 == 0 {
         Ok(cfg as u32)
     } else {
         Err(Wrong::Limit(cfg))
