@@ -6,6 +6,8 @@
 #![tactic(auto)]
 
 mod arguments;
+#[cfg(test)]
+mod cases;
 mod events;
 mod fields;
 mod format;
