@@ -1,27 +1,24 @@
 -- A run that is written as it goes: what was written, and what is still to come.
-use Rattle.std.proofs.Common.{◌≡◌, ℕ, ◌+◌, ◌≤◌, ◌<◌, List, [], ◌∷◌, ◌++◌, length, Option, Some, None, sym, ap, ◌∙◌, append_assoc, append-nil, refl, subst}
+use Rattle.std.proofs.Common.{◌≡◌, ℕ, List, [], ◌∷◌, ◌++◌, length, Option, Some, None, sym, ap, ◌∙◌, append_assoc, append-nil, refl, subst}
 use Rattle.std.specs.List.{flat_map}
 use Rattle.std.specs.Io.KnownBytes.{Appends}
 use Rattle.std.proofs.KnownBytes.{Appends-nil, Appends-trans}
 use Rattle.std.proofs.lemmas.Grind.{flat_map-append}
 use Rattle.nc_io.specs.Streams.{GrowsByFront}
-use Rattle.std.specs.Prelude.{replicate, Bool, true, false, if◌then◌else◌}
-use Rattle.std.proofs.lemmas.List.{length-replicate}
+use Rattle.std.specs.Prelude.{Bool, true, false, if◌then◌else◌}
 use Rattle.nc_scen.specs.Accepted.{IsAccepted}
 use Rattle.nc_scen.specs.declared.events.Event.{Event}
 use Rattle.nc_scen.specs.declared.scenario.Scenario.{Scenario}
-use Rattle.nc_rules.proofs.SoundStart.{length-memory}
 use Rattle.nc_rules.specs.Events.{enabled}
 use Rattle.nc_rules.specs.Lines.{line, text_of, report, status, status_at, tail}
-use Rattle.nc_rules.specs.Machine.{fresh, fresh_hart}
 use Rattle.nc_rules.specs.MachineLaws.{SameShape}
 use Rattle.nc_rules.specs.Next.{next}
 use Rattle.nc_rules.specs.Run.{after, records}
 use Rattle.nc_rules.specs.Schedule.{sched}
-use Rattle.nc_rules.specs.Start.{first_machine}
 use Rattle.nc_rules.specs.Told.{told}
 use Rattle.nc_rules.specs.World.{WorldState, start}
-use Rattle.nc_sched.specs.Stands.{Stand, first_stand, to_come, is_done}
+use Rattle.nc_sched.specs.Stands.{Stand, to_come, is_done}
+use Rattle.nc_world.proofs.Starts.{start_harts, start_size, start_ram}
 use Rattle.nc_world.specs.Shown.{Shown, answer}
 use Rattle.nc_world.specs.declared.world.Stepped.{Stepped}
 use Rattle.nc_world.specs.declared.world.Stepped.TheVariants.{Done, Skipped}
@@ -99,26 +96,14 @@ pub record Goes (held now : Option (List ℕ)) (sc : Scenario) (w : Shown) (s : 
   pub size : w.at.machine.size ≡ sc.block_size
   pub ram : length w.at.machine.cache.ram ≡ sc.ram
 
-first_harts : (sc : Scenario) → length (start sc).machine.harts ≡ length sc.harts
-unfolding start first_machine
-first_harts sc = length-replicate (length sc.harts) (fresh_hart sc.block_size)
-
-first_size : (sc : Scenario) → (start sc).machine.size ≡ sc.block_size
-unfolding start first_machine
-first_size sc = refl
-
-first_ram : (sc : Scenario) → IsAccepted sc → length (start sc).machine.cache.ram ≡ sc.ram
-unfolding start first_machine
-first_ram sc a = length-memory sc a
-
 pub go_start : (held : Option (List ℕ)) (sc : Scenario) (w : Shown) (s : Stand) → IsAccepted sc → w.at ≡ start sc → w.records ≡ [] → to_come sc s (start sc) (is_done None) ≡ sched sc → Goes held held sc w s None
 go_start held sc w s a at none whole = record {
   so_far = subst (λ v. SoFar held held (start sc) v (sched sc) (to_come sc s v false)) (sym at)
       (subst (λ left. SoFar held held (start sc) (start sc) (sched sc) left) (sym whole) (at_start held held (start sc) (sched sc) (Appends-nil held)));
   none = none;
-  harts = ap (λ (v : WorldState). length v.machine.harts) at ∙ first_harts sc;
-  size = ap (λ (v : WorldState). v.machine.size) at ∙ first_size sc;
-  ram = ap (λ (v : WorldState). length v.machine.cache.ram) at ∙ first_ram sc a;
+  harts = ap (λ (v : WorldState). length v.machine.harts) at ∙ start_harts sc;
+  size = ap (λ (v : WorldState). v.machine.size) at ∙ start_size sc;
+  ram = ap (λ (v : WorldState). length v.machine.cache.ram) at ∙ start_ram sc a;
 }
 
 -- an event is answered Done exactly where it may happen

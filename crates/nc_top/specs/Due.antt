@@ -1,5 +1,5 @@
 -- What is due for the words and the bytes that were read.
-use Rattle.std.specs.Prelude.{◌≡◌, ◌≢◌, ℕ, List, [], ◌∷◌, codes, Bool, false, Result, Ok, Err, if◌then◌else◌}
+use Rattle.std.specs.Prelude.{◌≢◌, ℕ, List, [], ◌∷◌, codes, Bool, false, Result, Ok, Err, if◌then◌else◌}
 use Rattle.std.specs.Str.{bytes_eq}
 use Rattle.nc_scen.specs.Reading.{reading}
 use Rattle.nc_scen.specs.declared.refused.Refused.{Refused}

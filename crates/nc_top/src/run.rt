@@ -1,6 +1,6 @@
 //! A scenario's run, written event by event.
 
-ghost use Rattle.std.specs.Prelude.{◌≡◌, ◌≤◌, IfOk, OnOk, OnErr, Err, length};
+ghost use Rattle.std.specs.Prelude.{◌≡◌, ◌≢◌, ◌≤◌, IfOk, OnOk, OnErr, Err, length};
 ghost use Rattle.std.specs.Io.KnownBytes.{Appends};
 ghost use Rattle.nc_io.specs.Causes.{Rose};
 ghost use Rattle.nc_io.specs.Streams.{GrowsByFront};
@@ -34,6 +34,7 @@ fn at_end(w: &World) -> bool
 fn status_of(w: &World) -> u8
     ensures value { result ≡ status_at w.now.at }
     ensures kind { IsAnswer result }
+    ensures run { result ≢ 3 }
 {
     if 0 < w.touches() {
         return 1;
@@ -51,6 +52,7 @@ pub fn run_out<K: Sink>(alloc: Global, sc: &Scenario, out: &mut K) -> Result<u8,
     requires built { IsBuilt sc.now }
     ensures status { IfOk result (λ n. n ≡ status sc.now (sched sc.now)) }
     ensures kind { IfOk result IsAnswer }
+    ensures run { IfOk result (λ n. n ≢ 3) }
     ensures text { OnOk result (Appends (K.held out.old) (K.held out.new) (report sc.now (sched sc.now))) }
     ensures front { OnErr result (GrowsByFront (K.held out.old) (K.held out.new) (report sc.now (sched sc.now))) }
     ensures later { K.faults out.old ≤ K.faults out.new }

@@ -1,6 +1,6 @@
 //! The top call.
 
-ghost use Rattle.std.specs.Prelude.{◌≡◌, ◌≢◌, ◌≤◌, ◌⊎◌, [], List, ℕ, map, string_bytes, false, true, Ok, Err, IfOk};
+ghost use Rattle.std.specs.Prelude.{◌≡◌, ◌≢◌, ◌≤◌, ◌⊎◌, ◌↔◌, [], List, ℕ, map, string_bytes, false, true, Ok, Err, IfOk};
 ghost use Rattle.std.specs.Io.KnownBytes.{Appends, Keeps};
 ghost use Rattle.nc_io.specs.Causes.{Rose};
 ghost use Rattle.nc_io.specs.Streams.{GrowsByFront};
@@ -9,7 +9,7 @@ ghost use Rattle.nc_rules.specs.Flat.{EachRunIsLatest, EachRunIsKept};
 ghost use Rattle.nc_scen.specs.Accepted.{IsAccepted};
 ghost use Rattle.nc_rules.specs.Built.{IsBuilt};
 ghost use Rattle.nc_top.specs.Due.{due, due_for, is_run, IsAnswer};
-ghost use Rattle.nc_top.specs.Inputs.{HasRead, IsFlat, WroteFront};
+ghost use Rattle.nc_top.specs.Inputs.{HasRead, IsFlat, IsRunWhereBuilt, WroteFront};
 
 use crate::input::{Lost, read_input};
 use crate::run::run_out;
@@ -48,7 +48,7 @@ fn answer_scenario<K: Sink>(alloc: Global, sc: &Scenario, out: &mut K) -> u8
     ensures written { IsAnswer result → (result ≡ (due_for (Ok sc.now)).status) × Appends (K.held out.old) (K.held out.new) (due_for (Ok sc.now)).text }
     ensures sink { result ≡ 5 → Rose (K.faults out.old) (K.faults out.new) }
     ensures reads { result ≢ 4 }
-    ensures built { IsAnswer result → result ≢ 3 → IsBuilt sc.now }
+    ensures built { IsAnswer result → (result ≢ 3) ↔ IsBuilt sc.now }
     ensures front { GrowsByFront (K.held out.old) (K.held out.new) (due_for (Ok sc.now)).text }
 {
     if !is_built(sc) {
@@ -66,6 +66,7 @@ fn answer_to<K: Sink>(alloc: Global, bytes: &[u8], out: &mut K) -> u8
     ensures written { IsAnswer result → (result ≡ (due_for (reading bytes.now)).status) × Appends (K.held out.old) (K.held out.new) (due_for (reading bytes.now)).text }
     ensures sink { result ≡ 5 → Rose (K.faults out.old) (K.faults out.new) }
     ensures reads { result ≢ 4 }
+    ensures built { IsAnswer result → IsRunWhereBuilt result bytes.now }
     ensures flat { IsAnswer result → IsFlat result bytes.now }
     ensures front { Keeps (K.held out.old) (K.held out.new) ⊎ GrowsByFront (K.held out.old) (K.held out.new) (due_for (reading bytes.now)).text }
 {
@@ -86,7 +87,8 @@ fn answer_to<K: Sink>(alloc: Global, bytes: &[u8], out: &mut K) -> u8
 /// Reads a scenario and writes its report, for the words `run`. Other words are refused.
 ///
 /// Statuses: 0 the run ended with no touch and every script at its end; 1 a touch was reported; 2 unknown words; 3 the
-/// input is refused; 4 a read failed; 5 a write failed; 6 memory ran out; 7 no touch, and a script is not at its end.
+/// input is refused or is not run yet; 4 a read failed; 5 a write failed; 6 memory ran out; 7 no touch, and a script is
+/// not at its end.
 #[tactic(auto, unfolding(crate::specs::Due::due))]
 pub fn dmasim<S: Source, K: Sink>(
     alloc: Global,
@@ -104,6 +106,7 @@ pub fn dmasim<S: Source, K: Sink>(
         → (bytes : List ℕ) × HasRead (S.left src.old) (S.left src.new) (S.ended src.new) bytes
         × (result ≡ (due (map string_bytes words.now.items) bytes).status)
         × Appends (K.held out.old) (K.held out.new) (due (map string_bytes words.now.items) bytes).text
+        × IsRunWhereBuilt result bytes
         × IsFlat result bytes }
 
     // A failure has its cause.

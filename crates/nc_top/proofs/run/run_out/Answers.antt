@@ -1,6 +1,5 @@
-use Rattle.std.proofs.Common.{◌≡◌, ◌≤◌, ◌∙◌, ap, subst, sym, arith, Option, List, ℕ}
+use Rattle.std.proofs.Common.{◌∙◌, ap, arith}
 use Rattle.std.proofs.lemmas.Result.{err_from_is_err_and}
-use Rattle.nc_io.specs.Streams.{GrowsByFront}
 use Rattle.nc_world.specs.Shown.{Shown}
 use Rattle.nc_top.proofs.SoFar.{go_start, go_on, go_stopped, go_paused, go_cut, go_done, go_status}
 use Rattle.nc_top.proofs.run.run_out.Goals as goal
