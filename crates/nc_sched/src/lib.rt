@@ -10,3 +10,6 @@ mod sched;
 
 pub use laws::replay_law;
 pub use sched::{Phase, Sched};
+
+#[cfg(test)]
+mod tests;

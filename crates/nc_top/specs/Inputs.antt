@@ -26,6 +26,6 @@ abbrev pub IsRunWhereBuilt : ℕ → List ℕ → Type 0
 IsRunWhereBuilt status bytes = (status ≢ 3) ↔ ((sc : Scenario) × (reading bytes ≡ Ok sc) × IsBuilt sc)
 
 -- Where the status is not a refusal's, the bytes are a scenario; the loads and channel reads of the run of its schedule
--- show flat memory up to the first touch, and while there is none flat memory's bytes are kept.
+-- show flat memory up to the first touch, and after each front of the run without a touch flat memory's bytes are kept.
 abbrev pub IsFlat : ℕ → List ℕ → Type 0
 IsFlat status bytes = status ≢ 3 → (sc : Scenario) × (reading bytes ≡ Ok sc) × IsLatest sc (sched sc) × IsKept sc (sched sc)

@@ -66,6 +66,10 @@ const HAND_WITH_STORES_QUEUED_REPORT: &[u8] =
 const NOBODY_HANDS: &[u8] =
     b"{\"version\":1,\"ram\":65536,\"harts\":[{\"mode\":\"S\",\"menvcfg\":4611686018427388144,\"senvcfg\":240,\"script\":[[\"take\",0]]}],\"buffers\":[{\"at\":0,\"len\":1,\"fill\":7,\"step\":0,\"owner\":0}],\"slots\":{\"at\":32768,\"count\":1},\"pool\":{\"at\":49152,\"pages\":2},\"schedule\":[]}";
 
+/// The same, cut in the middle of the round in which nothing is done.
+const NOBODY_HANDS_AND_A_LIMIT: &[u8] =
+    b"{\"version\":1,\"ram\":65536,\"harts\":[{\"mode\":\"S\",\"menvcfg\":4611686018427388144,\"senvcfg\":240,\"script\":[[\"take\",0]]}],\"buffers\":[{\"at\":0,\"len\":1,\"fill\":7,\"step\":0,\"owner\":0}],\"slots\":{\"at\":32768,\"count\":1},\"pool\":{\"at\":49152,\"pages\":2},\"schedule\":[],\"limit\":3}";
+
 const NOBODY_HANDS_REPORT: &[u8] = b"buf 0 07\nleft 0 0\nend events 0 touches 0\n";
 
 const FENCE_THEN_LOAD: &[u8] =
@@ -185,6 +189,14 @@ fn a_hand_passes_a_buffer_behind_its_stores(rt: HostRuntime) -> Result<(), Fail>
         HAND_WITH_STORES_QUEUED_REPORT,
     )?;
     compare(&rt, rt.alloc(), "run", NOBODY_HANDS, 7, NOBODY_HANDS_REPORT)?;
+    compare(
+        &rt,
+        rt.alloc(),
+        "run",
+        NOBODY_HANDS_AND_A_LIMIT,
+        7,
+        NOBODY_HANDS_REPORT,
+    )?;
     Ok(())
 }
 
@@ -461,6 +473,55 @@ fn failing_streams(rt: HostRuntime) -> Result<(), Fail> {
     let mut out = MemSink::new(alloc, vec![in alloc; 0]?);
     assert_eq!(rt; dmasim(alloc, &words, &mut src, &mut out), 5);
     assert!(rt; out.bytes().is_empty());
+    Ok(())
+}
+
+#[test]
+fn sink_fails_at_each_write(rt: HostRuntime) -> Result<(), Fail> {
+    let alloc = rt.alloc();
+    let words = words(alloc, "run")?;
+    let mut stopped = 0;
+    for k in 0..41u32 {
+        let input = Vec::from_slice(alloc, FALSE_SHARING)?;
+        let mut src = MemSource::new(input, 4096, Vec::new(alloc));
+        let mut out = MemSink::new(alloc, vec![in alloc; k; 1]?);
+        let status = dmasim(alloc, &words, &mut src, &mut out);
+        if status == 0 {
+            assert_eq!(rt; out.bytes(), FALSE_SHARING_REPORT);
+        } else {
+            assert_eq!(rt; status, 5);
+            assert_eq!(rt; k, stopped);
+            assert!(rt; FALSE_SHARING_REPORT.starts_with(out.bytes()));
+            assert!(rt; out.bytes().len() < FALSE_SHARING_REPORT.len());
+            stopped += 1;
+        }
+    }
+    // One write for each of the six events, and one for what stands behind them.
+    assert_eq!(rt; stopped, 7);
+    Ok(())
+}
+
+#[test]
+fn source_fails_at_each_read(rt: HostRuntime) -> Result<(), Fail> {
+    let alloc = rt.alloc();
+    let words = words(alloc, "run")?;
+    let mut stopped = 0;
+    for k in 0..61u32 {
+        let input = Vec::from_slice(alloc, HAND_WITH_STORES_QUEUED)?;
+        let mut src = MemSource::new(input, 16, vec![in alloc; k; 1]?);
+        let mut out = MemSink::new(alloc, Vec::new(alloc));
+        let status = dmasim(alloc, &words, &mut src, &mut out);
+        if status == 0 {
+            assert_eq!(rt; out.bytes(), HAND_WITH_STORES_QUEUED_REPORT);
+        } else {
+            assert_eq!(rt; status, 4);
+            assert_eq!(rt; k, stopped);
+            assert!(rt; out.bytes().is_empty());
+            stopped += 1;
+        }
+    }
+    // A read for each 16 bytes or fewer, and one that tells the end.
+    assert_eq!(rt; stopped, 31);
     Ok(())
 }
 

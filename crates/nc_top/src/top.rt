@@ -116,8 +116,9 @@ pub fn dmasim<S: Source, K: Sink>(
     // Whatever is answered, what was written is a front of what is due.
     ensures front { WroteFront (map string_bytes words.now.items) (S.left src.old) (S.left src.new) (S.ended src.new) (K.held out.old) (K.held out.new) }
 
-    // Up to the first touch every load and channel read of every run shows flat memory, and while there is no touch the
-    // bytes of flat memory are kept: in every run of the scenarios that are run, the reported one among them.
+    // Up to the first touch every load and channel read of every run shows flat memory, and after each front of a run
+    // without a touch the bytes of flat memory are kept: in every run of the scenarios that are run, the reported one
+    // among them.
     ensures latest { EachRunIsLatest }
     ensures kept { EachRunIsKept }
 {
