@@ -1,6 +1,6 @@
 //! The machine's calls, with what holds of the machine before them and what they keep of its shape.
 
-ghost use Rattle.std.specs.Prelude.{◌≡◌, ◌≤◌, ◌<◌, ◌==◌, true, false, length, All, IsTrue, IfOk, IfNone, IfSome, Some, None};
+ghost use Rattle.std.specs.Prelude.{◌≡◌, ◌≤◌, ◌<◌, ◌==◌, true, false, length, All, IsTrue, IfNone, IfSome, Some, None};
 ghost use Rattle.std.specs.List.{list_all};
 ghost use Rattle.nc_cache.specs.Cache.{line_at, held_by};
 ghost use Rattle.nc_rules.specs.Calls.{may_issue, issue_answer, leaving, drain_next, drain_transfers, may_fill, fill_next, fill_answer, evict_next, evict_answer, chan_read_next, chan_read_told, chan_write_next, chan_write_told};
@@ -14,7 +14,7 @@ ghost use Rattle.nc_world.specs.Steps.{OpFits, NextFits, CanAct, acted, ActedHas
 
 use nc_cache::BusList;
 use nc_machine::{Issued, Machine};
-use nc_num::{Block, ChanNo, HartNo, NoMemory};
+use nc_num::{Block, ChanNo, HartNo};
 use nc_pdma::ChanStep;
 use nc_plan::HartOp;
 use nc_queue::Entry;
@@ -31,43 +31,42 @@ pub(crate) fn sound(machine: &Machine)
 
 /// What hart h's next step sees: what a register holds, whom a channel is granted to, or Control. The machine stays as it
 /// is.
-pub(crate) fn seen(machine: &mut Machine, h: HartNo, next: &Next) -> Result<Seen, NoMemory>
+pub(crate) fn seen(machine: &mut Machine, h: HartNo, next: &Next) -> Seen
     requires hart { h.0 < length machine.old.machine.harts }
     requires there { NextFits machine.old.machine h.0 next.now }
     requires can { CanAct machine.old.machine h.0 next.now }
-    ensures saw { IfOk result (λ s. s ≡ step_seen machine.old.machine h next.now) }
+    ensures saw { result ≡ step_seen machine.old.machine h next.now }
     ensures same { machine.new.machine ≡ machine.old.machine }
 {
     match next {
         Next::Op(op) => seen_by(machine, h, op),
-        Next::Claim(chan) => Ok(match machine.grantee(*chan) {
+        Next::Claim(chan) => match machine.grantee(*chan) {
             None => Seen::Claimed,
             Some(g) => Seen::Busy(g),
-        }),
-        Next::Poll(chan) => Ok(Seen::Control(machine.control(*chan))),
-        Next::End | Next::Start | Next::Search(_) | Next::Take(_) => Ok(Seen::Nothing),
+        },
+        Next::Poll(chan) => Seen::Control(machine.control(*chan)),
+        Next::End | Next::Start | Next::Search(_) | Next::Take(_) => Seen::Nothing,
     }
 }
 
 /// What a hart's operation shows its driver.
 #[tactic(auto, unfolding(nc_rules::specs::Calls::issue_next))]
-fn seen_by(machine: &mut Machine, h: HartNo, op: &HartOp) -> Result<Seen, NoMemory>
+fn seen_by(machine: &mut Machine, h: HartNo, op: &HartOp) -> Seen
     requires hart { h.0 < length machine.old.machine.harts }
     requires there { OpFits machine.old.machine h.0 op.now }
     requires can { IsTrue (may_issue machine.old.machine h.0 op.now) }
-    ensures saw { IfOk result (λ s. s ≡ seen_of (issue_answer machine.old.machine h.0 op.now)) }
+    ensures saw { result ≡ seen_of (issue_answer machine.old.machine h.0 op.now) }
     ensures same { machine.new.machine ≡ machine.old.machine }
 {
     match op {
         HartOp::IoLoad { chan, off, width } => {
-            machine.reserve()?;
             let load = HartOp::IoLoad {
                 chan: *chan,
                 off: *off,
                 width: *width,
             };
             match machine.issue(h, load) {
-                Issued::Value(value) => Ok(Seen::Value(value)),
+                Issued::Value(value) => Seen::Value(value),
                 _ => unreachable!(),
             }
         }
@@ -76,7 +75,7 @@ fn seen_by(machine: &mut Machine, h: HartNo, op: &HartOp) -> Result<Seen, NoMemo
         | HartOp::Cbo { .. }
         | HartOp::Fence { .. }
         | HartOp::IoStore(_)
-        | HartOp::Mark { .. } => Ok(Seen::Nothing),
+        | HartOp::Mark { .. } => Seen::Nothing,
     }
 }
 

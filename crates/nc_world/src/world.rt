@@ -437,7 +437,7 @@ impl World {
         let touch = self.step_touch(h, &next);
         let n = self.number(h);
         let by_script = self.is_script(h);
-        let saw = acts::seen(&mut self.machine, h, &next)?;
+        let saw = acts::seen(&mut self.machine, h, &next);
         steps::reserve(&mut self.machine, &mut self.book, &mut self.log)?;
         let moves = steps::go_on(&mut self.drivers, h, &next, saw, &self.book, &self.pages)?;
         let acted = acts::act(&mut self.machine, h, &next);
