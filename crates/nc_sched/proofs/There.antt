@@ -15,12 +15,12 @@ use Rattle.nc_scen.specs.declared.scenario.Plan.{Plan}
 use Rattle.nc_scen.specs.declared.scenario.Plan.TheVariants as plans
 use Rattle.nc_scen.specs.declared.scenario.Scenario.{Scenario}
 use Rattle.nc_rules.specs.Driver.{searching}
-use Rattle.nc_rules.specs.World.{WorldState, driver_of}
+use Rattle.nc_rules.specs.World.{WorldState, hart, driver_of}
 use Rattle.nc_rules.specs.Next.{next}
 use Rattle.nc_rules.specs.Run as run
 use Rattle.nc_rules.specs.World.{start}
 use Rattle.nc_rules.specs.Flat.{AreThere}
-use Rattle.nc_rules.specs.Schedule.{Size, size_of, begun, first_word, second_word, after_words, turn_of, event_of, drawn, draws, planned, plan_events, channel_event, round_event, round_len, round_from, round, rounds, finishing, is_idle, sched, hart, chan}
+use Rattle.nc_rules.specs.Schedule.{Size, size_of, begun, first_word, second_word, after_words, turn_of, event_of, drawn, draws, planned, plan_events, channel_event, round_event, round_len, round_from, round, rounds, finishing, is_idle, sched, chan}
 use Rattle.nc_sched.specs.declared.sched.Phase.{Phase}
 use Rattle.nc_sched.specs.declared.sched.Phase.TheVariants as phases
 use Rattle.nc_sched.specs.Stands.{listed, given, harts_of}
