@@ -127,7 +127,7 @@ started_is ram harts d ws h = started_by ram harts d ws (in_hand d) h refl
 abbrev pub InRam : ℕ → Span × Owner → Type 0
 InRam ram t = IsRangeIn ram t.0
 
-none_there : (ram : ℕ) (a : Option Answer) → AreThere ram (moved [] a)
+pub none_there : (ram : ℕ) (a : Option Answer) → AreThere ram (moved [] a)
 none_there ram a = record { inside = All-nil (InRam ram); few = omega arith }
 
 one_there : (ram : ℕ) (range : Span) (owner : Owner) (a : Option Answer) → IsRangeIn ram range → AreThere ram (moved ((range, owner) ∷ []) a)

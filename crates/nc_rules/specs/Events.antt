@@ -1,7 +1,8 @@
 -- Which events may happen. This project's own.
-use Rattle.std.specs.Prelude.{ℕ, ◌^◌, ◌&&◌, not, nat_le, Bool, true, false, is_some}
+use Rattle.std.specs.Prelude.{ℕ, ◌&&◌, ◌||◌, not, Bool, true, false, is_some}
 use Rattle.nc_num.specs.declared.names.HartNo.{HartNo}
 use Rattle.nc_cache.specs.Cache.{line_at, held_by}
+use Rattle.nc_pdma_regs.specs.Control.{bit}
 use Rattle.nc_pdma.specs.declared.channel.ChanStep.{ChanStep}
 use Rattle.nc_pdma.specs.declared.channel.ChanStep.TheVariants.{Idle, Moved, Error}
 use Rattle.nc_scen.specs.declared.events.Event.{Event}
@@ -14,7 +15,7 @@ use Rattle.nc_rules.specs.World.{WorldState, driver_of}
 
 -- bit 30 or bit 31 of Control is set: done or error
 abbrev pub is_over : ℕ → Bool
-is_over control = nat_le (2 ^ 30) control
+is_over control = bit control 30 || bit control 31
 
 -- a driver's next step may be made: an operation that its hart may issue; a claim, a poll and a take wait until no
 -- entry of class O is queued, a poll until the transfer is over, and a take until the buffer's message is there

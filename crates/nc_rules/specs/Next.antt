@@ -1,5 +1,5 @@
 -- The state after an event. This project's own.
-use Rattle.std.specs.Prelude.{ℕ, if◌then◌else◌, Option, Some, None}
+use Rattle.std.specs.Prelude.{ℕ, if◌then◌else◌, [], Option, Some, None}
 use Rattle.nc_num.specs.declared.names.HartNo.{HartNo}
 use Rattle.nc_queue.specs.declared.entry.Entry.{Entry}
 use Rattle.nc_model.specs.declared.owners.Access.TheVariants.{Read, Write}
@@ -14,7 +14,7 @@ use Rattle.nc_rules.specs.declared.steps.Seen.{Seen}
 use Rattle.nc_rules.specs.declared.steps.Seen.TheVariants as seen
 use Rattle.nc_rules.specs.Machine.{MachineState, grantee_of}
 use Rattle.nc_rules.specs.Calls.{issue_next, issue_answer, leaving, drain_next, fill_next, evict_next, chan_read_next, chan_read_told, chan_write_next, chan_write_told, control_of, claim_next, take_next}
-use Rattle.nc_rules.specs.Driver.{DriverState, Moved, next_of, is_script, started, start_moves, done, done_moves}
+use Rattle.nc_rules.specs.Driver.{DriverState, Moved, moved, next_of, is_script, started, start_moves, done, done_moves}
 use Rattle.nc_rules.specs.World.{WorldState, driver_of, with_driver, with_machine, with_moves, one_more}
 use Rattle.nc_rules.specs.Watched.{issue_touch, poll_touch, drain_touch, transaction_touch}
 use Rattle.nc_rules.specs.Events.{enabled}
@@ -70,8 +70,8 @@ step_driver w h (nexts.Take buf) = done (driver_of w h.0) (step_seen w.machine h
 
 abbrev pub step_moves : WorldState → HartNo → Next → Moved
 step_moves w h nexts.Start = start_moves (driver_of w h.0) w.owners
-step_moves w h nexts.End = start_moves (driver_of w h.0) w.owners
-step_moves w h (nexts.Search k) = start_moves (driver_of w h.0) w.owners
+step_moves w h nexts.End = moved [] None
+step_moves w h (nexts.Search k) = moved [] None
 step_moves w h (nexts.Op op) = done_moves (driver_of w h.0) (step_seen w.machine h (nexts.Op op))
 step_moves w h (nexts.Claim chan) = done_moves (driver_of w h.0) (step_seen w.machine h (nexts.Claim chan))
 step_moves w h (nexts.Poll chan) = done_moves (driver_of w h.0) (step_seen w.machine h (nexts.Poll chan))

@@ -37,7 +37,7 @@ use Rattle.nc_rules.specs.Scripts.{IsDriver, IsDriven, NextIsThere, AreThere, is
 use Rattle.nc_rules.specs.Sound.{OpIsThere}
 use Rattle.nc_rules.specs.Start.{first_driver, first_machine, memory}
 use Rattle.nc_rules.specs.World.{WorldState, driver_of, no_driver, owned_by_harts, first_owners, hart, start}
-use Rattle.nc_rules.proofs.DriverLaws.{first_drivers, started_is, done_is, start_moves_there, done_moves_there, next_there}
+use Rattle.nc_rules.proofs.DriverLaws.{first_drivers, started_is, done_is, none_there, start_moves_there, done_moves_there, next_there}
 use Rattle.nc_rules.proofs.SoundStart.{length-memory}
 use Rattle.nc_rules.proofs.SoundWith.{shape_same}
 use Rattle.nc_scen.specs.Regions.{pool_of}
@@ -111,9 +111,9 @@ went_is ram harts d owners (nexts.Poll chan) saw is e going = done_is ram harts 
 went_is ram harts d owners (nexts.Take buf) saw is e going = done_is ram harts d saw is (ap is_act e)
 
 moves_there : (ram harts : ℕ) (d : DriverState) (owners : List Owner) (n : Next) (saw : Seen) → IsDriver ram harts d → AreThere ram (moves_on d owners n saw)
-moves_there ram harts d owners nexts.End saw is = start_moves_there ram harts d owners is
+moves_there ram harts d owners nexts.End saw is = none_there ram None
 moves_there ram harts d owners nexts.Start saw is = start_moves_there ram harts d owners is
-moves_there ram harts d owners (nexts.Search k) saw is = start_moves_there ram harts d owners is
+moves_there ram harts d owners (nexts.Search k) saw is = none_there ram None
 moves_there ram harts d owners (nexts.Op op) saw is = done_moves_there ram harts d saw is
 moves_there ram harts d owners (nexts.Claim chan) saw is = done_moves_there ram harts d saw is
 moves_there ram harts d owners (nexts.Poll chan) saw is = done_moves_there ram harts d saw is

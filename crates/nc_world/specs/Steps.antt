@@ -13,7 +13,7 @@ use Rattle.nc_rules.specs.declared.steps.Next.{Next}
 use Rattle.nc_rules.specs.declared.steps.Next.TheVariants as nexts
 use Rattle.nc_rules.specs.declared.steps.Seen.{Seen}
 use Rattle.nc_rules.specs.Calls.{may_issue, issue_answer}
-use Rattle.nc_rules.specs.Driver.{DriverState, Moved, started, start_moves, done, done_moves}
+use Rattle.nc_rules.specs.Driver.{DriverState, Moved, moved, started, start_moves, done, done_moves}
 use Rattle.nc_rules.specs.Machine.{MachineState}
 use Rattle.nc_rules.specs.Sound.{OpIsThere}
 use Rattle.nc_world.specs.Logs.{issued_told, IssuedHasPlaces, OpHasPlace}
@@ -120,8 +120,8 @@ went_on d owners (nexts.Take buf) saw = done d saw
 
 abbrev pub moves_on : DriverState → List Owner → Next → Seen → Moved
 moves_on d owners nexts.Start saw = start_moves d owners
-moves_on d owners nexts.End saw = start_moves d owners
-moves_on d owners (nexts.Search k) saw = start_moves d owners
+moves_on d owners nexts.End saw = moved [] None
+moves_on d owners (nexts.Search k) saw = moved [] None
 moves_on d owners (nexts.Op op) saw = done_moves d saw
 moves_on d owners (nexts.Claim chan) saw = done_moves d saw
 moves_on d owners (nexts.Poll chan) saw = done_moves d saw

@@ -4,7 +4,7 @@ ghost use Rattle.std.specs.Prelude.{◌≡◌, ◌≤◌, ◌<◌, ◌==◌, tru
 ghost use Rattle.std.specs.List.{list_all};
 ghost use Rattle.nc_cache.specs.Cache.{line_at, held_by};
 ghost use Rattle.nc_rules.specs.Calls.{may_issue, issue_answer, leaving, drain_next, drain_transfers, may_fill, fill_next, fill_answer, evict_next, evict_answer, chan_read_next, chan_read_told, chan_write_next, chan_write_told};
-ghost use Rattle.nc_rules.specs.Events.{is_idle_step};
+ghost use Rattle.nc_rules.specs.Events.{is_over, is_idle_step};
 ghost use Rattle.nc_rules.specs.MachineLaws.{SameShape};
 ghost use Rattle.nc_rules.specs.Next.{seen_of, step_seen, step_machine};
 ghost use Rattle.nc_rules.specs.Sound.{IsMachine, IsBlockIn, EntryIsThere};
@@ -25,6 +25,13 @@ pub(crate) fn sound(machine: &Machine)
     ensures { IsMachine machine.now.machine }
 {
     let _control = machine.control(ChanNo(0));
+}
+
+/// Whether a transfer is over, by the channel's Control: bit 30 (done) or bit 31 (error) is set.
+pub(crate) fn is_over(control: u32) -> bool
+    ensures { result ≡ is_over control }
+{
+    control >> 30 & 1 == 1 || control >> 31 & 1 == 1
 }
 
 // ---- a driver's step

@@ -45,9 +45,6 @@ use std::marker::Model;
 /// The offset of the register Control, in bytes.
 const CONTROL: u16 = 0;
 
-/// Done or error: bit 30 or bit 31 of Control is set.
-const OVER: u32 = 1 << 30;
-
 /// Whether an event was done.
 #[derive(Clone, Copy, Debug, PartialEq, Eq)]
 pub enum Stepped {
@@ -385,7 +382,7 @@ impl World {
             Next::Start => true,
             Next::Op(op) => self.machine.can_issue(h, op),
             Next::Claim(_) => !self.machine.io_waits(h),
-            Next::Poll(c) => !self.machine.io_waits(h) && self.machine.control(*c) >= OVER,
+            Next::Poll(c) => !self.machine.io_waits(h) && acts::is_over(self.machine.control(*c)),
             Next::Take(b) => !self.machine.io_waits(h) && self.machine.waits(*b) == Some(h),
         }
     }
