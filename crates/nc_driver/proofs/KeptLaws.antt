@@ -3,7 +3,7 @@ use Rattle.std.proofs.Common.{◌≡◌, ℕ, ◌<◌, true, List, length, refl,
 use Rattle.std.proofs.lemmas.Option.{slice_get_within}
 use Rattle.nc_num.specs.declared.names.HartNo.{HartNo}
 use Rattle.nc_scen.specs.Accepted.{IsAccepted}
-use Rattle.nc_scen.specs.declared.ops.Op.{Op}
+use Rattle.nc_ops.specs.declared.ops.Op.{Op}
 use Rattle.nc_scen.specs.declared.scenario.Scenario.{Scenario}
 use Rattle.nc_rules.specs.declared.steps.Phase.{Phase}
 use Rattle.nc_rules.specs.declared.steps.Phase.TheVariants.{Steps}

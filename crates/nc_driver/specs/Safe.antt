@@ -3,8 +3,8 @@ use Rattle.std.specs.Prelude.{◌+◌, ◌≤◌, length, All, EachIndex, slice_
 use Rattle.nc_num.specs.Sizes.{IsBlockSize}
 use Rattle.nc_num.specs.declared.places.Span.{Span}
 use Rattle.nc_pte.specs.Words.{IsPteWord}
-use Rattle.nc_scen.specs.declared.ops.Op.{Op}
-use Rattle.nc_scen.specs.declared.ops.Op.TheVariants.{St}
+use Rattle.nc_ops.specs.declared.ops.Op.{Op}
+use Rattle.nc_ops.specs.declared.ops.Op.TheVariants.{St}
 use Rattle.nc_rules.specs.Operations.{Fixed}
 
 -- a range of the largest RAM

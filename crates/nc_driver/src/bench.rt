@@ -1,6 +1,6 @@
 //! Scenarios of one page table and two buffers, and a driver of one with the book that it asks.
 
-ghost use Rattle.std.specs.Prelude.{◌≡◌, ◌+◌, ◌≤◌, ◌<◌, [], length, All, IfOk};
+ghost use Rattle.std.specs.Prelude.{◌≡◌, ◌+◌, ◌≤◌, ◌<◌, length, All, IfOk};
 ghost use Rattle.std.specs.List.{AllByRecursion};
 ghost use Rattle.nc_env.specs.Enables.{IsEnvcfg};
 ghost use Rattle.nc_scen.specs.Accepted.{FitsHart, IsAccepted};

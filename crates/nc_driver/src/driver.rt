@@ -5,7 +5,7 @@ ghost use Rattle.nc_scen.specs.Accepted.{IsAccepted};
 ghost use Rattle.nc_rules.specs.declared.steps.Next.TheVariants as nexts;
 ghost use Rattle.nc_rules.specs.declared.steps.Phase.TheVariants.{Steps, Work};
 ghost use Rattle.nc_rules.specs.declared.steps.Seen.TheVariants as seens;
-ghost use Rattle.nc_scen.specs.declared.ops.Op.{Op};
+ghost use Rattle.nc_ops.specs.declared.ops.Op.{Op};
 ghost use Rattle.nc_rules.specs.Built.{IsBuilt};
 ghost use Rattle.nc_rules.specs.Driver as due;
 ghost use Rattle.nc_rules.specs.Driver.{moved};

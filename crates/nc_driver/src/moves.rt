@@ -1,6 +1,6 @@
 //! What a step changes beside the machine.
 
-ghost use Rattle.std.specs.Prelude.{◌≡◌, ◌≤◌, [], ◌∷◌, length, Some, None};
+ghost use Rattle.std.specs.Prelude.{◌≡◌, ◌≤◌, [], length, Some};
 ghost use Rattle.nc_rules.specs.Driver.{moved, refused};
 ghost use Rattle.nc_rules.specs.Operations.{turned};
 ghost use Rattle.nc_driver.specs.Shown.{seen_as};

@@ -1,8 +1,6 @@
 //! What a driver knows from the start.
 
 ghost use Rattle.std.specs.Prelude.{◌≡◌, ◌<◌, true, length, IfOk, All, map, slice_get, option_map};
-ghost use Rattle.nc_num.specs.Sizes.{IsBlockSize};
-ghost use Rattle.nc_env.specs.Enables.{IsEnvcfg};
 ghost use Rattle.nc_scen.specs.Accepted.{IsAccepted};
 ghost use Rattle.nc_rules.specs.Built.{is_built_op, IsBuilt};
 ghost use Rattle.nc_rules.specs.Operations.{buffer_of, effect_of};

@@ -3,7 +3,7 @@
 ghost use Rattle.std.specs.Prelude.{◌≡◌, ◌+◌, ◌<◌, ◌≤◌, ◌^◌, length, IfOk, slice_get, option_map};
 ghost use Rattle.nc_plan.specs.Accesses.{range};
 ghost use Rattle.nc_plan.specs.declared.ops.HartOp.TheVariants as hart;
-ghost use Rattle.nc_scen.specs.declared.ops.Op.TheVariants as ops;
+ghost use Rattle.nc_ops.specs.declared.ops.Op.TheVariants as ops;
 ghost use Rattle.nc_steps.specs.Mapped.{IsMapped};
 ghost use Rattle.nc_rules.specs.declared.steps.Act.TheVariants as acts;
 ghost use Rattle.nc_rules.specs.declared.steps.Turn.TheVariants as turns;

@@ -13,8 +13,8 @@ use Rattle.nc_hart.specs.Issue.{issued, marker}
 use Rattle.nc_model.specs.declared.owners.Owner.{Owner}
 use Rattle.nc_model.specs.declared.owners.Owner.TheVariants.{Thread}
 use Rattle.nc_own.specs.Books.{transferred}
-use Rattle.nc_scen.specs.declared.ops.Op.{Op}
-use Rattle.nc_scen.specs.declared.ops.Op.TheVariants as ops
+use Rattle.nc_ops.specs.declared.ops.Op.{Op}
+use Rattle.nc_ops.specs.declared.ops.Op.TheVariants as ops
 use Rattle.nc_scen.specs.declared.scenario.Scenario.{Scenario}
 use Rattle.nc_rules.specs.declared.steps.Act.{Act}
 use Rattle.nc_rules.specs.declared.steps.Act.TheVariants as acts

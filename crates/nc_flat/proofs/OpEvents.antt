@@ -10,7 +10,6 @@ use Rattle.nc_num.specs.declared.places.Block.{Block}
 use Rattle.nc_num.specs.declared.places.Span.{Span}
 use Rattle.nc_env.specs.declared.CboOp.TheVariants as cbos
 use Rattle.nc_cache.specs.Cache as caches
-use Rattle.nc_cache.specs.Cache.{Cache}
 use Rattle.nc_cache.specs.Facts.{Keeps}
 use Rattle.nc_cache.proofs.Places.{keeps_same, keeps_load}
 use Rattle.nc_queue.specs.Entries.{entry_gives}

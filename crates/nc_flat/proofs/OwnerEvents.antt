@@ -12,7 +12,7 @@ use Rattle.nc_model.specs.declared.owners.Owner.TheVariants.{Thread, Passing}
 use Rattle.nc_own.specs.Books.{owner_in}
 use Rattle.nc_scen.specs.Accepted.{IsAccepted}
 use Rattle.nc_scen.specs.Regions.{IsIn}
-use Rattle.nc_scen.specs.declared.ops.Op.TheVariants as ops
+use Rattle.nc_ops.specs.declared.ops.Op.TheVariants as ops
 use Rattle.nc_scen.specs.declared.scenario.Scenario.{Scenario}
 use Rattle.nc_rules.specs.declared.steps.Phase.TheVariants.{Steps, Work}
 use Rattle.nc_rules.specs.Machine.{MachineState, queue_of, box_of, with_box}

@@ -6,8 +6,8 @@ use Rattle.nc_plan.specs.declared.ops.HartOp.TheVariants as hart
 use Rattle.nc_plan.specs.declared.ops.IoTarget.TheVariants as io
 use Rattle.nc_model.specs.declared.owners.Owner.{Owner}
 use Rattle.nc_model.specs.declared.owners.Owner.TheVariants.{Passing}
-use Rattle.nc_scen.specs.declared.ops.Op.{Op}
-use Rattle.nc_scen.specs.declared.ops.Op.TheVariants as ops
+use Rattle.nc_ops.specs.declared.ops.Op.{Op}
+use Rattle.nc_ops.specs.declared.ops.Op.TheVariants as ops
 use Rattle.nc_rules.specs.declared.answers.Refusal.{Refusal}
 use Rattle.nc_rules.specs.declared.steps.Next.{Next}
 use Rattle.nc_rules.specs.declared.steps.Next.TheVariants as nexts

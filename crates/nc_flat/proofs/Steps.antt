@@ -9,7 +9,7 @@ use Rattle.nc_model.specs.declared.owners.Owner.TheVariants.{Thread, Passing}
 use Rattle.nc_own.specs.Books.{owner_in, transferred}
 use Rattle.nc_scen.specs.Accepted.{IsAccepted}
 use Rattle.nc_scen.specs.Regions.{IsIn}
-use Rattle.nc_scen.specs.declared.ops.Op.{Op}
+use Rattle.nc_ops.specs.declared.ops.Op.{Op}
 use Rattle.nc_scen.specs.declared.scenario.Scenario.{Scenario}
 use Rattle.nc_rules.specs.declared.steps.Next.{Next}
 use Rattle.nc_rules.specs.declared.steps.Next.TheVariants as nexts

@@ -17,8 +17,8 @@ use Rattle.nc_model.specs.declared.owners.Owner.{Owner}
 use Rattle.nc_model.specs.declared.owners.Owner.TheVariants.{Pool}
 use Rattle.nc_own.specs.Books.{owner_in}
 use Rattle.nc_scen.specs.Regions.{pool_of}
-use Rattle.nc_scen.specs.declared.ops.Op.{Op}
-use Rattle.nc_scen.specs.declared.ops.Op.TheVariants.{Hand}
+use Rattle.nc_ops.specs.declared.ops.Op.{Op}
+use Rattle.nc_ops.specs.declared.ops.Op.TheVariants.{Hand}
 use Rattle.nc_scen.specs.declared.scenario.BufferSpec.{BufferSpec}
 use Rattle.nc_scen.specs.declared.scenario.Scenario.{Scenario}
 use Rattle.nc_rules.specs.declared.steps.Phase.{Phase}

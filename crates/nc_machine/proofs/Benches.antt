@@ -7,7 +7,8 @@ use Rattle.nc_scen.specs.declared.scenario.BufferSpec.{BufferSpec}
 use Rattle.nc_scen.specs.declared.scenario.HartSpec.{HartSpec}
 use Rattle.nc_scen.specs.declared.scenario.Plan.TheVariants as plans
 use Rattle.nc_scen.specs.declared.scenario.Scenario.{Scenario}
-use Rattle.nc_scen.specs.Accepted.{IsAccepted, FitsHart, FitsBuffer, FitsOp}
+use Rattle.nc_scen.specs.Accepted.{IsAccepted, FitsHart, FitsBuffer}
+use Rattle.nc_ops.specs.Fits.{FitsOp}
 use Rattle.nc_scen.specs.Events.{IsThere}
 use Rattle.nc_scen.specs.Regions.{AreApart, slots_of, pool_of}
 

@@ -1,10 +1,10 @@
 //! The parts of a machine at the start of a scenario.
 
-ghost use Rattle.std.specs.Prelude.{◌≡◌, ◌≤◌, ◌<◌, ◌+◌, ◌*◌, ◌^◌, All, length, replicate, IfOk};
+ghost use Rattle.std.specs.Prelude.{◌≡◌, ◌≤◌, ◌<◌, ◌+◌, ◌*◌, All, length, replicate, IfOk};
 ghost use Rattle.nc_num.specs.Memory.{splice};
 ghost use Rattle.nc_num.specs.Sizes.{IsBlockSize};
 ghost use Rattle.nc_pdma.specs.Channel.{new_channel};
-ghost use Rattle.nc_scen.specs.Accepted.{FitsBuffer, IsAccepted};
+ghost use Rattle.nc_scen.specs.Accepted.{IsAccepted};
 ghost use Rattle.nc_rules.specs.Machine.{fresh_hart};
 ghost use Rattle.nc_rules.specs.Start.{filled, memory, pattern};
 

@@ -24,12 +24,12 @@ use Rattle.nc_steps.specs.Laws.{IsLoad, IsStore, IsWithin, home}
 use Rattle.nc_steps.specs.Mapped.{IsMapped}
 use Rattle.nc_steps.proofs.PieceLaws.{pieces_follow}
 use Rattle.nc_steps.proofs.StepLaws.{loads_are_pieces, stores_are_pieces, tables_serve}
-use Rattle.nc_scen.specs.Accepted.{FitsOp, FitsSpot}
-use Rattle.nc_scen.specs.declared.ops.BusArg.{BusArg}
-use Rattle.nc_scen.specs.declared.ops.Op.{Op}
-use Rattle.nc_scen.specs.declared.ops.Op.TheVariants as ops
-use Rattle.nc_scen.specs.declared.ops.Spot.{Spot}
-use Rattle.nc_scen.specs.declared.ops.Spot.TheVariants as spots
+use Rattle.nc_ops.specs.Fits.{FitsOp, FitsSpot}
+use Rattle.nc_ops.specs.declared.ops.BusArg.{BusArg}
+use Rattle.nc_ops.specs.declared.ops.Op.{Op}
+use Rattle.nc_ops.specs.declared.ops.Op.TheVariants as ops
+use Rattle.nc_ops.specs.declared.ops.Spot.{Spot}
+use Rattle.nc_ops.specs.declared.ops.Spot.TheVariants as spots
 use Rattle.nc_rules.specs.declared.answers.Refusal.{Refusal}
 use Rattle.nc_rules.specs.declared.answers.Refusal.TheVariants as refusals
 use Rattle.nc_rules.specs.declared.steps.Act.TheVariants as acts

@@ -1,12 +1,12 @@
 -- Which accepted scenarios are run today: those whose scripts name no mapping, list, coherent area or copy.
 use Rattle.std.specs.Prelude.{◌≡◌, ◌&&◌, Bool, true, false, All}
 use Rattle.std.specs.List.{list_all}
-use Rattle.nc_scen.specs.declared.ops.BusArg.{BusArg}
-use Rattle.nc_scen.specs.declared.ops.BusArg.TheVariants as bus
-use Rattle.nc_scen.specs.declared.ops.Op.{Op}
-use Rattle.nc_scen.specs.declared.ops.Op.TheVariants.{Ld, St, Cbo, Fence, Hand, Take, Claim, Free, Regs, Run, Poll, Regr, Regw}
-use Rattle.nc_scen.specs.declared.ops.Spot.{Spot}
-use Rattle.nc_scen.specs.declared.ops.Spot.TheVariants as spots
+use Rattle.nc_ops.specs.declared.ops.BusArg.{BusArg}
+use Rattle.nc_ops.specs.declared.ops.BusArg.TheVariants as bus
+use Rattle.nc_ops.specs.declared.ops.Op.{Op}
+use Rattle.nc_ops.specs.declared.ops.Op.TheVariants.{Ld, St, Cbo, Fence, Hand, Take, Claim, Free, Regs, Run, Poll, Regr, Regw}
+use Rattle.nc_ops.specs.declared.ops.Spot.{Spot}
+use Rattle.nc_ops.specs.declared.ops.Spot.TheVariants as spots
 use Rattle.nc_scen.specs.declared.scenario.HartSpec.{HartSpec}
 use Rattle.nc_scen.specs.declared.scenario.Scenario.{Scenario}
 

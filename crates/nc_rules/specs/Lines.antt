@@ -26,8 +26,8 @@ use Rattle.nc_model.specs.declared.touches.TouchKind.{TouchKind}
 use Rattle.nc_model.specs.declared.touches.TouchKind.TheVariants as kinds
 use Rattle.nc_scen.specs.declared.events.Event.{Event}
 use Rattle.nc_scen.specs.declared.events.Event.TheVariants as events
-use Rattle.nc_scen.specs.declared.refused.Refused.{Refused}
-use Rattle.nc_scen.specs.declared.refused.Refused.TheVariants as wrong
+use Rattle.nc_values.specs.declared.refused.Refused.{Refused}
+use Rattle.nc_values.specs.declared.refused.Refused.TheVariants as wrong
 use Rattle.nc_scen.specs.declared.scenario.BufferSpec.{BufferSpec}
 use Rattle.nc_scen.specs.declared.scenario.Scenario.{Scenario}
 use Rattle.nc_rules.specs.declared.answers.Answer.{Answer}

@@ -25,12 +25,12 @@ use Rattle.nc_model.specs.declared.owners.Owner.TheVariants as owners
 use Rattle.nc_model.specs.Rights.{is_thread}
 use Rattle.nc_model.specs.Touches.{first_fault}
 use Rattle.nc_own.specs.Books.{owner_in}
-use Rattle.nc_scen.specs.declared.ops.BusArg.{BusArg}
-use Rattle.nc_scen.specs.declared.ops.BusArg.TheVariants as bus
-use Rattle.nc_scen.specs.declared.ops.Op.{Op}
-use Rattle.nc_scen.specs.declared.ops.Op.TheVariants as ops
-use Rattle.nc_scen.specs.declared.ops.Spot.{Spot}
-use Rattle.nc_scen.specs.declared.ops.Spot.TheVariants as spots
+use Rattle.nc_ops.specs.declared.ops.BusArg.{BusArg}
+use Rattle.nc_ops.specs.declared.ops.BusArg.TheVariants as bus
+use Rattle.nc_ops.specs.declared.ops.Op.{Op}
+use Rattle.nc_ops.specs.declared.ops.Op.TheVariants as ops
+use Rattle.nc_ops.specs.declared.ops.Spot.{Spot}
+use Rattle.nc_ops.specs.declared.ops.Spot.TheVariants as spots
 use Rattle.nc_rules.specs.declared.answers.Answer.{Answer}
 use Rattle.nc_rules.specs.declared.answers.Answer.TheVariants as answers
 use Rattle.nc_rules.specs.declared.answers.Refusal.{Refusal}

@@ -6,8 +6,9 @@ use Rattle.nc_num.specs.declared.names.HartNo.{HartNo}
 use Rattle.nc_num.specs.declared.places.Span.{Span}
 use Rattle.nc_pte.specs.Words.{IsPteWord}
 use Rattle.nc_model.specs.declared.owners.Owner.{Owner}
-use Rattle.nc_scen.specs.Accepted.{FitsOp, IsAccepted}
-use Rattle.nc_scen.specs.declared.ops.Op.{Op}
+use Rattle.nc_ops.specs.Fits.{FitsOp}
+use Rattle.nc_scen.specs.Accepted.{IsAccepted}
+use Rattle.nc_ops.specs.declared.ops.Op.{Op}
 use Rattle.nc_scen.specs.declared.scenario.Scenario.{Scenario}
 use Rattle.nc_rules.specs.declared.steps.Act.{Act}
 use Rattle.nc_rules.specs.declared.steps.Act.TheVariants as acts

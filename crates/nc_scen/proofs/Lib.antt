@@ -1,4 +1,3 @@
-pub mod Loops
 pub mod Items
 pub mod Apart
 pub mod Accepting

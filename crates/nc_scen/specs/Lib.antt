@@ -1,12 +1,8 @@
 pub mod Events
 pub mod Regions
 pub mod Accepted
-pub mod Paths
-pub mod Outcomes
-pub mod Json
-pub mod Values
-pub mod Texts
-pub mod Operations
+pub mod Keys
+pub mod Tokens
 pub mod Parts
 pub mod Reading
 pub mod Fits

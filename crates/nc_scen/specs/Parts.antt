@@ -5,22 +5,22 @@ use Rattle.serde_json.specs.Find.{get}
 use Rattle.nc_scen.specs.declared.format.Format.{Format}
 use Rattle.nc_scen.specs.declared.keys.Keys.{Keys}
 use Rattle.nc_scen.specs.declared.keys.Keys.TheVariants as keys
-use Rattle.nc_scen.specs.declared.ops.Op.{Op}
-use Rattle.nc_scen.specs.declared.arguments.Room.{Room}
-use Rattle.nc_scen.specs.declared.refused.Refused.{Refused}
-use Rattle.nc_scen.specs.declared.refused.Refused.TheVariants.{Shape, Version}
+use Rattle.nc_ops.specs.declared.ops.Op.{Op}
+use Rattle.nc_ops.specs.declared.arguments.Room.{Room}
+use Rattle.nc_values.specs.declared.refused.Refused.{Refused}
+use Rattle.nc_values.specs.declared.refused.Refused.TheVariants.{Shape, Version}
 use Rattle.nc_scen.specs.declared.harts.Settings.{Settings}
 use Rattle.nc_scen.specs.declared.regions.Region.{Region}
 use Rattle.nc_scen.specs.declared.regions.RegionKind.{RegionKind}
 use Rattle.nc_scen.specs.declared.regions.RegionKind.TheVariants as kinds
 use Rattle.nc_scen.specs.declared.scenario.BufferSpec.{BufferSpec}
 use Rattle.nc_scen.specs.declared.scenario.HartSpec.{HartSpec}
-use Rattle.nc_scen.specs.declared.wrong.Wrong.{Wrong}
-use Rattle.nc_scen.specs.Json.{keyed}
-use Rattle.nc_scen.specs.Operations.{op_of}
-use Rattle.nc_scen.specs.Outcomes.{◌>>=◌, placed, each}
-use Rattle.nc_scen.specs.Paths.{under, at_position}
-use Rattle.nc_scen.specs.Values.{number_of, list_of, truth_of, mode_of, fences_of, register_of, word_of, limited, number_to, number_under, sized_of, is_size, is_ram, field, number_at, number_to_at, list_at}
+use Rattle.nc_values.specs.declared.wrong.Wrong.{Wrong}
+use Rattle.nc_scen.specs.Keys.{keyed}
+use Rattle.nc_ops.specs.Operations.{op_of}
+use Rattle.nc_values.specs.Outcomes.{◌>>=◌, placed, each}
+use Rattle.nc_values.specs.Paths.{under, at_position}
+use Rattle.nc_values.specs.Values.{number_of, list_of, truth_of, mode_of, fences_of, register_of, word_of, limited, number_to, number_under, sized_of, is_size, is_ram, field, number_at, number_to_at, list_at}
 
 -- ---- the version, the sizes of blocks, and the fences
 

@@ -6,20 +6,21 @@ use Rattle.nc_scen.specs.declared.events.Event.{Event}
 use Rattle.nc_scen.specs.declared.keys.Keys.TheVariants as keys
 use Rattle.nc_scen.specs.declared.reading.Land.{Land}
 use Rattle.nc_scen.specs.declared.reading.Terms.{Terms}
-use Rattle.nc_scen.specs.declared.refused.Refused.{Refused}
-use Rattle.nc_scen.specs.declared.refused.Refused.TheVariants.{TooLong, Overlap, Token}
+use Rattle.nc_values.specs.declared.refused.Refused.{Refused}
+use Rattle.nc_values.specs.declared.refused.Refused.TheVariants.{TooLong, Overlap, Token}
 use Rattle.nc_scen.specs.declared.regions.RegionKind.TheVariants as kinds
 use Rattle.nc_scen.specs.declared.scenario.HartSpec.{HartSpec}
 use Rattle.nc_scen.specs.declared.scenario.Plan.{Plan}
 use Rattle.nc_scen.specs.declared.scenario.Plan.TheVariants as plans
 use Rattle.nc_scen.specs.declared.scenario.Scenario.{Scenario}
-use Rattle.nc_scen.specs.Json.{json_of, json_value, items_len, keyed}
-use Rattle.nc_scen.specs.Outcomes.{◌>>=◌, placed, shaped, each, check_each}
+use Rattle.nc_values.specs.Json.{json_of, json_value, items_len}
+use Rattle.nc_scen.specs.Keys.{keyed}
+use Rattle.nc_values.specs.Outcomes.{◌>>=◌, placed, shaped, each, check_each}
 use Rattle.nc_scen.specs.Parts.{format_of, ram_of, hart_checked, hart_at, words_or_none, buffer_at, region_or_none, least_reach, reach_or_ram, finish_or_true, limit_or_default}
-use Rattle.nc_scen.specs.Paths.{at_position}
+use Rattle.nc_values.specs.Paths.{at_position}
 use Rattle.nc_scen.specs.Regions.{slots_span, pool_span, regions, first_overlap}
-use Rattle.nc_scen.specs.Texts.{token_in}
-use Rattle.nc_scen.specs.Values.{text_of, sized_of, number_at, number_to_at, list_at}
+use Rattle.nc_scen.specs.Tokens.{token_in}
+use Rattle.nc_values.specs.Values.{text_of, sized_of, number_at, number_to_at, list_at}
 
 abbrev pub most_bytes : ℕ
 most_bytes = 8388608

@@ -5,14 +5,13 @@ ghost use Rattle.serde_json.specs.View.{view};
 ghost use Rattle.serde_json.specs.Find.{get};
 ghost use Rattle.nc_num.specs.Sizes.{IsBlockSize};
 ghost use Rattle.nc_scen.specs.Fits.{IsFormat};
-ghost use Rattle.nc_scen.specs.Outcomes.{Gives};
-ghost use Rattle.nc_scen.specs.Values.{got};
-ghost use Rattle.nc_scen.specs.Parts.{version_of, absent, size_in, size_at, fences_or_full, old_format, new_format, format_of};
+ghost use Rattle.nc_values.specs.Outcomes.{Gives};
+ghost use Rattle.nc_values.specs.Values.{got};
+ghost use Rattle.nc_scen.specs.Parts.{absent, size_in, size_at, fences_or_full, old_format, new_format, format_of};
 
-use crate::fields::{field, number_at, placed};
-use crate::refused::{Path, Refused, ScenFault};
-use crate::values::{fences, is_size, number};
-use crate::wrong::Wrong;
+use nc_values::{
+    Path, Refused, ScenFault, Wrong, fences, field, is_size, number, number_at, placed,
+};
 use serde_json::Value;
 use std::alloc::Global;
 

@@ -3,19 +3,16 @@
 ghost use Rattle.std.specs.Prelude.{◌≡◌, ◌≤◌, IfOk, All, length};
 ghost use Rattle.serde_json.specs.View.{view, items_view};
 ghost use Rattle.nc_env.specs.Enables.{IsEnvcfg};
-ghost use Rattle.nc_scen.specs.Accepted.{FitsHart, FitsOp};
-ghost use Rattle.nc_scen.specs.Outcomes.{Gives, each, check_each};
+ghost use Rattle.nc_scen.specs.Accepted.{FitsHart};
+ghost use Rattle.nc_ops.specs.Fits.{FitsOp};
+ghost use Rattle.nc_values.specs.Outcomes.{Gives, each, check_each};
 ghost use Rattle.nc_scen.specs.Parts.{settings_of, script_items, hart_checked, op_at, script_at, hart_of, hart_at};
 
-use crate::arguments::Room;
-use crate::fields::{list_at, mode_at, register_at};
 use crate::keys::{Keys, check_keys};
-use crate::operations::read_op;
-use crate::ops::{Op, Ops};
-use crate::refused::{Path, ScenFault};
 use crate::scenario::HartSpec;
-use crate::wrong::OpFault;
 use nc_env::Mode;
+use nc_ops::{Op, Ops, Room, read_op};
+use nc_values::{OpFault, Path, ScenFault, list_at, mode_at, register_at};
 use serde_json::Value;
 use std::alloc::Global;
 

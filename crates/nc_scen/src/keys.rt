@@ -1,11 +1,11 @@
 //! The keys of the scenario's objects.
 
-ghost use Rattle.std.specs.Prelude.{◌≡◌, Some, option_map, codes};
-ghost use Rattle.serde_json.specs.View.{view, members_view, items_view};
-ghost use Rattle.nc_scen.specs.Json.{knows, first_unknown, keyed};
-ghost use Rattle.nc_scen.specs.Outcomes.{Gives};
+ghost use Rattle.std.specs.Prelude.{◌≡◌, Some, option_map};
+ghost use Rattle.serde_json.specs.View.{view, members_view};
+ghost use Rattle.nc_scen.specs.Keys.{knows, first_unknown, keyed};
+ghost use Rattle.nc_values.specs.Outcomes.{Gives};
 
-use crate::refused::{Path, Refused, ScenFault};
+use nc_values::{Path, Refused, ScenFault};
 use serde_json::{Map, Value};
 use std::alloc::Global;
 

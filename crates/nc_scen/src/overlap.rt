@@ -1,12 +1,12 @@
 //! The first two regions that share a byte.
 
-ghost use Rattle.std.specs.Prelude.{◌≡◌, ◌<◌, ◌≤◌, ◌+◌, ◌^◌, Ok, IfSome, length};
-ghost use Rattle.nc_scen.specs.Outcomes.{Gives};
+ghost use Rattle.std.specs.Prelude.{◌≡◌, ◌<◌, ◌+◌, ◌^◌, Ok, IfSome, length};
+ghost use Rattle.nc_values.specs.Outcomes.{Gives};
 ghost use Rattle.nc_scen.specs.Regions.{meet, first_meeting, first_overlap, regions};
 
-use crate::refused::ScenFault;
 use crate::scenario::BufferSpec;
 use nc_num::Span;
+use nc_values::ScenFault;
 use std::alloc::Global;
 
 /// Whether two regions share a byte.

@@ -5,26 +5,22 @@ ghost use Rattle.serde_json.specs.Find.{get};
 ghost use Rattle.serde_json.specs.View.{view, items_view};
 ghost use Rattle.nc_scen.specs.Accepted.{FitsHart, IsAccepted};
 ghost use Rattle.nc_scen.specs.Fits.{FitsLand, HasRegionsApart};
-ghost use Rattle.nc_scen.specs.Outcomes.{Gives};
+ghost use Rattle.nc_values.specs.Outcomes.{Gives};
 ghost use Rattle.nc_scen.specs.Parts.{finish_or_true, limit_in, limit_or_default};
 ghost use Rattle.nc_scen.specs.Reading.{land_of, apart, terms_of, harts_known, harts_of, scenario_of, reading};
 
-use crate::arguments::Room;
-use crate::fields::{list_at, placed};
 use crate::format::read_format;
 use crate::harts::{check_harts, read_harts};
-use crate::json::value_of;
 use crate::keys::{Keys, check_keys};
 use crate::overlap::{first_overlap, regions};
-use crate::refused::{Path, Refused, ScenFault};
 use crate::regions::{
     Region, RegionKind, least_reach, read_buffers, read_ram, read_reach, read_words, region_or_none,
 };
 use crate::scenario::{BufferSpecs, HartSpecs, Scenario, Words};
 use crate::schedule::{MOST_EVENTS, check_schedule, read_schedule};
-use crate::values::{most, number, truth};
-use crate::wrong::Wrong;
 use nc_num::Span;
+use nc_ops::Room;
+use nc_values::{Path, Refused, ScenFault, Wrong, list_at, most, number, placed, truth, value_of};
 use serde_json::Value;
 use std::alloc::Global;
 
@@ -149,7 +145,7 @@ fn known_harts(alloc: Global, value: &Value) -> Result<&Vec<Value>, ScenFault>
 }
 
 /// The harts with their operations.
-#[tactic(auto, using(crate::proofs::Items::items_len_view))]
+#[tactic(auto, using(nc_values::proofs::Items::items_len_view))]
 fn harts_of(alloc: Global, land: &Land, items: &[Value]) -> Result<HartSpecs, ScenFault>
     requires few { length items.now ≤ 4 }
     requires buffers_few { length land.now.buffers ≤ 64 }
@@ -165,7 +161,7 @@ fn harts_of(alloc: Global, land: &Land, items: &[Value]) -> Result<HartSpecs, Sc
     Ok(HartSpecs::new(harts))
 }
 
-#[tactic(auto, using(crate::proofs::Items::items_len_view), unfolding(crate::specs::Reading::scenario_of))]
+#[tactic(auto, using(nc_values::proofs::Items::items_len_view), unfolding(crate::specs::Reading::scenario_of))]
 fn read_scenario(alloc: Global, value: &Value) -> Result<Scenario, ScenFault>
     ensures gives { Gives (λ sc. sc) result (scenario_of (view value.now)) }
     ensures accepted { IfOk result IsAccepted }

@@ -1,22 +1,21 @@
 //! What lies in RAM: buffers, slots and pool, what channels reach, and that no two regions share a byte.
 
-ghost use Rattle.std.specs.Prelude.{◌≡◌, ◌<◌, ◌≤◌, ◌+◌, ◌*◌, ◌%◌, ◌/◌, ◌==◌, ◌&&◌, All, IfOk, length, nat_le, nat_lt, codes, option_map};
+ghost use Rattle.std.specs.Prelude.{◌≡◌, ◌<◌, ◌≤◌, ◌+◌, ◌*◌, ◌%◌, ◌/◌, ◌==◌, ◌&&◌, All, IfOk, length, codes, option_map};
 ghost use Rattle.serde_json.specs.View.{view, items_view};
-ghost use Rattle.serde_json.specs.Find.{get};
 ghost use Rattle.nc_pte.specs.Words.{IsPteWord};
 ghost use Rattle.nc_scen.specs.Accepted.{FitsBuffer};
 ghost use Rattle.nc_scen.specs.Fits.{FitsRegion, Reaches};
-ghost use Rattle.nc_scen.specs.Outcomes.{Gives, each};
-ghost use Rattle.nc_scen.specs.Values.{got};
+ghost use Rattle.nc_values.specs.Outcomes.{Gives, each};
+ghost use Rattle.nc_values.specs.Values.{got};
 ghost use Rattle.nc_scen.specs.Parts.{ram_in, ram_of, word_at, words_or_none, ends_in, len_of, buffer_of, buffer_at, key_of, count_key, keys_of, unit_of, start_of, count_of, region_of, region_or_none, end_of, least_reach, reach_in, reach_at, reach_items, reach_or_ram};
 
-use crate::fields::{below_at, field, number_at, number_to_at, placed, sized};
 use crate::keys::{Keys, check_keys};
-use crate::refused::{Path, Refused, ScenFault};
 use crate::scenario::BufferSpec;
-use crate::values::{is_ram, list, number, word};
-use crate::wrong::Wrong;
 use nc_num::{HartNo, Span};
+use nc_values::{
+    Path, Refused, ScenFault, Wrong, below_at, field, is_ram, list, number, number_at,
+    number_to_at, placed, sized, word,
+};
 use serde_json::Value;
 use std::alloc::Global;
 

@@ -5,10 +5,10 @@ ghost use Rattle.nc_scen.specs.Accepted.{IsAccepted};
 ghost use Rattle.nc_scen.specs.Regions.{pool_of};
 
 use crate::events::Event;
-use crate::ops::Ops;
 use crate::regions::RegionKind;
 use nc_env::Mode;
 use nc_num::{HartNo, Span};
+use nc_ops::Ops;
 use std::marker::Model;
 
 /// A hart: its mode, its two environment registers (RISC-V Privileged Architecture) and its script.

@@ -4,16 +4,14 @@ ghost use Rattle.std.specs.Prelude.{◌≡◌, ◌<◌, ◌≤◌, ◌*◌, ◌^
 ghost use Rattle.serde_json.specs.View.{view, items_view};
 ghost use Rattle.nc_scen.specs.Accepted.{FitsPlan};
 ghost use Rattle.nc_scen.specs.Events.{IsThere};
-ghost use Rattle.nc_scen.specs.Outcomes.{Gives, each, check_each};
+ghost use Rattle.nc_values.specs.Outcomes.{Gives, each, check_each};
 ghost use Rattle.nc_scen.specs.Reading.{seeded_of, tokens_of, text_at, plan_checked, token_at, plan_of, schedule_of, schedule_checked, schedule_read};
 
 use crate::events::Event;
-use crate::fields::{field, number_at, number_to_at, sized};
 use crate::keys::{Keys, check_keys};
-use crate::refused::{Path, Refused, ScenFault};
 use crate::scenario::{Events, Plan};
 use crate::tokens::token_in;
-use crate::values::text;
+use nc_values::{Path, Refused, ScenFault, field, number_at, number_to_at, sized, text};
 use serde_json::Value;
 use std::alloc::Global;
 

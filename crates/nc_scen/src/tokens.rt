@@ -1,12 +1,12 @@
 //! The tokens of a schedule.
 
-ghost use Rattle.std.specs.Prelude.{◌≡◌, ℕ, ◌<◌, ◌≤◌, ◌*◌, ◌+◌, IfSome};
-ghost use Rattle.nc_scen.specs.Texts.{short_token, long_token, token_in};
+ghost use Rattle.std.specs.Prelude.{◌≡◌, ℕ, ◌<◌, ◌≤◌, ◌*◌, IfSome};
+ghost use Rattle.nc_scen.specs.Tokens.{short_token, long_token, token_in};
 ghost use Rattle.nc_scen.specs.Events.{IsThere};
 
 use crate::events::Event;
-use crate::texts::{digit_below, number_below};
 use nc_num::{Block, ChanNo, HartNo};
+use nc_values::{digit_below, number_below};
 
 /// `iH`, `tH`, `gH`, `nH`, `rC` or `wC`.
 fn short_token(c: u8, n: u8, harts: u8) -> Option<Event>

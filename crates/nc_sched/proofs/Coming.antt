@@ -1,6 +1,6 @@
 -- The events that are still to come, one after another.
-use Rattle.std.proofs.Common.{◌≡◌, ℕ, zero, suc, ◌+◌, ◌-◌, ◌*◌, ◌<◌, ◌≤◌, Bool, true, false, not, ◌||◌, ◌&&◌, leb, List, [], ◌∷◌, ◌++◌, length, take, drop, Option, Some, None, refl, sym, ap, ◌∙◌, subst, arith}
-use Rattle.std.specs.Prelude.{if◌then◌else◌, slice_get, nat_lt, nat_le, ◌==◌}
+use Rattle.std.proofs.Common.{◌≡◌, ℕ, zero, suc, ◌+◌, ◌-◌, ◌<◌, ◌≤◌, Bool, true, false, not, ◌||◌, ◌&&◌, leb, List, [], ◌∷◌, ◌++◌, length, take, drop, Some, None, refl, sym, ap, ◌∙◌, arith}
+use Rattle.std.specs.Prelude.{if◌then◌else◌, slice_get, nat_lt, ◌==◌}
 use Rattle.std.proofs.lemmas.Bool.{and_parts, leb-true, le-leb}
 use Rattle.std.proofs.lemmas.Bool.Decides.{nat_tests}
 use Rattle.std.proofs.Math.Seq.{drop-nil, take-nil}
@@ -17,10 +17,10 @@ use Rattle.nc_rules.specs.Events.{enabled}
 use Rattle.nc_rules.specs.Next.{next}
 use Rattle.nc_rules.specs.Run as run
 use Rattle.nc_rules.specs.Told.{told, recorded}
-use Rattle.nc_rules.specs.Schedule.{Size, size_of, begun, after_words, drawn, draws, planned, round_event, round_len, round_from, round, rounds, finishing, is_idle, is_nothing, plan_events, sched}
+use Rattle.nc_rules.specs.Schedule.{Size, size_of, after_words, drawn, draws, round_event, round_len, round_from, round, rounds, finishing, is_idle, is_nothing, sched}
 use Rattle.nc_sched.specs.declared.sched.Phase.{Phase}
 use Rattle.nc_sched.specs.declared.sched.Phase.TheVariants as phases
-use Rattle.nc_sched.specs.Stands.{Stand, listed, first_phase, seed_of, first_stand, heard, harts_of, round_on, then_rounds, follow, to_come, settled, given, next_phase, next_generator}
+use Rattle.nc_sched.specs.Stands.{Stand, listed, first_stand, heard, harts_of, round_on, then_rounds, follow, to_come, settled, given, next_phase, next_generator}
 
 -- ---- fronts of lists
 

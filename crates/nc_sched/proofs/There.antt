@@ -1,5 +1,5 @@
 -- Each event that a schedule gives names what is there.
-use Rattle.std.proofs.Common.{◌≡◌, ◌⊎◌, inl, inr, ℕ, zero, suc, ◌+◌, ◌-◌, ◌*◌, ◌/◌, ◌%◌, ◌<◌, ◌≤◌, Bool, true, false, List, [], ◌∷◌, ◌++◌, length, Option, Some, None, refl, sym, ap, ◌∙◌, subst, arith}
+use Rattle.std.proofs.Common.{◌≡◌, inl, inr, ℕ, zero, suc, ◌+◌, ◌-◌, ◌*◌, ◌/◌, ◌%◌, ◌<◌, ◌≤◌, Bool, true, false, List, [], ◌∷◌, ◌++◌, length, Some, None, refl, subst, arith}
 use Rattle.std.specs.Prelude.{if◌then◌else◌, slice_get, nat_lt, ◌==◌, All, is_some}
 use Rattle.std.specs.List.{AllByRecursion}
 use Rattle.std.proofs.Math.Nat.{mod-lt, mul-div-le}
@@ -15,10 +15,9 @@ use Rattle.nc_scen.specs.declared.scenario.Plan.{Plan}
 use Rattle.nc_scen.specs.declared.scenario.Plan.TheVariants as plans
 use Rattle.nc_scen.specs.declared.scenario.Scenario.{Scenario}
 use Rattle.nc_rules.specs.Driver.{searching}
-use Rattle.nc_rules.specs.World.{WorldState, hart, driver_of}
+use Rattle.nc_rules.specs.World.{WorldState, hart, driver_of, start}
 use Rattle.nc_rules.specs.Next.{next}
 use Rattle.nc_rules.specs.Run as run
-use Rattle.nc_rules.specs.World.{start}
 use Rattle.nc_rules.specs.Flat.{AreThere}
 use Rattle.nc_rules.specs.Schedule.{Size, size_of, begun, first_word, second_word, after_words, turn_of, event_of, drawn, draws, planned, plan_events, channel_event, round_event, round_len, round_from, round, rounds, finishing, is_idle, sched, chan}
 use Rattle.nc_sched.specs.declared.sched.Phase.{Phase}

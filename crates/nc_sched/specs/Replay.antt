@@ -1,5 +1,5 @@
 -- A run made again from the events that it did alone.
-use Rattle.std.specs.Prelude.{◌≡◌, ℕ, false, if◌then◌else◌, List, [], ◌∷◌}
+use Rattle.std.specs.Prelude.{◌≡◌, false, if◌then◌else◌, List, [], ◌∷◌}
 use Rattle.nc_scen.specs.declared.events.Event.{Event}
 use Rattle.nc_scen.specs.declared.scenario.Plan.TheVariants as plans
 use Rattle.nc_scen.specs.declared.scenario.Scenario.{Scenario}

@@ -1,12 +1,12 @@
 //! The events of a schedule, one after another.
 
-ghost use Rattle.std.specs.Prelude.{◌≡◌, ◌<◌, ◌≤◌, ◌+◌, ◌*◌, ◌/◌, [], ◌∷◌, length, MatchOption, IfSome, Some, None, option_map};
+ghost use Rattle.std.specs.Prelude.{◌≡◌, ◌<◌, ◌≤◌, ◌+◌, ◌*◌, ◌/◌, [], ◌∷◌, length, MatchOption, IfSome, Some, None};
 ghost use Rattle.nc_scen.specs.Accepted.{IsAccepted};
 ghost use Rattle.nc_scen.specs.Events.{IsThere};
 ghost use Rattle.nc_rules.specs.World.{start};
 ghost use Rattle.nc_rules.specs.Events.{enabled};
 ghost use Rattle.nc_rules.specs.Next.{next};
-ghost use Rattle.nc_rules.specs.Schedule.{turn_of, event_of, channel_event, round_event, round_len, size_of, drawn, after_words, begun, sched};
+ghost use Rattle.nc_rules.specs.Schedule.{turn_of, event_of, channel_event, round_event, round_len, size_of, drawn, after_words, sched};
 ghost use Rattle.nc_sched.specs.Stands.{listed, first_phase, seed_of, first_stand, to_come, heard, is_done, settled, given, next_phase, next_generator};
 
 use nc_num::{Block, ChanNo, HartNo};

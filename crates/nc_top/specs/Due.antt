@@ -2,7 +2,7 @@
 use Rattle.std.specs.Prelude.{◌≢◌, ℕ, List, [], ◌∷◌, codes, Bool, false, Result, Ok, Err, if◌then◌else◌}
 use Rattle.std.specs.Str.{bytes_eq}
 use Rattle.nc_scen.specs.Reading.{reading}
-use Rattle.nc_scen.specs.declared.refused.Refused.{Refused}
+use Rattle.nc_values.specs.declared.refused.Refused.{Refused}
 use Rattle.nc_scen.specs.declared.scenario.Scenario.{Scenario}
 use Rattle.nc_rules.specs.Built.{is_built}
 use Rattle.nc_rules.specs.Schedule.{sched}

@@ -17,7 +17,7 @@ use Rattle.nc_plan.specs.declared.ops.HartOp.{HartOp}
 use Rattle.nc_plan.specs.declared.ops.HartOp.TheVariants.{Load, Store, Cbo, Fence, IoLoad, IoStore, Mark}
 use Rattle.nc_plan.specs.declared.ops.Payload.{Payload}
 use Rattle.nc_plan.specs.declared.ops.Payload.TheVariants.{Given, Last}
-use Rattle.nc_scen.specs.declared.ops.Op.{Op}
+use Rattle.nc_ops.specs.declared.ops.Op.{Op}
 use Rattle.nc_scen.specs.declared.scenario.BufferSpec.{BufferSpec}
 use Rattle.nc_scen.specs.declared.scenario.Scenario.{Scenario}
 use Rattle.nc_scen.specs.Accepted.{IsAccepted}

@@ -1,6 +1,6 @@
 //! The records of a world, with room for those of one event.
 
-ghost use Rattle.std.specs.Prelude.{◌≡◌, ◌≤◌, ◌<◌, ◌+◌, ◌*◌, ◌^◌, ◌++◌, [], ◌∷◌, length, map, All, OnOk};
+ghost use Rattle.std.specs.Prelude.{◌≡◌, ◌≤◌, ◌<◌, ◌+◌, ◌*◌, ◌^◌, ◌++◌, [], ◌∷◌, length, All, OnOk};
 ghost use Rattle.nc_hart.specs.Issue.{cut as cut_of};
 ghost use Rattle.nc_rules.specs.Told as rules;
 ghost use Rattle.nc_driver.specs.Shown.{seen_as};

@@ -1,9 +1,8 @@
 //! The parts of a world at the start of a scenario.
 
-ghost use Rattle.std.specs.Prelude.{◌≡◌, ◌≤◌, ◌<◌, ◌+◌, [], length, map, replicate, All, IfOk};
+ghost use Rattle.std.specs.Prelude.{◌≡◌, ◌≤◌, ◌<◌, ◌+◌, [], length, map, All, IfOk};
 ghost use Rattle.std.specs.List.{range_with_len};
-ghost use Rattle.nc_model.specs.declared.owners.Owner.TheVariants.{Pool};
-ghost use Rattle.nc_scen.specs.Accepted.{FitsBuffer, IsAccepted};
+ghost use Rattle.nc_scen.specs.Accepted.{IsAccepted};
 ghost use Rattle.nc_rules.specs.Built.{IsBuilt};
 ghost use Rattle.nc_rules.specs.Start.{first_driver};
 ghost use Rattle.nc_rules.specs.World.{first_owners, owned_by_harts, hart};

@@ -19,7 +19,6 @@ ghost use Rattle.nc_rules.specs.View.{bytes_of};
 ghost use Rattle.nc_rules.specs.Watched.{owner_of, issue_touch, op_touch, cbo_touch};
 ghost use Rattle.nc_rules.specs.World.{start, driver_of};
 ghost use Rattle.nc_world.specs.Looks.{is_ended, leaving_touch};
-ghost use Rattle.nc_touch.specs.Looks.{IsSpanIn, span_of, look_touch};
 ghost use Rattle.nc_world.specs.Shown.{answer};
 ghost use Rattle.nc_world.specs.State.{IsWorld};
 ghost use Rattle.nc_world.specs.Steps.{NextFits};

@@ -1,6 +1,6 @@
 use Rattle.std.proofs.lemmas.Result.{err_from_is_err_and}
 use Rattle.nc_scen.specs.Parts.{hart_checked}
-use Rattle.nc_scen.proofs.Loops.{check_goes_on, check_fails, check_done}
+use Rattle.nc_values.proofs.Loops.{check_goes_on, check_fails, check_done}
 use Rattle.nc_scen.proofs.harts.check_harts.Goals as goal
 
 pub returns-in_err-check_hart : goal.returns-in_err-check_hart

@@ -2,7 +2,7 @@ use Rattle.std.proofs.lemmas.Result.{err_from_is_err_and}
 use Rattle.std.proofs.lemmas.List.Elements.{All-push}
 use Rattle.nc_scen.specs.Parts.{hart_at}
 use Rattle.nc_scen.specs.Accepted.{FitsHart}
-use Rattle.nc_scen.proofs.Loops.{goes_on, fails, is_done, length_push}
+use Rattle.nc_values.proofs.Loops.{goes_on, fails, is_done, length_push}
 use Rattle.nc_scen.proofs.harts.read_harts.Goals as goal
 
 pub returns-in_err-hart-clause-gives : goal.returns-in_err-hart-clause-gives

@@ -1,8 +1,8 @@
 use Rattle.std.proofs.lemmas.Result.{err_from_is_err_and}
 use Rattle.std.proofs.lemmas.List.Elements.{All-push}
 use Rattle.nc_scen.specs.Parts.{op_at}
-use Rattle.nc_scen.specs.Accepted.{FitsOp}
-use Rattle.nc_scen.proofs.Loops.{goes_on, fails, is_done, length_push}
+use Rattle.nc_ops.specs.Fits.{FitsOp}
+use Rattle.nc_values.proofs.Loops.{goes_on, fails, is_done, length_push}
 use Rattle.nc_scen.proofs.harts.read_ops.Goals as goal
 
 pub returns-in_err-op-clause-gives : goal.returns-in_err-op-clause-gives

@@ -1,6 +1,6 @@
 use Rattle.std.proofs.Common.{◌≡◌}
 use Rattle.serde_json.specs.View.{members_view}
-use Rattle.nc_scen.specs.Json.{first_unknown}
+use Rattle.nc_scen.specs.Keys.{first_unknown}
 use Rattle.nc_scen.proofs.keys.first_unknown.Given as goal
 
 abbrev pub invariant-loop-key : goal.invariant-loop-key

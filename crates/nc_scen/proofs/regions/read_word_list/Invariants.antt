@@ -1,9 +1,9 @@
 use Rattle.std.proofs.Common.{◌≡◌, drop, length, All}
 use Rattle.serde_json.specs.View.{items_view}
-use Rattle.nc_scen.specs.Outcomes.{each}
+use Rattle.nc_values.specs.Outcomes.{each}
 use Rattle.nc_scen.specs.Parts.{word_at}
 use Rattle.nc_pte.specs.Words.{IsPteWord}
-use Rattle.nc_scen.proofs.Loops.{with_front}
+use Rattle.nc_values.proofs.Loops.{with_front}
 use Rattle.nc_scen.proofs.regions.read_word_list.Given as goal
 
 abbrev pub invariant-loop-i : goal.invariant-loop-i

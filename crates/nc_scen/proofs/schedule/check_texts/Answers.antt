@@ -1,6 +1,6 @@
 use Rattle.std.proofs.lemmas.Result.{err_from_is_err_and}
 use Rattle.nc_scen.specs.Reading.{text_at}
-use Rattle.nc_scen.proofs.Loops.{check_goes_on, check_fails, check_done}
+use Rattle.nc_values.proofs.Loops.{check_goes_on, check_fails, check_done}
 use Rattle.nc_scen.proofs.schedule.check_texts.Goals as goal
 
 pub returns-in_err-check_text : goal.returns-in_err-check_text

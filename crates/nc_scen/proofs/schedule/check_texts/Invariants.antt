@@ -1,6 +1,6 @@
 use Rattle.std.proofs.Common.{◌≡◌, drop}
 use Rattle.serde_json.specs.View.{items_view}
-use Rattle.nc_scen.specs.Outcomes.{check_each}
+use Rattle.nc_values.specs.Outcomes.{check_each}
 use Rattle.nc_scen.specs.Reading.{text_at}
 use Rattle.nc_scen.proofs.schedule.check_texts.Given as goal
 

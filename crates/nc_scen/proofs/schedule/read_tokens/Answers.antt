@@ -3,7 +3,7 @@ use Rattle.std.proofs.lemmas.Result.{err_from_is_err_and}
 use Rattle.std.proofs.lemmas.List.Elements.{All-push}
 use Rattle.nc_scen.specs.Reading.{token_at}
 use Rattle.nc_scen.specs.Events.{IsThere}
-use Rattle.nc_scen.proofs.Loops.{goes_on, fails, is_done, length_push}
+use Rattle.nc_values.proofs.Loops.{goes_on, fails, is_done, length_push}
 use Rattle.nc_scen.proofs.schedule.read_tokens.Goals as goal
 
 pub returns-in_err-event-clause-gives : goal.returns-in_err-event-clause-gives

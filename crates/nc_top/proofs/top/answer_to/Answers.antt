@@ -1,6 +1,6 @@
 use Rattle.std.proofs.Common.{◌≡◌, Result, Ok, ◌∙◌, sym, ap, subst}
 use Rattle.std.specs.Result.{result_unwrap_or}
-use Rattle.nc_scen.specs.declared.refused.Refused.{Refused}
+use Rattle.nc_values.specs.declared.refused.Refused.{Refused}
 use Rattle.nc_scen.specs.declared.scenario.Scenario.{Scenario}
 use Rattle.nc_rules.specs.Built.{IsBuilt}
 use Rattle.nc_rules.specs.Schedule.{sched}

@@ -1,8 +1,7 @@
 use Rattle.std.proofs.Common.{◌≡◌, ◌<◌, ◌≤◌, ap, length, refl, arith}
-use Rattle.nc_rules.specs.Machine.{MachineState}
+use Rattle.nc_rules.specs.Machine.{MachineState, queue_of}
 use Rattle.nc_machine.proofs.machine.Machine.fence.Goals as goal
 use Rattle.nc_plan.specs.declared.ops.HartOp.TheVariants.{Fence}
-use Rattle.nc_rules.specs.Machine.{queue_of}
 use Rattle.nc_rules.specs.Calls.{issue_next}
 use Rattle.nc_machine.proofs.Fences.{fence_queued, fence_passed}
 

@@ -1,10 +1,9 @@
 use Rattle.std.proofs.Common.{◌≡◌, ◌<◌, ap, sym, subst, length, ◌∙◌}
-use Rattle.nc_rules.specs.Machine.{MachineState}
+use Rattle.nc_rules.specs.Machine.{MachineState, queue_of}
 use Rattle.nc_machine.specs.Inside.{machine_of}
 use Rattle.nc_machine.specs.State.{MachineShown}
 use Rattle.nc_machine.proofs.machine.Machine.leave.Goals as goal
 use Rattle.nc_queue.specs.Rules.{drained}
-use Rattle.nc_rules.specs.Machine.{queue_of}
 use Rattle.nc_rules.specs.Calls.{leaving}
 use Rattle.nc_machine.proofs.Keeps.{kept_left, left_there}
 

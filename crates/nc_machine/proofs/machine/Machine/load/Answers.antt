@@ -1,9 +1,8 @@
 use Rattle.std.proofs.Common.{◌≡◌, ◌<◌, ap, length, ◌∙◌, arith}
-use Rattle.nc_rules.specs.Machine.{MachineState}
+use Rattle.nc_rules.specs.Machine.{MachineState, hart_of}
 use Rattle.nc_machine.specs.Inside.{machine_of}
 use Rattle.nc_machine.specs.State.{MachineShown}
 use Rattle.nc_machine.proofs.machine.Machine.load.Goals as goal
-use Rattle.nc_rules.specs.Machine.{hart_of}
 use Rattle.nc_rules.specs.Calls.{has_loaded}
 use Rattle.nc_rules.proofs.SoundWith.{sound_hart}
 use Rattle.nc_machine.proofs.Keeps.{kept_harts}

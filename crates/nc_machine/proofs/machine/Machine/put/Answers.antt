@@ -1,10 +1,9 @@
 use Rattle.std.proofs.Common.{◌≡◌, ◌<◌, ap, sym, subst, length}
-use Rattle.nc_rules.specs.Machine.{MachineState}
+use Rattle.nc_rules.specs.Machine.{MachineState, hart_of, with_hart}
 use Rattle.nc_machine.specs.Inside.{machine_of}
 use Rattle.nc_machine.specs.State.{MachineShown}
 use Rattle.nc_machine.proofs.machine.Machine.put.Goals as goal
 use Rattle.nc_hart.specs.Issue.{issued}
-use Rattle.nc_rules.specs.Machine.{hart_of, with_hart}
 use Rattle.nc_rules.specs.Sound.{OpIsThere, IsMachine}
 use Rattle.nc_rules.specs.Calls.{may_issue, issue_next}
 use Rattle.nc_rules.proofs.SoundIssue.{sound_issue}

@@ -1,4 +1,4 @@
-use Rattle.std.proofs.Common.{◌≡◌, ◌-◌, ◌∷◌, suc, ap, sym, ◌∙◌, arith, Some, None}
+use Rattle.std.proofs.Common.{◌≡◌, ◌-◌, ◌∷◌, suc, ap, sym, ◌∙◌, arith, Some}
 use Rattle.nc_rules.specs.Events.{enabled}
 use Rattle.nc_rules.specs.Next.{next}
 use Rattle.nc_sched.specs.declared.sched.Phase.{Phase}

@@ -1,0 +1,5 @@
+pub mod Paths
+pub mod Outcomes
+pub mod Json
+pub mod Numbers
+pub mod Values

@@ -1,0 +1,139 @@
+//! Why bytes are no scenario.
+
+ghost use Rattle.std.specs.Prelude.{◌≡◌, IfOk, [], string_bytes};
+ghost use Rattle.nc_values.specs.Paths.{under, at_position, told};
+ghost use Rattle.nc_values.specs.declared.refused.ScenFault.TheVariants.{NoMemory};
+
+use std::alloc::{AllocError, AllocFailed, Global};
+use std::marker::Model;
+
+/// Where in a scenario: keys and positions, joined by points, or one point for the whole. Contracts see its bytes.
+#[derive(Debug, Drop)]
+pub struct Path {
+    text: String,
+}
+
+impl Model for Path {
+    ghost use Rattle.std.specs.Prelude.{ℕ, List, string_bytes};
+
+    ghost Value = { List ℕ };
+
+    ghost view = { λ p. string_bytes p.text };
+}
+
+impl Path {
+    /// The path of this text.
+    pub fn new(text: String) -> Path
+        ensures { result ≡ string_bytes text }
+    {
+        Path { text }
+    }
+
+    /// The path of the whole, under which keys stand alone.
+    pub fn root(alloc: Global) -> Path
+        ensures { result ≡ [] }
+    {
+        Path {
+            text: String::new(alloc),
+        }
+    }
+
+    /// The path of a key.
+    pub fn of(alloc: Global, key: &str) -> Result<Path, AllocError>
+        ensures { IfOk result (λ p. p ≡ key.now) }
+    {
+        Ok(Path {
+            text: String::from_str(alloc, key)?,
+        })
+    }
+
+    /// The path of a key under this one.
+    pub fn under(&self, alloc: Global, key: &str) -> Result<Path, AllocError>
+        ensures { IfOk result (λ p. p ≡ under self.now key.now) }
+    {
+        let text = self.text.as_str();
+        if text.is_empty() {
+            return Path::of(alloc, key);
+        }
+        Ok(Path {
+            text: format!(in alloc; "{text}.{key}")?,
+        })
+    }
+
+    /// The path of a position, from 0, under this one.
+    pub fn position(&self, alloc: Global, i: usize) -> Result<Path, AllocError>
+        ensures { IfOk result (λ p. p ≡ at_position self.now i) }
+    {
+        let text = self.text.as_str();
+        if text.is_empty() {
+            return Ok(Path {
+                text: format!(in alloc; "{i}")?,
+            });
+        }
+        Ok(Path {
+            text: format!(in alloc; "{text}.{i}")?,
+        })
+    }
+
+    /// This path as it is told: one point for the whole.
+    pub fn told(&self, alloc: Global) -> Result<Path, AllocError>
+        ensures { IfOk result (λ p. p ≡ told self.now) }
+    {
+        let text = self.text.as_str();
+        if text.is_empty() {
+            return Path::of(alloc, ".");
+        }
+        Path::of(alloc, text)
+    }
+
+    /// The text.
+    pub fn as_str(&self) -> &str
+        ensures { result.now ≡ self.now }
+    {
+        self.text.as_str()
+    }
+}
+
+/// The first thing that is wrong with the bytes.
+#[derive(Debug, Drop)]
+pub enum Refused {
+    /// More than 8,388,608 bytes.
+    TooLong,
+    /// The bytes have no reading as JSON of at most 127 levels.
+    NotJson,
+    /// What stands at the path, or is missing or unknown there, has the wrong shape.
+    Shape(Path),
+    /// Another version of the format than 1 and 2.
+    Version(u64),
+    /// The number or the length at the path is out of its limits.
+    Limit(Path, u64),
+    /// The two regions share a byte: buffers by their numbers, then the slots, then the pool.
+    Overlap(u32, u32),
+    /// The token of this number, from 0, is none, or names what is not there.
+    Token(u32),
+}
+
+/// Why there is no scenario.
+#[derive(Debug, Drop)]
+pub enum ScenFault {
+    /// The bytes are refused.
+    Refused(Refused),
+    /// Memory ran out.
+    NoMemory,
+}
+
+impl From<AllocError> for ScenFault {
+    ghost from_gives = { λ _ e. e ≡ NoMemory };
+
+    fn from(_e: AllocError) -> ScenFault {
+        ScenFault::NoMemory
+    }
+}
+
+impl<T: Drop> From<AllocFailed<T>> for ScenFault {
+    ghost from_gives = { λ _ e. e ≡ NoMemory };
+
+    fn from(_e: AllocFailed<T>) -> ScenFault {
+        ScenFault::NoMemory
+    }
+}
