@@ -2,8 +2,8 @@
 //!
 //! The contract for the crates above: each reader answers what its definition gives (`specs/Values.antt`), the value or
 //! what is wrong with it, a shape or a limit with its number; a reader that knows the path answers the refusal with the
-//! path, or that memory ran out (`specs/Outcomes.antt`). All of it is this project's own, but for the privilege modes, the
-//! environment registers and the cache-block operations (RISC-V CMO 1.0) and the words of the page table (Svpbmt).
+//! path, or that memory ran out (`specs/Outcomes.antt`). All of it is this project's own, but for modes and environment
+//! registers (RISC-V Privileged Architecture), cache-block operations (RISC-V CMO 1.0) and the page table (Svpbmt).
 #![tactic(auto)]
 
 mod fields;
