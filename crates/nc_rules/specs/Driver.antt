@@ -1,50 +1,39 @@
 -- A driver: where it stands in its script, what it does next, and what each of its calls changes. This project's own.
-use Rattle.std.specs.Prelude.{ℕ, ◌+◌, Bool, true, false, if◌then◌else◌, List, [], ◌∷◌, Option, Some, None, Result, Ok, Err, slice_get, option_map}
-use Rattle.nc_num.specs.declared.names.MapId.{MapId}
-use Rattle.nc_num.specs.declared.places.Span.{Span}
-use Rattle.nc_model.specs.declared.owners.Grant.{Grant}
+use Rattle.std.specs.Prelude.{ℕ, ◌+◌, nat_lt, Bool, true, false, if◌then◌else◌, List, [], ◌∷◌, ◌++◌, Option, Some, None, Result, Ok, Err, slice_get, option_map}
+use Rattle.nc_num.specs.declared.names.Label.{Label}
 use Rattle.nc_model.specs.declared.owners.Owner.{Owner}
+use Rattle.nc_coherent.specs.Pages.{PageMap}
 use Rattle.nc_ops.specs.declared.ops.Op.{Op}
 use Rattle.nc_rules.specs.declared.answers.Answer.{Answer}
-use Rattle.nc_rules.specs.declared.answers.Answer.TheVariants as answers
 use Rattle.nc_rules.specs.declared.answers.Refusal.{Refusal}
 use Rattle.nc_rules.specs.declared.answers.Refusal.TheVariants as refusals
+use Rattle.nc_rules.specs.declared.lots.Lot.{Lot}
 use Rattle.nc_rules.specs.declared.steps.Act.{Act}
 use Rattle.nc_rules.specs.declared.steps.Act.TheVariants as acts
 use Rattle.nc_rules.specs.declared.steps.Next.{Next}
 use Rattle.nc_rules.specs.declared.steps.Next.TheVariants as nexts
-use Rattle.nc_rules.specs.declared.steps.PageMove.{PageMove}
-use Rattle.nc_rules.specs.declared.steps.PageMove.TheVariants as pages
 use Rattle.nc_rules.specs.declared.steps.Phase.{Phase}
-use Rattle.nc_rules.specs.declared.steps.Phase.TheVariants.{Steps, Work}
+use Rattle.nc_rules.specs.declared.steps.Phase.TheVariants.{Steps, Search, Work}
 use Rattle.nc_rules.specs.declared.steps.Seen.{Seen}
 use Rattle.nc_rules.specs.declared.steps.Seen.TheVariants as seen
 use Rattle.nc_rules.specs.declared.steps.Step.{Step}
-use Rattle.nc_rules.specs.declared.steps.Turn.{Turn}
 use Rattle.nc_rules.specs.declared.steps.Turn.TheVariants as turns
-use Rattle.nc_rules.specs.Operations.{Fixed, step_at, has_start, start_checks, opening, plan_of, turned, good_answer}
+use Rattle.nc_rules.specs.Lots.{Fixed, lot_id, some_lot_waits, slot_given}
+use Rattle.nc_rules.specs.Turns.{Moved, moved, lots_after, lots_after_both, turned, given_up, without_wanted}
+use Rattle.nc_rules.specs.Operations.{step_at, has_start, begin, opening, plan_of, good_answer, bad_answer, waited_label}
 
 pub record DriverState : Type 0 where
   pub fixed : Fixed
   -- the number of the operation in hand
   pub op : ℕ
-  -- how many of its steps are done, or that it has a plan
+  -- how many of its steps are done, which slot word it tries, or that it has a plan
   pub phase : Phase
   -- the rest of its plan
   pub rest : List Step
-
--- what a call of a driver changes beside the driver: owners and grants, mappings that end, slots given back, pages,
--- and the answer of the operation where it ends with one
-pub record Moved : Type 0 where
-  pub transfers : List (Span × Owner)
-  pub grants : List Grant
-  pub ended : List MapId
-  pub backs : List ℕ
-  pub pages : PageMove
-  pub answer : Option Answer
-
-abbrev pub moved : List (Span × Owner) → Option Answer → Moved
-moved transfers answer = record { transfers = transfers; grants = []; ended = []; backs = []; pages = pages.Stay; answer = answer }
+  -- all lots of the hart, in order of making, those that the operation in hand makes too
+  pub lots : List Lot
+  -- what the steps of the operation in hand saw last, but for Nothing
+  pub saw : Seen
 
 -- the operation in hand, where the script is not at its end
 abbrev pub in_hand : DriverState → Option Op
@@ -73,7 +62,8 @@ next_rest [] = nexts.Start
 next_rest (s ∷ rest) = next_act s.act
 
 abbrev pub next_in : DriverState → Op → Phase → Next
-next_in d o (Steps n) = if has_start o then nexts.Start else next_step (step_at d.fixed o n)
+next_in d o (Steps n) = if has_start o then nexts.Start else next_step (step_at d.fixed d.lots o n)
+next_in d o (Search k) = nexts.Search k
 next_in d o Work = next_rest d.rest
 
 abbrev pub next_of_op : DriverState → Option Op → Next
@@ -83,7 +73,7 @@ next_of_op d (Some o) = next_in d o d.phase
 unfoldable pub next_of : DriverState → Next
 next_of d = next_of_op d (in_hand d)
 
--- the slot word that the driver tries next; no operation that is built searches for a slot
+-- the slot word that the driver tries next
 abbrev pub searched : Next → Option ℕ
 searched (nexts.Search k) = Some k
 searched nexts.End = None
@@ -99,66 +89,126 @@ searching d = searched (next_of d)
 -- whether the operation in hand is made of the script's own accesses, and not of a plan's
 abbrev pub is_script : Phase → Bool
 is_script (Steps n) = true
+is_script (Search k) = false
 is_script Work = false
 
--- ---- the end of an operation, and its going on
+-- with light fences, the label whose token has to be out of the hart's queue before the next step
+abbrev pub waited_in : Option Op → Phase → Option Label
+waited_in None p = None
+waited_in (Some o) (Steps n) = waited_label o
+waited_in (Some o) (Search k) = None
+waited_in (Some o) Work = None
 
-abbrev pub over : DriverState → DriverState
-over d = record d { op = d.op + 1; phase = Steps 0; rest = [] }
+unfoldable pub waits_for : DriverState → Option Label
+waits_for d = if d.fixed.light then waited_in (in_hand d) d.phase else None
 
-abbrev pub counted : DriverState → ℕ → DriverState
-counted d n = record d { phase = Steps n; rest = [] }
+-- ---- what a call of a driver gives: the driver after it, and what it changes beside it
 
--- with this rest of a plan: over where nothing is left
-abbrev pub went : DriverState → List Step → DriverState
-went d [] = over d
-went d (s ∷ rest) = record d { phase = Work; rest = s ∷ rest }
+pub record Went : Type 0 where
+  pub driver : DriverState
+  pub moves : Moved
 
-abbrev pub answered : Op → Seen → List Step → Option Answer
-answered o saw [] = good_answer o saw
-answered o saw (s ∷ rest) = None
+abbrev pub stays : DriverState → Went
+stays d = record { driver = d; moves = moved [] None }
 
-abbrev pub refused : Refusal → Moved
-refused r = moved [] (Some (answers.Refused r))
+-- the operation in hand is over, and the hart has these lots
+abbrev pub over : DriverState → List Lot → DriverState
+over d lots = record { fixed = d.fixed; op = d.op + 1; phase = Steps 0; rest = []; lots = lots; saw = seen.Nothing }
 
--- ---- start: a refusal, or a start step
+-- the operation in hand stands so
+abbrev pub stands : DriverState → Phase → List Step → List Lot → Seen → DriverState
+stands d phase rest lots saw = record { fixed = d.fixed; op = d.op; phase = phase; rest = rest; lots = lots; saw = saw }
 
-abbrev pub tested_step : Result (Option Step) Refusal → Result (Unit {0}) Refusal
-tested_step (Err r) = Err r
-tested_step (Ok s) = Ok tt
+-- what was seen last, but for Nothing
+abbrev pub kept : Seen → Seen → Seen
+kept old seen.Nothing = old
+kept old (seen.Control control) = seen.Control control
+kept old seen.Claimed = seen.Claimed
+kept old (seen.Busy g) = seen.Busy g
+kept old (seen.Value value) = seen.Value value
+
+-- it gives up, before anything is lent: the lots that it made are gone, and their slots are given back
+abbrev pub give_up : DriverState → Op → Refusal → Went
+give_up d o r = record { driver = over d (without_wanted d.lots); moves = given_up d.lots (bad_answer d.fixed d.lots o r) }
+
+-- on with this rest of a plan; over where nothing is left
+abbrev pub went_to : DriverState → List Lot → Seen → List Step → DriverState
+went_to d lots saw [] = over d lots
+went_to d lots saw (s ∷ rest) = stands d Work (s ∷ rest) lots saw
+
+abbrev pub answered : DriverState → Op → Seen → List Step → Option Answer
+answered d o saw [] = good_answer d.fixed d.lots o saw
+answered d o saw (s ∷ rest) = None
+
+-- ---- start: the start step of an operation that has one, or the refusal of a step
+
+-- no entry waits for a slot: the opening turn, and the plan
+abbrev pub opened : DriverState → Op → Went
+opened d o = record {
+  driver = went_to d (lots_after (opening d.fixed d.lots o) d.lots) d.saw (plan_of d.fixed d.lots o);
+  moves = turned d.fixed d.lots (opening d.fixed d.lots o) turns.Stay (answered d o d.saw (plan_of d.fixed d.lots o));
+}
+
+abbrev pub searches : DriverState → ℕ → DriverState
+searches d k = stands d (Search k) [] d.lots d.saw
+
+-- a search from the first slot word on, where an entry waits for a slot
+abbrev pub placed : DriverState → Op → Went
+placed d o = if some_lot_waits d.lots then stays (searches d 0) else opened d o
+
+abbrev pub with_lots : DriverState → List Lot → DriverState
+with_lots d lots = record d { lots = lots }
+
+abbrev pub begun : DriverState → Op → Result (List Lot) Refusal → Went
+begun d o (Err r) = give_up d o r
+begun d o (Ok new) = placed (with_lots d (d.lots ++ new)) o
+
+-- a step of an operation without a start step is refused; it is no start otherwise
+abbrev pub refused_step : DriverState → Op → Result (Option Step) Refusal → Went
+refused_step d o (Err r) = give_up d o r
+refused_step d o (Ok s) = stays d
 
 abbrev pub steps_done : Phase → ℕ
 steps_done (Steps n) = n
+steps_done (Search k) = 0
 steps_done Work = 0
 
-abbrev pub tested : DriverState → List Owner → Op → Result (Unit {0}) Refusal
-tested d owners o = if has_start o then start_checks d.fixed owners o else tested_step (step_at d.fixed o (steps_done d.phase))
+abbrev pub started_op : DriverState → List Owner → PageMap → Op → Went
+started_op d owners pages o =
+    if has_start o then begun d o (begin d.fixed d.lots owners pages o) else refused_step d o (step_at d.fixed d.lots o (steps_done d.phase))
 
-abbrev pub opened : DriverState → Op → Result (Unit {0}) Refusal → DriverState
-opened d o (Err r) = over d
-opened d o (Ok _) = went d (plan_of d.fixed o)
+abbrev pub started_of : DriverState → List Owner → PageMap → Option Op → Went
+started_of d owners pages None = stays d
+started_of d owners pages (Some o) = started_op d owners pages o
 
-abbrev pub opened_moves : DriverState → Op → Result (Unit {0}) Refusal → Moved
-opened_moves d o (Err r) = refused r
-opened_moves d o (Ok _) = moved (turned d.fixed.me (opening d.fixed o)) (answered o seen.Nothing (plan_of d.fixed o))
+unfoldable pub started : DriverState → List Owner → PageMap → Went
+started d owners pages = started_of d owners pages (in_hand d)
 
-abbrev pub started_of : DriverState → List Owner → Option Op → DriverState
-started_of d owners None = d
-started_of d owners (Some o) = opened d o (tested d owners o)
+-- ---- told: whether the slot word is got
 
-unfoldable pub started : DriverState → List Owner → DriverState
-started d owners = started_of d owners (in_hand d)
+-- on to the next slot word; where there is none, no slot was found
+abbrev pub missed : DriverState → Op → ℕ → Went
+missed d o k = if nat_lt (k + 1) d.fixed.slots then stays (searches d (k + 1)) else give_up d o refusals.NoSlot
 
-abbrev pub start_moves_of : DriverState → List Owner → Option Op → Moved
-start_moves_of d owners None = moved [] None
-start_moves_of d owners (Some o) = opened_moves d o (tested d owners o)
+abbrev pub told_word : DriverState → Op → ℕ → Bool → Went
+told_word d o k true = placed (with_lots d (slot_given k d.lots)) o
+told_word d o k false = missed d o k
 
-unfoldable pub start_moves : DriverState → List Owner → Moved
-start_moves d owners = start_moves_of d owners (in_hand d)
+abbrev pub told_in : DriverState → Op → Phase → Bool → Went
+told_in d o (Search k) got = told_word d o k got
+told_in d o (Steps n) got = stays d
+told_in d o Work got = stays d
 
--- ---- done: a step that was not refused
+abbrev pub told_of : DriverState → Option Op → Bool → Went
+told_of d None got = stays d
+told_of d (Some o) got = told_in d o d.phase got
 
--- a claim that found the channel granted ends the operation
+unfoldable pub told : DriverState → Bool → Went
+told d got = told_of d (in_hand d) got
+
+-- ---- done: a step that was not refused, and what it saw
+
+-- a claim that found the channel granted
 abbrev pub busy : Seen → Option Refusal
 busy (seen.Busy g) = Some (refusals.ChannelBusy g)
 busy seen.Nothing = None
@@ -166,65 +216,53 @@ busy (seen.Control control) = None
 busy seen.Claimed = None
 busy (seen.Value value) = None
 
--- on to step n, where there is one
-abbrev pub stepped : DriverState → ℕ → Result (Option Step) Refusal → DriverState
-stepped d n (Err r) = counted d n
-stepped d n (Ok (Some s)) = counted d n
-stepped d n (Ok None) = over d
+-- what step n of an operation without a start step leaves: step n + 1, be it refused, or the end
+abbrev pub stepped_to : DriverState → ℕ → List Lot → Seen → Result (Option Step) Refusal → DriverState
+stepped_to d n lots saw (Err r) = stands d (Steps n) [] lots saw
+stepped_to d n lots saw (Ok (Some s)) = stands d (Steps n) [] lots saw
+stepped_to d n lots saw (Ok None) = over d lots
 
-abbrev pub step_answer : Op → Seen → Result (Option Step) Refusal → Option Answer
-step_answer o saw (Err r) = None
-step_answer o saw (Ok (Some s)) = None
-step_answer o saw (Ok None) = good_answer o saw
+abbrev pub step_answer : DriverState → Op → Seen → Result (Option Step) Refusal → Option Answer
+step_answer d o saw (Err r) = None
+step_answer d o saw (Ok (Some s)) = None
+step_answer d o saw (Ok None) = good_answer d.fixed d.lots o saw
 
--- what a step turns
-abbrev pub turn_of : Result (Option Step) Refusal → Turn
-turn_of (Ok (Some s)) = s.turn
-turn_of (Ok None) = turns.Stay
-turn_of (Err r) = turns.Stay
+-- step s is made; it leaves this next one
+abbrev pub stepped : DriverState → Op → ℕ → Seen → Result (Option Step) Refusal → Result (Option Step) Refusal → Went
+stepped d o n saw (Ok (Some s)) next = record {
+  driver = stepped_to d n (lots_after_both s.first s.last d.lots) saw next;
+  moves = turned d.fixed d.lots s.first s.last (step_answer d o saw next);
+}
+stepped d o n saw (Ok None) next = stays d
+stepped d o n saw (Err r) next = stays d
 
-abbrev pub done_rest : DriverState → List Step → DriverState
-done_rest d [] = d
-done_rest d (s ∷ rest) = went d rest
+abbrev pub worked : DriverState → Op → Seen → List Step → Went
+worked d o saw [] = stays d
+worked d o saw (s ∷ rest) = record {
+  driver = went_to d (lots_after_both s.first s.last d.lots) saw rest;
+  moves = turned d.fixed d.lots s.first s.last (answered d o saw rest);
+}
 
-abbrev pub rest_moves : DriverState → Op → Seen → List Step → Moved
-rest_moves d o saw [] = moved [] None
-rest_moves d o saw (s ∷ rest) = moved (turned d.fixed.me s.turn) (answered o saw rest)
+abbrev pub done_in : DriverState → Op → Seen → Phase → Went
+done_in d o saw (Steps n) = stepped d o (n + 1) saw (step_at d.fixed d.lots o n) (step_at d.fixed d.lots o (n + 1))
+done_in d o saw (Search k) = stays d
+done_in d o saw Work = worked d o saw d.rest
 
-abbrev pub done_in : DriverState → Op → Phase → DriverState
-done_in d o (Steps n) = stepped d (n + 1) (step_at d.fixed o (n + 1))
-done_in d o Work = done_rest d d.rest
+abbrev pub done_unless : DriverState → Op → Seen → Option Refusal → Went
+done_unless d o saw (Some r) = give_up d o r
+done_unless d o saw None = done_in d o (kept d.saw saw) d.phase
 
-abbrev pub done_moves_in : DriverState → Op → Seen → Phase → Moved
-done_moves_in d o saw (Steps n) = moved (turned d.fixed.me (turn_of (step_at d.fixed o n))) (step_answer o saw (step_at d.fixed o (n + 1)))
-done_moves_in d o saw Work = rest_moves d o saw d.rest
+abbrev pub done_of : DriverState → Seen → Option Op → Went
+done_of d saw None = stays d
+done_of d saw (Some o) = done_unless d o saw (busy saw)
 
-abbrev pub done_unless : DriverState → Op → Option Refusal → DriverState
-done_unless d o (Some r) = over d
-done_unless d o None = done_in d o d.phase
-
-abbrev pub done_moves_unless : DriverState → Op → Seen → Option Refusal → Moved
-done_moves_unless d o saw (Some r) = refused r
-done_moves_unless d o saw None = done_moves_in d o saw d.phase
-
-abbrev pub done_of : DriverState → Seen → Option Op → DriverState
-done_of d saw None = d
-done_of d saw (Some o) = done_unless d o (busy saw)
-
-unfoldable pub done : DriverState → Seen → DriverState
+unfoldable pub done : DriverState → Seen → Went
 done d saw = done_of d saw (in_hand d)
 
-abbrev pub done_moves_of : DriverState → Seen → Option Op → Moved
-done_moves_of d saw None = moved [] None
-done_moves_of d saw (Some o) = done_moves_unless d o saw (busy saw)
+-- ---- lent: a token of a lot is out of the queue, with which the lot is the device's
 
-unfoldable pub done_moves : DriverState → Seen → Moved
-done_moves d saw = done_moves_of d saw (in_hand d)
-
--- ---- told: an answer of a slot search; no operation that is built searches
-
-unfoldable pub told : DriverState → Bool → DriverState
-told d got = d
-
-unfoldable pub told_moves : DriverState → Bool → Moved
-told_moves d got = moved [] None
+unfoldable pub lent : DriverState → Label → ℕ → Went
+lent d label first = record {
+  driver = with_lots d (lots_after (turns.Give (lot_id label first)) d.lots);
+  moves = turned d.fixed d.lots (turns.Give (lot_id label first)) turns.Stay None;
+}

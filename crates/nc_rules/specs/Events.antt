@@ -1,6 +1,7 @@
 -- Which events may happen. This project's own.
-use Rattle.std.specs.Prelude.{ℕ, ◌&&◌, ◌||◌, not, Bool, true, false, is_some}
+use Rattle.std.specs.Prelude.{ℕ, ◌&&◌, ◌||◌, not, Bool, true, false, Option, Some, None, is_some}
 use Rattle.nc_num.specs.declared.names.HartNo.{HartNo}
+use Rattle.nc_num.specs.declared.names.Label.{Label}
 use Rattle.nc_cache.specs.Cache.{line_at, held_by}
 use Rattle.nc_pdma_regs.specs.Control.{bit}
 use Rattle.nc_pdma.specs.declared.channel.ChanStep.{ChanStep}
@@ -9,8 +10,9 @@ use Rattle.nc_scen.specs.declared.events.Event.{Event}
 use Rattle.nc_scen.specs.declared.events.Event.TheVariants as events
 use Rattle.nc_rules.specs.declared.steps.Next.{Next}
 use Rattle.nc_rules.specs.declared.steps.Next.TheVariants as nexts
-use Rattle.nc_rules.specs.Calls.{may_issue, io_waits, may_take, control_of, leaving, may_fill, chan_read_told, chan_write_told}
-use Rattle.nc_rules.specs.Driver.{next_of, searching}
+use Rattle.nc_rules.specs.Calls.{may_issue, io_waits, may_take, control_of, lends, leaving, may_fill, chan_read_told, chan_write_told}
+use Rattle.nc_rules.specs.Machine.{MachineState}
+use Rattle.nc_rules.specs.Driver.{next_of, searching, waits_for}
 use Rattle.nc_rules.specs.World.{WorldState, driver_of}
 
 -- bit 30 or bit 31 of Control is set: done or error
@@ -33,9 +35,17 @@ is_idle_step Idle = true
 is_idle_step (Moved span bytes done) = false
 is_idle_step (Error bus len) = false
 
+-- with light fences a driver waits until the token of a label that its next operation names is out of its queue
+abbrev pub is_out : MachineState → HartNo → Option Label → Bool
+is_out m h None = true
+is_out m h (Some label) = not (lends m h.0 label.0)
+
+abbrev pub may_issue_step : WorldState → HartNo → Bool
+may_issue_step w h = is_out w.machine h (waits_for (driver_of w h.0)) && may_go_on w h (next_of (driver_of w h.0))
+
 -- an event that may happen: any other changes nothing, and is skipped
 unfoldable pub enabled : WorldState → Event → Bool
-enabled w (events.Issue h) = may_go_on w h (next_of (driver_of w h.0))
+enabled w (events.Issue h) = may_issue_step w h
 enabled w (events.Try h) = is_some (searching (driver_of w h.0))
 enabled w (events.Told h got) = is_some (searching (driver_of w h.0))
 enabled w (events.Drain h i) = is_some (leaving w.machine h.0 i)

@@ -22,8 +22,7 @@ use Rattle.nc_rules.specs.Start.{memory}
 use Rattle.nc_rules.specs.World.{WorldState, start}
 use Rattle.nc_rules.specs.Watched.{owner_of}
 use Rattle.nc_rules.specs.Built.{IsBuilt}
-use Rattle.nc_rules.specs.Next.{next}
-use Rattle.nc_rules.specs.Told.{told}
+use Rattle.nc_rules.specs.Next.{next, event_records}
 use Rattle.nc_rules.specs.Run.{after}
 
 -- a zero writes zeros over its block of s bytes; the other cache operations are no accesses
@@ -50,7 +49,7 @@ all_marks s grants (r ∷ rs) = marks_of s grants r ++ all_marks s grants rs
 
 -- what an event does and touches
 unfoldable pub event_marks : WorldState → Event → List Mark
-event_marks w e = all_marks w.machine.size w.grants (told w e)
+event_marks w e = all_marks w.machine.size w.grants (event_records w e)
 
 -- and a run
 unfoldable pub run_marks : WorldState → List Event → List Mark

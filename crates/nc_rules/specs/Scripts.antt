@@ -1,11 +1,12 @@
 -- What holds of every driver of an accepted scenario that is run: its script is built, the rest of its plan is there,
 -- and what it does next is there in every machine of the scenario's size. This project's own.
-use Rattle.std.specs.Prelude.{ℕ, ◌≡◌, ◌+◌, ◌%◌, ◌<◌, ◌≤◌, Bool, true, false, List, length, All, EachIndex, slice_index}
+use Rattle.std.specs.Prelude.{ℕ, ◌≡◌, ◌+◌, ◌%◌, ◌<◌, ◌≤◌, Bool, true, false, List, [], length, None, All, EachIndex, slice_index}
 use Rattle.nc_num.specs.Sizes.{IsBlockSize}
 use Rattle.nc_num.specs.declared.names.HartNo.{HartNo}
 use Rattle.nc_num.specs.declared.places.Span.{Span}
 use Rattle.nc_pte.specs.Words.{IsPteWord}
 use Rattle.nc_model.specs.declared.owners.Owner.{Owner}
+use Rattle.nc_coherent.specs.Pages.{PageMap}
 use Rattle.nc_ops.specs.Fits.{FitsOp}
 use Rattle.nc_scen.specs.Accepted.{IsAccepted}
 use Rattle.nc_ops.specs.declared.ops.Op.{Op}
@@ -15,15 +16,16 @@ use Rattle.nc_rules.specs.declared.steps.Act.TheVariants as acts
 use Rattle.nc_rules.specs.declared.steps.Next.{Next}
 use Rattle.nc_rules.specs.declared.steps.Next.TheVariants as nexts
 use Rattle.nc_rules.specs.declared.steps.Phase.{Phase}
-use Rattle.nc_rules.specs.declared.steps.Phase.TheVariants.{Steps, Work}
+use Rattle.nc_rules.specs.declared.steps.Phase.TheVariants.{Steps, Search, Work}
 use Rattle.nc_rules.specs.declared.steps.Seen.{Seen}
 use Rattle.nc_rules.specs.declared.steps.Step.{Step}
 use Rattle.nc_rules.specs.declared.steps.Turn.{Turn}
 use Rattle.nc_rules.specs.declared.steps.Turn.TheVariants as turns
 use Rattle.nc_rules.specs.Built.{IsBuilt, is_built_op}
 use Rattle.nc_rules.specs.Machine.{MachineState}
-use Rattle.nc_rules.specs.Operations.{Fixed}
-use Rattle.nc_rules.specs.Driver.{DriverState, Moved, next_of, started, start_moves, done, done_moves}
+use Rattle.nc_rules.specs.Lots.{Fixed}
+use Rattle.nc_rules.specs.Turns.{Moved, moved}
+use Rattle.nc_rules.specs.Driver.{DriverState, Went, next_of, searching, started, done}
 use Rattle.nc_rules.specs.Sound.{OpIsThere}
 use Rattle.nc_rules.specs.Start.{first_driver}
 
@@ -66,18 +68,28 @@ ActIsThere ram harts f (acts.Claim chan) = chan.0 < 4
 ActIsThere ram harts f (acts.Poll chan) = chan.0 < 4
 ActIsThere ram harts f (acts.Take buf) = buf < length f.buffers
 
+-- a range of RAM; no operation that is built has a lot
 abbrev pub TurnIsThere : ℕ → Turn → Type 0
 TurnIsThere ram turns.Stay = Unit {0}
 TurnIsThere ram (turns.Pass range to) = IsRangeIn ram range
 TurnIsThere ram (turns.Own range) = IsRangeIn ram range
+TurnIsThere ram (turns.Lend id) = ⊥
+TurnIsThere ram (turns.Give id) = ⊥
+TurnIsThere ram (turns.Return id) = ⊥
+TurnIsThere ram (turns.Sync id) = ⊥
+TurnIsThere ram (turns.Settle id) = ⊥
+TurnIsThere ram (turns.End id) = ⊥
 
 pub record StepIsThere (ram harts : ℕ) (f : Fixed) (s : Step) : Type 0 where
   pub act : ActIsThere ram harts f s.act
-  pub turn : TurnIsThere ram s.turn
+  pub first : TurnIsThere ram s.first
+  pub last : TurnIsThere ram s.last
 
--- an operation has at most 4,096 steps, and a plan that is at work has a rest
+-- an operation has at most 4,096 steps, no operation that is built searches for a slot, and a plan that is at work has
+-- a rest
 abbrev pub IsPhase : Phase → List Step → Type 0
 IsPhase (Steps n) rest = n ≤ 4096
+IsPhase (Search k) rest = ⊥
 IsPhase Work rest = 0 < length rest
 
 pub record IsDriver (ram harts : ℕ) (d : DriverState) : Type 0 where
@@ -85,6 +97,7 @@ pub record IsDriver (ram harts : ℕ) (d : DriverState) : Type 0 where
   pub op : d.op ≤ length d.fixed.script
   pub phase : IsPhase d.phase d.rest
   pub rest : All (StepIsThere ram harts d.fixed) d.rest
+  pub lots : d.lots ≡ []
 
 -- ---- the laws
 
@@ -108,20 +121,26 @@ is_act (nexts.Claim chan) = true
 is_act (nexts.Poll chan) = true
 is_act (nexts.Take buf) = true
 
--- the changes of owners are of ranges of RAM, and are few enough to make room for before them
+-- the changes of owners are of ranges of RAM, and are few enough to make room for before them; no operation that is
+-- built moves a grant, a slot or a page
 pub record AreThere (ram : ℕ) (moves : Moved) : Type 0 where
   pub inside : All (λ t. IsRangeIn ram t.0) moves.transfers
   pub few : length moves.transfers ≤ 34
+  pub plain : moves ≡ moved moves.transfers moves.answer
+
+-- a call of a driver that keeps it one
+pub record Keeps (ram harts : ℕ) (d : DriverState) (went : Went) : Type 0 where
+  pub driver : IsDriver ram harts went.driver
+  pub moves : AreThere ram went.moves
+  pub fixed : went.driver.fixed ≡ d.fixed
 
 -- what a driver keeps, and what it does and changes is there
 pub record StaysDriver (ram harts : ℕ) (d : DriverState) : Type 0 where
   pub next_there : NextIsThere ram harts d.fixed (next_of d)
-  pub start_stays : (owners : List Owner) → IsDriver ram harts (started d owners)
-  pub start_there : (owners : List Owner) → AreThere ram (start_moves d owners)
-  pub done_stays : (saw : Seen) → is_act (next_of d) ≡ true → IsDriver ram harts (done d saw)
-  pub done_there : (saw : Seen) → AreThere ram (done_moves d saw)
-  pub start_keeps : (owners : List Owner) → (started d owners).fixed ≡ d.fixed
-  pub done_keeps : (saw : Seen) → (done d saw).fixed ≡ d.fixed
+  pub start : (owners : List Owner) (pages : PageMap) → Keeps ram harts d (started d owners pages)
+  pub goes_on : (saw : Seen) → is_act (next_of d) ≡ true → Keeps ram harts d (done d saw)
+  -- no operation that is built is at a slot search
+  pub unsearched : searching d ≡ None
 
 abbrev pub EachStaysDriver : Type 0
 EachStaysDriver = (ram harts : ℕ) (d : DriverState) → IsDriver ram harts d → StaysDriver ram harts d

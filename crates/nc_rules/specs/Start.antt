@@ -10,8 +10,9 @@ use Rattle.nc_scen.specs.declared.scenario.HartSpec.{HartSpec}
 use Rattle.nc_scen.specs.declared.scenario.Scenario.{Scenario}
 use Rattle.nc_scen.specs.Regions.{pool_of}
 use Rattle.nc_rules.specs.declared.steps.Phase.TheVariants.{Steps}
+use Rattle.nc_rules.specs.declared.steps.Seen.TheVariants.{Nothing}
 use Rattle.nc_rules.specs.Machine.{MachineState, fresh}
-use Rattle.nc_rules.specs.Operations.{Fixed}
+use Rattle.nc_rules.specs.Lots.{Fixed}
 use Rattle.nc_rules.specs.Driver.{DriverState}
 
 -- the first bytes of a buffer
@@ -49,8 +50,13 @@ fixed_of sc me h = record {
   buffers = map (λ b. b.span) sc.buffers;
   size = sc.block_size;
   zero_size = sc.zero_size;
+  reach = sc.reach;
+  slots_at = sc.slots_at;
+  slots = sc.slots;
+  pool = pool_of sc;
+  light = sc.light;
   script = h.script;
 }
 
 unfoldable pub first_driver : Scenario → HartNo → DriverState
-first_driver sc me = record { fixed = fixed_of sc me (hart_spec sc me.0); op = 0; phase = Steps 0; rest = [] }
+first_driver sc me = record { fixed = fixed_of sc me (hart_spec sc me.0); op = 0; phase = Steps 0; rest = []; lots = []; saw = Nothing }

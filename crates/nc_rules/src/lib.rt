@@ -9,6 +9,7 @@
 
 mod answers;
 mod laws;
+mod lots;
 mod records;
 mod script_laws;
 mod steps;
@@ -18,6 +19,7 @@ pub use laws::{
     calls_keep_shape, channels_by_place, drains_by_place, issues_by_place, loads_show_what_is_seen,
     machine_stays_sound, moves_by_place, queues_keep_order, start_is_empty, views_stay,
 };
+pub use lots::{Kind, Lot, LotId, Side};
 pub use records::{Record, ToldAnswer};
 pub use script_laws::{drivers_stay, first_drivers};
 pub use steps::{Act, Next, PageMove, Phase, Seen, Step, Turn};

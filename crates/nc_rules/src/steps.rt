@@ -1,5 +1,6 @@
 //! The steps of a driver: what it does next, what it saw, and what a step leaves to do.
 
+use crate::lots::LotId;
 use nc_num::{ChanNo, HartNo, Span};
 use nc_plan::HartOp;
 
@@ -61,7 +62,8 @@ pub enum Act {
     Take(u8),
 }
 
-/// What a step does to owners.
+/// What a step does to owners: to a range by itself, or to the bytes of a lot, with the grants, slots and pages that go
+/// with these.
 #[derive(Clone, Copy, Debug, PartialEq, Eq)]
 pub enum Turn {
     /// Nothing.
@@ -70,15 +72,31 @@ pub enum Turn {
     Pass(Span, HartNo),
     /// A range is the hart's own.
     Own(Span),
+    /// The lot is being lent to its channel. Where it was not lent before, its grants are added, and an area's pages
+    /// are taken.
+    Lend(LotId),
+    /// The lot is the device's.
+    Give(LotId),
+    /// The lot is being taken back.
+    Return(LotId),
+    /// The lot is synced for the hart.
+    Sync(LotId),
+    /// The lot, an area, is the hart's own.
+    Settle(LotId),
+    /// The lot is gone: its grants end, its slots and pages are given back, and its bytes are the hart's own again, or
+    /// the pool's if it was an area.
+    End(LotId),
 }
 
-/// A step of a plan, and what it does to owners.
+/// A step of a plan, and what it does to owners: two turns, one after the other.
 #[derive(Clone, Copy, Debug, PartialEq, Eq)]
 pub struct Step {
     /// What it does.
     pub act: Act,
-    /// The change of owners that comes with it.
-    pub turn: Turn,
+    /// The first change of owners that comes with it.
+    pub first: Turn,
+    /// The second, over what the first one left.
+    pub last: Turn,
 }
 
 /// Where the operation in hand stands.
@@ -86,6 +104,8 @@ pub struct Step {
 pub enum Phase {
     /// So many of its steps are done; an operation begins at 0.
     Steps(u32),
+    /// It searches for a bounce slot, and tries this word next.
+    Search(u32),
     /// It has a plan, of which a rest is left.
     Work,
 }
