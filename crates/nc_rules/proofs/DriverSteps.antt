@@ -34,9 +34,23 @@ use Rattle.nc_rules.specs.declared.answers.Refusal.{Refusal}
 use Rattle.nc_rules.specs.declared.answers.Refusal.TheVariants as refusals
 use Rattle.nc_rules.specs.declared.steps.Act.TheVariants as acts
 use Rattle.nc_rules.specs.declared.steps.Step.{Step}
-use Rattle.nc_rules.specs.declared.steps.Turn.TheVariants as turns
 use Rattle.nc_rules.specs.Machine.{MachineState}
-use Rattle.nc_rules.specs.Operations.{Fixed, ◌>>=◌, wanted, some_bytes, buffer_of, part_of, legal, bus_of, spot_at, known, step, hart_step, single, piece_step, effect_of, cbo_blocks, cbo_step, control_step, step_at}
+use Rattle.nc_rules.specs.Lots.{Fixed}
+use Rattle.nc_rules.specs.Refusals.{◌>>=◌, wanted, some_bytes, buffer_of, part_of, legal}
+use Rattle.nc_rules.specs.Plans.{step, hart_step, single, control_step}
+use Rattle.nc_rules.specs.Accesses.{spot_at, piece_step}
+use Rattle.nc_rules.specs.Accesses as accesses
+use Rattle.nc_rules.specs.CacheOps.{effect_of, cbo_blocks, cbo_step}
+use Rattle.nc_rules.specs.CacheOps as cache_ops
+use Rattle.nc_rules.specs.Channels.{bus_of, known}
+use Rattle.nc_rules.specs.Channels as channels
+use Rattle.nc_rules.specs.Handing.{take_step}
+use Rattle.nc_rules.specs.Handing as handing
+use Rattle.nc_rules.specs.Mappings as mappings
+use Rattle.nc_rules.specs.ScatterLists as lists
+use Rattle.nc_rules.specs.Areas as areas
+use Rattle.nc_rules.specs.Copies as copies
+use Rattle.nc_rules.specs.Operations.{meaning, step_at}
 use Rattle.nc_rules.specs.Scripts.{IsFixed, IsRangeIn, IsDriven, StepIsThere}
 use Rattle.nc_rules.specs.Sound.{OpIsThere, IsBlockIn}
 
@@ -70,7 +84,7 @@ is_single_ok : (ram harts : ℕ) (f : Fixed) (t : Step) (n : ℕ) (s : Step) →
 is_single_ok ram harts f t n s h e = is_single ram harts f t n s h (cc)
 
 stays : (ram harts : ℕ) (f : Fixed) (op : HartOp) → ((m : MachineState) (h : ℕ) → IsDriven ram harts f m → OpIsThere m h op) → StepIsThere ram harts f (hart_step op)
-stays ram harts f op h = record { act = h; turn = tt }
+stays ram harts f op h = record { act = h; first = tt; last = tt }
 
 -- ---- accesses
 
@@ -101,7 +115,7 @@ place_in ram harts f range off len to h e =
     subst (λ (t : At). IsPlace ram f len t) same (record { mapped = tt; ends = omega (arith, k.1, h.ends) })
 
 place_of : (ram harts : ℕ) (f : Fixed) (spot : Spot) (off len : ℕ) (to : At) → IsFixed ram harts f → FitsSpot (length f.buffers) spot
-    → spot_at f spot off len ≡ Ok to → IsPlace ram f len to
+    → spot_at f [] spot off len ≡ Ok to → IsPlace ram f len to
 place_of ram harts f (spots.Buffer buf) off len to h fits e =
     let p = passed (some_bytes len) (λ _. part_of (buffer_of f buf) off len >>= λ part. Ok (at.Ram part.at Pma)) to e in
     place_in ram harts f (buffer_of f buf) off len to (buffer_is ram harts f buf h fits) p.rest
@@ -155,18 +169,18 @@ same_step : (ram harts : ℕ) (f : Fixed) (op : HartOp) (s : Step) (n : ℕ) →
 same_step ram harts f op s n e h few = subst (λ (x : Step). IsStep ram harts f n x) e (record { there = stays ram harts f op h; few = few })
 
 load_is : (ram harts : ℕ) (f : Fixed) (spot : Spot) (off len n : ℕ) (s : Step) → IsFixed ram harts f → FitsSpot (length f.buffers) spot → len ≤ 4096
-    → (spot_at f spot off len >>= λ to. piece_step (load_step to f.pbmte f.table len n)) ≡ Ok (Some s) → IsStep ram harts f n s
+    → (spot_at f [] spot off len >>= λ to. piece_step (load_step to f.pbmte f.table len n)) ≡ Ok (Some s) → IsStep ram harts f n s
 load_is ram harts f spot off len n s h fits short e =
-    let p = passed (spot_at f spot off len) (λ to. piece_step (load_step to f.pbmte f.table len n)) (Some s) e in
+    let p = passed (spot_at f [] spot off len) (λ to. piece_step (load_step to f.pbmte f.table len n)) (Some s) e in
     let q = piece_is (load_step p.value f.pbmte f.table len n) s p.rest in
     let place = place_of ram harts f spot off len p.value h fits p.first in
     let k = loads_are_pieces ram p.value f.pbmte f.table len n q.0 place.mapped q.1 in
     same_step ram harts f q.0 s n q.2 (load_there ram harts f p.value len n q.0 k place) (few_pieces p.value len n k.piece short k.placed.numbered)
 
 store_is : (ram harts : ℕ) (f : Fixed) (spot : Spot) (off : ℕ) (bytes : List ℕ) (n : ℕ) (s : Step) → IsFixed ram harts f → FitsSpot (length f.buffers) spot → length bytes ≤ 4096
-    → (spot_at f spot off (length bytes) >>= λ to. piece_step (store_step to f.pbmte f.table bytes n)) ≡ Ok (Some s) → IsStep ram harts f n s
+    → (spot_at f [] spot off (length bytes) >>= λ to. piece_step (store_step to f.pbmte f.table bytes n)) ≡ Ok (Some s) → IsStep ram harts f n s
 store_is ram harts f spot off bytes n s h fits short e =
-    let p = passed (spot_at f spot off (length bytes)) (λ to. piece_step (store_step to f.pbmte f.table bytes n)) (Some s) e in
+    let p = passed (spot_at f [] spot off (length bytes)) (λ to. piece_step (store_step to f.pbmte f.table bytes n)) (Some s) e in
     let q = piece_is (store_step p.value f.pbmte f.table bytes n) s p.rest in
     let place = place_of ram harts f spot off (length bytes) p.value h fits p.first in
     let k = stores_are_pieces ram p.value f.pbmte f.table bytes n q.0 place.mapped q.1 in
@@ -260,10 +274,10 @@ regs_of ram harts f chan source target len cfg (suc (suc (suc zero))) s lt e =
 regs_of ram harts f chan source target len cfg (suc (suc (suc (suc n)))) s lt e = absurd (cc)
 
 regs_is : (ram harts : ℕ) (f : Fixed) (chan : ChanNo) (src dst : BusArg) (len cfg n : ℕ) (s : Step) → chan.0 < 4
-    → (bus_of src >>= λ source. bus_of dst >>= λ target. Ok (option_map hart_step (registers.regs_step chan source target len cfg n))) ≡ Ok (Some s) → IsStep ram harts f n s
+    → (bus_of f [] src >>= λ source. bus_of f [] dst >>= λ target. Ok (option_map hart_step (registers.regs_step chan source target len cfg n))) ≡ Ok (Some s) → IsStep ram harts f n s
 regs_is ram harts f chan src dst len cfg n s lt e =
-    let p = passed (bus_of src) (λ source. bus_of dst >>= λ target. Ok (option_map hart_step (registers.regs_step chan source target len cfg n))) (Some s) e in
-    let q = passed (bus_of dst) (λ target. Ok (option_map hart_step (registers.regs_step chan p.value target len cfg n))) (Some s) p.rest in
+    let p = passed (bus_of f [] src) (λ source. bus_of f [] dst >>= λ target. Ok (option_map hart_step (registers.regs_step chan source target len cfg n))) (Some s) e in
+    let q = passed (bus_of f [] dst) (λ target. Ok (option_map hart_step (registers.regs_step chan p.value target len cfg n))) (Some s) p.rest in
     regs_of ram harts f chan p.value q.value len cfg n s lt q.rest
 
 known_is : (off width : ℕ) (u : Unit {0}) → known off width ≡ Ok u → is_some (register_at off width) ≡ true
@@ -286,19 +300,19 @@ write_is ram harts f chan off width value n s lt e =
 none : {X : Type 0} (s : Step) → ◌≡◌ {A = Result (Option Step) Refusal} (Ok None) (Ok (Some s)) → X
 none s e = absurd (cc)
 
-pub step_is : (ram harts : ℕ) (f : Fixed) (o : Op) (n : ℕ) (s : Step) → IsFixed ram harts f → FitsOp harts (length f.buffers) o → step_at f o n ≡ Ok (Some s) → IsStep ram harts f n s
-unfolding step_at
+pub step_is : (ram harts : ℕ) (f : Fixed) (o : Op) (n : ℕ) (s : Step) → IsFixed ram harts f → FitsOp harts (length f.buffers) o → step_at f [] o n ≡ Ok (Some s) → IsStep ram harts f n s
+unfolding step_at meaning accesses.load accesses.store cache_ops.cache_operation cache_ops.fence handing.take handing.hand channels.claim channels.free channels.set_up channels.run channels.poll channels.read_register channels.write_register mappings.map_single mappings.unmap_single mappings.sync_for_cpu mappings.sync_for_device lists.map_sg lists.unmap_sg areas.calloc areas.give_area areas.take_area areas.free_area copies.copy
 step_is ram harts f (ops.Ld spot off len) n s h fits e = load_is ram harts f spot off len n s h fits.0 fits.2 e
 step_is ram harts f (ops.St spot off bytes) n s h fits e = store_is ram harts f spot off bytes n s h fits.0 fits.2 e
 step_is ram harts f (ops.Cbo op buf off) n s h fits e = cbo_is ram harts f op buf off n s h fits.0 e
 step_is ram harts f (ops.Fence pred succ) n s h fits e = is_single_ok ram harts f _ n s (stays ram harts f _ (λ m me d. tt)) e
 step_is ram harts f (ops.Take buf) n s h fits e =
-    is_single_ok ram harts f (record { act = acts.Take buf; turn = turns.Own (buffer_of f buf) }) n s (record { act = fits; turn = buffer_is ram harts f buf h fits }) e
-step_is ram harts f (ops.Claim chan) n s h fits e = is_single_ok ram harts f (step (acts.Claim chan)) n s (record { act = fits; turn = tt }) e
+    is_single_ok ram harts f (take_step f buf) n s (record { act = fits; first = tt; last = buffer_is ram harts f buf h fits }) e
+step_is ram harts f (ops.Claim chan) n s h fits e = is_single_ok ram harts f (step (acts.Claim chan)) n s (record { act = fits; first = tt; last = tt }) e
 step_is ram harts f (ops.Free chan) n s h fits e = is_single_ok ram harts f (control_step chan 0) n s (control_there ram harts f chan 0 fits) e
 step_is ram harts f (ops.Regs chan src dst len cfg) n s h fits e = regs_is ram harts f chan src dst len cfg n s fits.0 e
 step_is ram harts f (ops.Run chan) n s h fits e = is_single_ok ram harts f (control_step chan 3) n s (control_there ram harts f chan 3 fits) e
-step_is ram harts f (ops.Poll chan) n s h fits e = is_single_ok ram harts f (step (acts.Poll chan)) n s (record { act = fits; turn = tt }) e
+step_is ram harts f (ops.Poll chan) n s h fits e = is_single_ok ram harts f (step (acts.Poll chan)) n s (record { act = fits; first = tt; last = tt }) e
 step_is ram harts f (ops.Regr chan off width) n s h fits e = read_is ram harts f chan off width n s fits.0 e
 step_is ram harts f (ops.Regw chan off width value) n s h fits e = write_is ram harts f chan off width value n s fits.0 e
 step_is ram harts f (ops.Hand buf to) n s h fits e = none s e

@@ -1,5 +1,5 @@
 -- Loads and stores of a script (Svpbmt for the memory types, the Privileged Architecture for translation).
-use Rattle.std.specs.Prelude.{ℕ, ◌+◌, ◌*◌, nat_le, Bool, List, length, Option, Some, None, Result, Ok, Err}
+use Rattle.std.specs.Prelude.{ℕ, ◌+◌, ◌*◌, nat_le, List, length, Option, Some, None, Result, Ok, Err}
 use Rattle.nc_num.specs.declared.names.MemType.TheVariants.{Pma, Nc}
 use Rattle.nc_pte.specs.declared.translation.PageFault.{PageFault}
 use Rattle.nc_plan.specs.Accesses as accesses
@@ -8,7 +8,6 @@ use Rattle.nc_plan.specs.declared.access.At.TheVariants as at
 use Rattle.nc_plan.specs.declared.ops.HartOp.{HartOp}
 use Rattle.nc_ops.specs.declared.ops.Spot.{Spot}
 use Rattle.nc_ops.specs.declared.ops.Spot.TheVariants as spots
-use Rattle.nc_rules.specs.declared.answers.Answer.{Answer}
 use Rattle.nc_rules.specs.declared.answers.Answer.TheVariants as answers
 use Rattle.nc_rules.specs.declared.answers.Refusal.{Refusal}
 use Rattle.nc_rules.specs.declared.answers.Refusal.TheVariants as refusals

@@ -1,6 +1,6 @@
 -- Coherent areas (Linux DMA API: dma_alloc_coherent, dma_free_coherent). That an area is given to its channel and taken
 -- back, the order of the refusals and the plans are this project's own.
-use Rattle.std.specs.Prelude.{ℕ, ◌==◌, not, Bool, true, false, if◌then◌else◌, List, [], ◌∷◌, Option, Some, None, Result, Ok, Err}
+use Rattle.std.specs.Prelude.{ℕ, ◌==◌, not, if◌then◌else◌, List, [], ◌∷◌, Option, Some, None, Result, Ok}
 use Rattle.nc_num.specs.declared.names.ChanNo.{ChanNo}
 use Rattle.nc_num.specs.declared.names.Label.{Label}
 use Rattle.nc_plan.specs.Effects.{both}

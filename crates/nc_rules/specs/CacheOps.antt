@@ -1,5 +1,5 @@
 -- Cache-block operations (CMO 1.0) and fences (FENCE) of a script.
-use Rattle.std.specs.Prelude.{ℕ, ◌*◌, ◌/◌, List, [], ◌∷◌, Option, Result, Ok, slice_get, option_map}
+use Rattle.std.specs.Prelude.{ℕ, ◌*◌, ◌/◌, List, [], ◌∷◌, Result, Ok, slice_get, option_map}
 use Rattle.std.specs.List.{range_with_len}
 use Rattle.nc_num.specs.Places.{block_at}
 use Rattle.nc_env.specs.declared.CboOp.{CboOp}

@@ -1,5 +1,5 @@
 -- Copies by a channel. This project's own.
-use Rattle.std.specs.Prelude.{ℕ, List, [], ◌∷◌, ◌++◌, map, true, false, if◌then◌else◌, ◌/◌, ◌%◌, ◌^◌, ◌==◌, Option, Some, None, Result, Ok, slice_index_or}
+use Rattle.std.specs.Prelude.{ℕ, List, [], ◌∷◌, ◌++◌, map, if◌then◌else◌, ◌/◌, ◌%◌, ◌^◌, ◌==◌, Option, Some, None, Result, slice_index_or}
 use Rattle.std.specs.List.{find}
 use Rattle.nc_num.specs.declared.names.ChanNo.{ChanNo}
 use Rattle.nc_num.specs.declared.names.Dir.TheVariants.{ToDev, FromDev}
@@ -14,7 +14,6 @@ use Rattle.nc_ops.specs.declared.ops.SgEntry.{SgEntry}
 use Rattle.nc_rules.specs.declared.answers.Answer.{Answer}
 use Rattle.nc_rules.specs.declared.answers.Answer.TheVariants as answers
 use Rattle.nc_rules.specs.declared.answers.Refusal.{Refusal}
-use Rattle.nc_rules.specs.declared.answers.Refusal.TheVariants as refusals
 use Rattle.nc_rules.specs.declared.lots.Kind.TheVariants.{Copy}
 use Rattle.nc_rules.specs.declared.lots.Lot.{Lot}
 use Rattle.nc_rules.specs.declared.lots.LotId.{LotId}
@@ -23,7 +22,7 @@ use Rattle.nc_rules.specs.declared.steps.Seen.{Seen}
 use Rattle.nc_rules.specs.declared.steps.Seen.TheVariants as seen
 use Rattle.nc_rules.specs.declared.steps.Step.{Step}
 use Rattle.nc_rules.specs.declared.steps.Turn.TheVariants as turns
-use Rattle.nc_rules.specs.Lots.{Fixed, is_lot, lot_id, ranges_lot, only_entry, no_entry}
+use Rattle.nc_rules.specs.Lots.{Fixed, is_lot, lot_id, ranges_lot, only_entry}
 use Rattle.nc_rules.specs.Refusals.{◌>>=◌, all_some, ranges_of, owned_from, lendable, placeable}
 use Rattle.nc_rules.specs.Plans.{step, hart_step, beginning, ending, lend_steps, return_steps}
 use Rattle.nc_rules.specs.Meanings.{Meaning, ByPlan}

@@ -1,6 +1,6 @@
 -- What a driver knows from the start, and the lots that its hart has: their names, their ranges as the channel sees
 -- them, and the ways to find one. This project's own, but for the directions (Linux DMA API).
-use Rattle.std.specs.Prelude.{ℕ, ◌+◌, ◌*◌, ◌==◌, ◌&&◌, Bool, true, false, if◌then◌else◌, List, [], ◌∷◌, map, is_some, Option, Some, None, slice_index_or}
+use Rattle.std.specs.Prelude.{ℕ, ◌+◌, ◌==◌, ◌&&◌, Bool, true, false, if◌then◌else◌, List, [], ◌∷◌, map, is_some, Option, None, slice_index_or}
 use Rattle.std.specs.List.{find, list_any}
 use Rattle.nc_num.specs.declared.names.ChanNo.{ChanNo}
 use Rattle.nc_num.specs.declared.names.Dir.{Dir}

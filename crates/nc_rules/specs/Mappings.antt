@@ -1,6 +1,6 @@
 -- Single mappings (Linux DMA API: dma_map_single, dma_unmap_single, dma_sync_single_for_cpu and _for_device). The order
 -- of the refusals and the plans are this project's own.
-use Rattle.std.specs.Prelude.{ℕ, Bool, true, false, if◌then◌else◌, List, [], ◌∷◌, Option, Some, None, Result, Ok}
+use Rattle.std.specs.Prelude.{if◌then◌else◌, List, [], ◌∷◌, Option, Some, None, Result, Ok}
 use Rattle.nc_num.specs.declared.names.ChanNo.{ChanNo}
 use Rattle.nc_num.specs.declared.names.Dir.{Dir}
 use Rattle.nc_num.specs.declared.names.Label.{Label}
@@ -9,11 +9,8 @@ use Rattle.nc_ops.specs.declared.ops.SgEntry.{SgEntry}
 use Rattle.nc_rules.specs.declared.answers.Answer.{Answer}
 use Rattle.nc_rules.specs.declared.answers.Answer.TheVariants as answers
 use Rattle.nc_rules.specs.declared.answers.Refusal.{Refusal}
-use Rattle.nc_rules.specs.declared.answers.Refusal.TheVariants as refusals
 use Rattle.nc_rules.specs.declared.lots.Kind.TheVariants.{Single}
 use Rattle.nc_rules.specs.declared.lots.Lot.{Lot}
-use Rattle.nc_rules.specs.declared.lots.LotId.{LotId}
-use Rattle.nc_rules.specs.declared.steps.Seen.{Seen}
 use Rattle.nc_rules.specs.declared.steps.Step.{Step}
 use Rattle.nc_rules.specs.declared.steps.Turn.{Turn}
 use Rattle.nc_rules.specs.declared.steps.Turn.TheVariants as turns

@@ -3,7 +3,6 @@ use Rattle.std.specs.Prelude.{ℕ, Bool, true, false, List, [], Option, Some, No
 use Rattle.nc_model.specs.declared.owners.Owner.{Owner}
 use Rattle.nc_coherent.specs.Pages.{PageMap}
 use Rattle.nc_rules.specs.declared.answers.Answer.{Answer}
-use Rattle.nc_rules.specs.declared.answers.Answer.TheVariants as answers
 use Rattle.nc_rules.specs.declared.answers.Refusal.{Refusal}
 use Rattle.nc_rules.specs.declared.lots.Lot.{Lot}
 use Rattle.nc_rules.specs.declared.steps.Seen.{Seen}

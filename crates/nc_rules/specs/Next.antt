@@ -1,5 +1,5 @@
 -- The state after an event, and what it records. This project's own.
-use Rattle.std.specs.Prelude.{ℕ, if◌then◌else◌, List, [], ◌∷◌, Option, Some, None}
+use Rattle.std.specs.Prelude.{if◌then◌else◌, List, [], ◌∷◌, Option, Some, None}
 use Rattle.nc_model.specs.declared.touches.Touch.{Touch}
 use Rattle.nc_scen.specs.declared.events.Event.{Event}
 use Rattle.nc_rules.specs.declared.records.Record.{Record}

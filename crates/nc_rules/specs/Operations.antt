@@ -1,6 +1,6 @@
 -- The operations of a script: what each of them means. Each family has a file: Accesses, CacheOps, Mappings,
 -- ScatterLists, Areas, Handing, Channels, Copies. This project's own, but for the standards that the files name.
-use Rattle.std.specs.Prelude.{ℕ, Bool, true, false, if◌then◌else◌, List, Option, Some, None, Result}
+use Rattle.std.specs.Prelude.{ℕ, Bool, true, false, List, Option, Some, None, Result}
 use Rattle.nc_num.specs.declared.names.Label.{Label}
 use Rattle.nc_model.specs.declared.owners.Owner.{Owner}
 use Rattle.nc_coherent.specs.Pages.{PageMap}
@@ -13,7 +13,7 @@ use Rattle.nc_rules.specs.declared.steps.Seen.{Seen}
 use Rattle.nc_rules.specs.declared.steps.Step.{Step}
 use Rattle.nc_rules.specs.declared.steps.Turn.{Turn}
 use Rattle.nc_rules.specs.Lots.{Fixed}
-use Rattle.nc_rules.specs.Meanings.{Meaning, is_planned, step_of_way, begin_of_way, opening_of_way, plan_of_way}
+use Rattle.nc_rules.specs.Meanings.{Meaning, step_of_way, begin_of_way, opening_of_way, plan_of_way}
 use Rattle.nc_rules.specs.Accesses as accesses
 use Rattle.nc_rules.specs.CacheOps as cache_ops
 use Rattle.nc_rules.specs.Mappings as mappings

@@ -3,7 +3,6 @@
 use Rattle.std.specs.Prelude.{ℕ, Bool, true, false, List, [], ◌++◌, Option, Some, None, is_none, slice_set}
 use Rattle.nc_num.specs.declared.names.ChanNo.{ChanNo}
 use Rattle.nc_num.specs.declared.names.HartNo.{HartNo}
-use Rattle.nc_num.specs.declared.names.Label.{Label}
 use Rattle.nc_queue.specs.declared.entry.Entry.{Entry}
 use Rattle.nc_queue.specs.declared.entry.Entry.TheVariants as entries
 use Rattle.nc_plan.specs.declared.ops.HartOp.{HartOp}

@@ -1,8 +1,7 @@
 -- The steps of operations, and the plans by which lots are lent and taken back. This project's own, after the Linux
 -- DMA API; fences are the RISC-V ISA's.
-use Rattle.std.specs.Prelude.{ℕ, zero, suc, Bool, true, false, if◌then◌else◌, List, [], ◌∷◌, ◌++◌, length, map, flat_map, Option, Some, None}
+use Rattle.std.specs.Prelude.{ℕ, zero, suc, if◌then◌else◌, List, [], ◌∷◌, ◌++◌, length, map, flat_map, Option, Some, None}
 use Rattle.nc_num.specs.declared.names.ChanNo.{ChanNo}
-use Rattle.nc_num.specs.declared.places.Span.{Span}
 use Rattle.nc_plan.specs.Plans.{copied_in, written_back, full, returning}
 use Rattle.nc_plan.specs.declared.effects.Effects.{Effects}
 use Rattle.nc_plan.specs.declared.ops.HartOp.{HartOp}

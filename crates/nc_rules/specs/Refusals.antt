@@ -1,6 +1,6 @@
 -- The refusals that several operations have, each a check. An operation is a chain of checks, of which the first that
 -- fails answers. This project's own, after the errors of the Linux DMA API where there are any.
-use Rattle.std.specs.Prelude.{ℕ, ◌+◌, ◌*◌, ◌==◌, ◌&&◌, ◌||◌, not, Bool, true, false, nat_le, if◌then◌else◌, List, [], ◌∷◌, Option, Some, None, Result, Ok, Err, slice_index_or, is_none}
+use Rattle.std.specs.Prelude.{ℕ, ◌+◌, ◌==◌, ◌&&◌, not, Bool, true, false, nat_le, if◌then◌else◌, List, [], ◌∷◌, Option, Some, None, Result, Ok, Err, slice_index_or}
 use Rattle.std.specs.List.{list_any}
 use Rattle.nc_num.specs.declared.names.Dir.{Dir}
 use Rattle.nc_num.specs.declared.names.HartNo.{HartNo}
