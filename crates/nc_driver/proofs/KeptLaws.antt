@@ -12,9 +12,9 @@ use Rattle.nc_rules.specs.declared.steps.Seen.TheVariants as seens
 use Rattle.nc_rules.specs.Built.{IsBuilt}
 use Rattle.nc_rules.specs.Operations.{plan_of, opening, turned}
 use Rattle.nc_rules.specs.Driver.{DriverState, in_hand, next_of, next_of_op, next_in, went, started, started_of, opened, tested, start_moves, start_moves_of, opened_moves, moved, answered}
-use Rattle.nc_rules.specs.Scripts.{is_act}
+use Rattle.nc_scripts.specs.Scripts.{is_act}
 use Rattle.nc_rules.specs.Start.{first_driver}
-use Rattle.nc_rules.proofs.DriverLaws.{first_drivers, in_hand_is, went_is, plan_there, few_steps}
+use Rattle.nc_scripts.proofs.DriverLaws.{first_drivers, in_hand_is, went_is, plan_there, few_steps}
 use Rattle.nc_driver.specs.Kept.{IsKept}
 
 pub first_kept : (sc : Scenario) (me : HartNo) → IsAccepted sc → IsBuilt sc → me.0 < length sc.harts → IsKept (first_driver sc me)

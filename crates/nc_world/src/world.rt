@@ -11,7 +11,7 @@ ghost use Rattle.nc_rules.specs.Calls.{leaving};
 ghost use Rattle.nc_rules.specs.Driver.{next_of, left_op, searching, is_script};
 ghost use Rattle.nc_rules.specs.Events.{may_go_on};
 ghost use Rattle.nc_rules.specs.Lines.{at_end};
-ghost use Rattle.nc_rules.specs.MachineLaws.{SameShape};
+ghost use Rattle.nc_calls.specs.MachineLaws.{SameShape};
 ghost use Rattle.nc_rules.specs.Next.{next, step_touch};
 ghost use Rattle.nc_rules.specs.Sound.{IsMachine, OpIsThere, IsBlockIn, IsPieceIn};
 ghost use Rattle.nc_rules.specs.Told.{told};

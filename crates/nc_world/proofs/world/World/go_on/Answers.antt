@@ -10,9 +10,9 @@ use Rattle.nc_rules.specs.declared.steps.Seen.{Seen}
 use Rattle.nc_rules.specs.Driver.{Moved, next_of, is_script}
 use Rattle.nc_rules.specs.Events.{may_go_on}
 use Rattle.nc_rules.specs.Machine.{MachineState}
-use Rattle.nc_rules.specs.MachineLaws.{SameShape}
+use Rattle.nc_calls.specs.MachineLaws.{SameShape}
 use Rattle.nc_rules.specs.Next.{step_touch}
-use Rattle.nc_rules.specs.Scripts.{IsRangeIn}
+use Rattle.nc_scripts.specs.Scripts.{IsRangeIn}
 use Rattle.nc_rules.specs.Told.{touch_told, moves_told, told}
 use Rattle.nc_rules.specs.World.{driver_of}
 use Rattle.nc_driver.specs.Shown.{seen_as}
