@@ -21,6 +21,3 @@ pub use laws::{
 pub use records::{Record, ToldAnswer};
 pub use script_laws::{drivers_stay, first_drivers};
 pub use steps::{Act, Next, PageMove, Phase, Seen, Step, Turn};
-
-#[cfg(test)]
-mod tests;

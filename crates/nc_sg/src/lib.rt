@@ -9,6 +9,3 @@ mod list;
 
 pub use list::{SgList, segments_keep_the_bytes};
 pub use nc_plan::Segment;
-
-#[cfg(test)]
-mod tests;
