@@ -16,8 +16,6 @@ mod domain;
 mod hart_cache;
 mod laws;
 mod line;
-#[cfg(test)]
-mod tests;
 mod transfers;
 
 pub use bus::BusList;

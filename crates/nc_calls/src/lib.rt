@@ -12,6 +12,3 @@ pub use laws::{
     calls_keep_shape, channels_by_place, drains_by_place, issues_by_place, loads_show_what_is_seen,
     machine_stays_sound, moves_by_place, queues_keep_order, start_is_empty, views_stay,
 };
-
-#[cfg(test)]
-mod tests;

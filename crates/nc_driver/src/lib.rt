@@ -17,8 +17,3 @@ pub use driver::Driver;
 pub use moves::{GrantList, IdList, Moves, SlotList, TransferList};
 pub use nc_plan::SegList;
 pub use nc_rules::{Answer, Next, PageMove, Refusal, Seen};
-
-#[cfg(test)]
-mod bench;
-#[cfg(test)]
-mod tests;

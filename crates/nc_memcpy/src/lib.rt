@@ -8,6 +8,3 @@
 mod copy;
 
 pub use copy::{CopyStep, copy_plan, transfer_plan};
-
-#[cfg(test)]
-mod tests;

@@ -13,6 +13,3 @@ mod laws;
 pub use book::Book;
 pub use laws::{book_is_transfers, same_touches};
 pub use nc_model::{Access, Actor, Grant, Owner, Touch, TouchKind};
-
-#[cfg(test)]
-mod tests;

@@ -14,6 +14,3 @@ mod rules;
 pub use entry::{Entry, Full};
 pub use laws::{drain_law, marker_law, output_law, push_law};
 pub use queue::Queue;
-
-#[cfg(test)]
-mod tests;

@@ -10,6 +10,3 @@
 mod laws;
 
 pub use laws::{drivers_stay, first_drivers};
-
-#[cfg(test)]
-mod tests;

@@ -9,6 +9,3 @@ mod list;
 
 pub use list::{Entry, SgList, device, segments_keep_the_bytes};
 pub use nc_plan::{SegList, Segment};
-
-#[cfg(test)]
-mod tests;
