@@ -1,5 +1,5 @@
 use Rattle.nc_world.proofs.Starts.{start_harts, start_size, start_ram}
-use Rattle.machine_tests.proofs.sched.started.Goals as goal
+use Rattle.report_tests.proofs.sched.started.Goals as goal
 
 pub returns-clause-harts : goal.returns-clause-harts
 returns-clause-harts c = rw (c.in-Ok-new.ensures.at) (start_harts c.in-Ok.sc)

@@ -1,5 +1,5 @@
 use Rattle.nc_world.proofs.Starts.{start_size, start_ram}
-use Rattle.machine_tests.proofs.report.started.Goals as goal
+use Rattle.report_tests.proofs.report.started.Goals as goal
 
 pub returns-clause-size : goal.returns-clause-size
 returns-clause-size c = rw (c.in-Ok-new.ensures.at) (start_size c.in-Ok.sc)
