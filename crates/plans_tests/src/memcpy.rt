@@ -96,5 +96,5 @@ fn from_a_slot_to_whole_blocks(rt: HostRuntime) {
         assert!(rt; false);
         return;
     };
-    assert!(rt; transfer.as_slice() == &rest[6..13]);
+    assert!(rt; rest.get(6..13) == Some(transfer.as_slice()));
 }
