@@ -21,7 +21,8 @@ use Rattle.nc_rules.specs.declared.steps.Phase.TheVariants.{Steps, Work}
 use Rattle.nc_rules.specs.declared.steps.Phase.{Phase}
 use Rattle.nc_rules.specs.declared.steps.Step.{Step}
 use Rattle.nc_rules.specs.Machine.{MachineState, queue_of, box_of, with_hart}
-use Rattle.nc_rules.specs.Operations.{Fixed, buffer_of}
+use Rattle.nc_rules.specs.Lots.{Fixed}
+use Rattle.nc_rules.specs.Refusals.{buffer_of}
 use Rattle.nc_rules.specs.Driver.{DriverState, in_hand}
 use Rattle.nc_scripts.specs.Scripts.{IsDriver}
 use Rattle.nc_rules.specs.Sound.{IsMachine}
@@ -36,7 +37,7 @@ use Rattle.nc_flat.proofs.Machines.{queue_away}
 use Rattle.nc_flat.proofs.Pushes.{Pushes, queue_pushed, carries_push, plain_push}
 use Rattle.nc_flat.proofs.PushEvents.{follows_push, buffer_in}
 use Rattle.nc_flat.proofs.Frames.{of_same, driver_here, driver_away, drives_set, status_stays}
-use Rattle.nc_flat.proofs.Situations.{pending_steps}
+use Rattle.nc_flat.proofs.Situations.{Works, pending_steps}
 use Rattle.nc_flat.proofs.Shifts.{buffer_known}
 use Rattle.nc_flat.proofs.Handing.{OnlyHart, status_marked, status_sent}
 
@@ -68,12 +69,12 @@ buffer_is sc h d buf drives lt = ap (λ (f : Fixed). buffer_of f buf) drives.fix
 pub me_is : (sc : Scenario) (h : ℕ) (d : DriverState) → Drives sc h d → d.fixed.me ≡ worlds.hart h
 me_is sc h d drives = ap (λ (f : Fixed). f.me) drives.fixed
 
-pub work_drives : (sc : Scenario) (h : ℕ) (d e : DriverState) (buf : ℕ) (to : HartNo) (rest : List Step) → Drives sc h d → in_hand d ≡ Some (ops.Hand buf to) → e ≡ record d { phase = Work; rest = rest } → IsDriver sc.ram (length sc.harts) e
+pub work_drives : (sc : Scenario) (h : ℕ) (d e : DriverState) (buf : ℕ) (to : HartNo) (rest : List Step) → Drives sc h d → in_hand d ≡ Some (ops.Hand buf to) → Works d e rest → IsDriver sc.ram (length sc.harts) e
     → (rest ≡ mark_step ∷ mail_step buf to ∷ []) ⊎ (rest ≡ mail_step buf to ∷ []) → Drives sc h e
 work_drives sc h d e buf to rest drives hand is driver plan = record {
-  fixed = ap (λ (k : DriverState). k.fixed) is ∙ drives.fixed;
+  fixed = is.fixed ∙ drives.fixed;
   driver = driver;
-  plan = subst (λ (k : DriverState). PlanIs k.rest k.phase (in_hand k)) (sym is) (subst (λ (o : Option Op). PlanIs rest Work o) (sym hand) plan);
+  plan = rw (is.rest, is.phase, is.hand, hand) plan;
 }
 
 -- ---- drivers, one of which goes on
@@ -128,17 +129,17 @@ pending_here sc ds h b d count lt = ap (pending b) (driver_here ds h h d (omega 
 -- the marker
 pub flat_mark : (sc : Scenario) (f : List ℕ) (m : MachineState) (ds : List DriverState) (os : List Owner) (h : HartNo) (d : DriverState) (s : HartState) (buf : ℕ) (to : HartNo) → IsAccepted sc → Flatness sc f m ds os → h.0 < length sc.harts
     → Pushes m h.0 (marker 1 4) s → IsMachine (with_hart m h.0 s) → Drives sc h.0 d → in_hand (driver_at ds h.0) ≡ Some (ops.Hand buf to) → (driver_at ds h.0).phase ≡ Work → (driver_at ds h.0).rest ≡ mark_step ∷ mail_step buf to ∷ []
-    → d ≡ record (driver_at ds h.0) { phase = Work; rest = mail_step buf to ∷ [] } → Flatness sc f (with_hart m h.0 s) (slice_set ds h.0 d) os
+    → Works (driver_at ds h.0) d (mail_step buf to ∷ []) → Flatness sc f (with_hart m h.0 s) (slice_set ds h.0 d) os
 flat_mark sc f m ds os h d s buf to a i lt push sound drives hand phase rest is =
     let k = driver_at ds h.0 in
-    let goes = record k { phase = Work; rest = mail_step buf to ∷ [] } in
+    let held = is.hand ∙ hand in
     let short : h.0 < length m.harts = omega (arith, i.of_scenario.harts, lt) in
     flat_hand_push sc f m ds os h d (marker 1 4) s buf a i lt push sound tt (λ x. refl) (λ b ne. refl) drives
-    (λ b ne. ap (pending b) is ∙ pending_other b goes buf to hand refl ne ∙ sym (pending_other b k buf to hand phase ne))
+    (λ b ne. pending_other b d buf to held is.phase ne ∙ sym (pending_other b k buf to hand phase ne))
     (status_marked m.size (buffer_at sc buf) buf h.0 to (owner_in os) (λ g. pending buf (driver_at ds g)) (λ g. pending buf (driver_at (slice_set ds h.0 d) g)) (queue_of m) (queue_of (with_hart m h.0 s)) (marker 1 4) (box_of m buf)
     (only_hart m s ds h.0 buf d)
     (pending_own k buf to hand phase ∙ ap (λ (r : List Step). Some (to, is_marked r)) rest)
-    (pending_here sc ds h.0 buf d i.drivers lt ∙ ap (pending buf) is ∙ pending_own goes buf to hand refl)
+    (pending_here sc ds h.0 buf d i.drivers lt ∙ pending_own d buf to held is.phase ∙ ap (λ (r : List Step). Some (to, is_marked r)) is.rest)
     (queue_pushed m h.0 (marker 1 4) s short push) refl refl (λ x. refl))
 
 -- the message

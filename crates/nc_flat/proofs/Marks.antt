@@ -14,9 +14,9 @@ use Rattle.nc_model.specs.declared.touches.Touch.{Touch}
 use Rattle.nc_rules.specs.declared.answers.Answer.{Answer}
 use Rattle.nc_rules.specs.declared.records.Record.{Record}
 use Rattle.nc_rules.specs.declared.records.Record.TheVariants as records
-use Rattle.nc_rules.specs.Driver.{Moved}
 use Rattle.nc_rules.specs.Flat.{marks_of, all_marks}
-use Rattle.nc_rules.specs.Told.{touch_told, transfer_told, transfers_told, answer_told, owners_told, answered, moves_told, entry_told}
+use Rattle.nc_rules.specs.Records.{touch_records, transfer_record, transfer_records, answer_records, owner_records, back_records, answered, moves_records, entry_record}
+use Rattle.nc_rules.specs.Turns.{Moved}
 
 append_assoc : (a b c : List Mark) → (a ++ b) ++ c ≡ a ++ (b ++ c)
 append_assoc [] b c = refl
@@ -30,21 +30,21 @@ pub marks-append : (s : ℕ) (grants : List Grant) (rs us : List Record) → all
 marks-append s grants [] us = refl
 marks-append s grants (r ∷ rs) us = ap (λ (ms : List Mark). marks_of s grants r ++ ms) (marks-append s grants rs us) ∙ sym (append_assoc (marks_of s grants r) (all_marks s grants rs) (all_marks s grants us))
 
-transfer_silent : (s size : ℕ) (grants : List Grant) (b : BusRec) → marks_of s grants (transfer_told size b) ≡ []
+transfer_silent : (s size : ℕ) (grants : List Grant) (b : BusRec) → marks_of s grants (transfer_record size b) ≡ []
 transfer_silent s size grants (bus.Fill h b from) = refl
 transfer_silent s size grants (bus.Own h b from) = refl
 transfer_silent s size grants (bus.WriteBack h b bytes) = refl
 transfer_silent s size grants (bus.Drop h b) = refl
 
-pub transfers_silent : (s size : ℕ) (grants : List Grant) (bs : List BusRec) → all_marks s grants (transfers_told size bs) ≡ []
+pub transfers_silent : (s size : ℕ) (grants : List Grant) (bs : List BusRec) → all_marks s grants (transfer_records size bs) ≡ []
 transfers_silent s size grants [] = refl
 transfers_silent s size grants (b ∷ bs) = rw (transfer_silent s size grants b) (transfers_silent s size grants bs)
 
-pub answer_silent : (s size : ℕ) (grants : List Grant) (o : Option (List BusRec)) → all_marks s grants (answer_told size o) ≡ []
+pub answer_silent : (s size : ℕ) (grants : List Grant) (o : Option (List BusRec)) → all_marks s grants (answer_records size o) ≡ []
 answer_silent s size grants None = refl
 answer_silent s size grants (Some bs) = transfers_silent s size grants bs
 
-owners_silent : (s : ℕ) (grants : List Grant) (ts : List (Span × Owner)) → all_marks s grants (owners_told ts) ≡ []
+owners_silent : (s : ℕ) (grants : List Grant) (ts : List (Span × Owner)) → all_marks s grants (owner_records ts) ≡ []
 owners_silent s grants [] = refl
 owners_silent s grants (t ∷ ts) = owners_silent s grants ts
 
@@ -52,10 +52,20 @@ answered_silent : (s : ℕ) (grants : List Grant) (h : HartNo) (op : ℕ) (a : O
 answered_silent s grants h op None = refl
 answered_silent s grants h op (Some a) = refl
 
-pub moves_silent : (s : ℕ) (grants : List Grant) (h : HartNo) (op : ℕ) (m : Moved) → all_marks s grants (moves_told h op m) ≡ []
-moves_silent s grants h op m = marks-append s grants (owners_told m.transfers) (answered h op m.answer) ∙ rw (owners_silent s grants m.transfers) (answered_silent s grants h op m.answer)
+backs_silent : (s : ℕ) (grants : List Grant) (h : HartNo) (ks : List ℕ) → all_marks s grants (back_records h ks) ≡ []
+backs_silent s grants h [] = refl
+backs_silent s grants h (k ∷ ks) = backs_silent s grants h ks
 
-pub entry_silent : (s size : ℕ) (grants : List Grant) (h : HartNo) (e : Entry) → marks_of s grants (entry_told size h e) ≡ []
+both_silent : (s : ℕ) (grants : List Grant) (rs us : List Record) → all_marks s grants rs ≡ [] → all_marks s grants us ≡ [] → all_marks s grants (rs ++ us) ≡ []
+both_silent s grants rs us p q = marks-append s grants rs us ∙ ap (λ (ms : List Mark). ms ++ all_marks s grants us) p ∙ q
+
+pub moves_silent : (s : ℕ) (grants : List Grant) (h : HartNo) (op : ℕ) (m : Moved) → all_marks s grants (moves_records h op m) ≡ []
+moves_silent s grants h op m =
+    both_silent s grants (owner_records m.transfers ++ back_records h m.backs) (answered h op m.answer)
+    (both_silent s grants (owner_records m.transfers) (back_records h m.backs) (owners_silent s grants m.transfers) (backs_silent s grants h m.backs))
+    (answered_silent s grants h op m.answer)
+
+pub entry_silent : (s size : ℕ) (grants : List Grant) (h : HartNo) (e : Entry) → marks_of s grants (entry_record size h e) ≡ []
 entry_silent s size grants h (entries.Store span bytes kind) = refl
 entry_silent s size grants h (entries.Cbo block op) = refl
 entry_silent s size grants h (entries.Reg chan off width value) = refl
@@ -68,5 +78,5 @@ fence_silent s grants true h p q c d = refl
 fence_silent s grants false h p q c d = refl
 
 -- a touch comes first
-pub touch_first : (s : ℕ) (grants : List Grant) (t : Touch) (rs : List Record) → all_marks s grants (touch_told (Some t) ++ rs) ≡ Touched ∷ all_marks s grants rs
+pub touch_first : (s : ℕ) (grants : List Grant) (t : Touch) (rs : List Record) → all_marks s grants (touch_records (Some t) ++ rs) ≡ Touched ∷ all_marks s grants rs
 touch_first s grants t rs = refl

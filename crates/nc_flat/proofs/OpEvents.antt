@@ -35,7 +35,7 @@ use Rattle.nc_rules.specs.Calls.{may_issue, asks_caches, cache_loaded, issue_nex
 use Rattle.nc_rules.specs.Driver.{DriverState}
 use Rattle.nc_rules.specs.Flat.{all_marks}
 use Rattle.nc_rules.specs.Sound.{IsMachine, IsPieceIn, OpIsThere}
-use Rattle.nc_rules.specs.Told.{transfers_told, op_told, load_told}
+use Rattle.nc_rules.specs.Records.{transfer_records, op_records, load_record}
 use Rattle.nc_rules.specs.View.{seen, bytes_seen}
 use Rattle.nc_rules.specs.Watched.{op_touch}
 use Rattle.nc_rules.specs.World.{WorldState}
@@ -96,14 +96,14 @@ load_shows sc f m ds os h span kind i own piece =
 
 goes_load : (sc : Scenario) (f : List ℕ) (w : WorldState) (es : List DriverState) (h : HartNo) (span : Span) (kind : MemType) → Flatness sc f w.machine w.drivers w.owners → DriversMove sc w.drivers es → h.0 < length w.machine.harts
     → op_touch w h (hart.Load span kind) ≡ None → IsPieceIn (length w.machine.cache.ram) span → may_issue w.machine h.0 (hart.Load span kind) ≡ true
-    → Goes sc f (all_marks w.machine.size w.grants (op_told w.machine h true (hart.Load span kind))) (issue_next w.machine h.0 (hart.Load span kind)) es w.owners
-unfolding op_touch op_told
+    → Goes sc f (all_marks w.machine.size w.grants (op_records w.machine h true (hart.Load span kind))) (issue_next w.machine h.0 (hart.Load span kind)) es w.owners
+unfolding op_touch op_records
 goes_load sc f w es h span kind i drivers lt none piece may =
     let m = w.machine in
     let own = own_piece sc f m w.drivers w.owners w.grants h accesses.Read span kind i none piece in
     let bytes = bytes_seen m h.0 kind span in
     goes_same sc f (Did (Read (named span.at bytes)) ∷ []) _ (issue_next m h.0 (hart.Load span kind)) es w.owners
-    (marks-append m.size w.grants (transfers_told m.size (load_transfers m h.0 span kind)) (load_told true h span.at bytes ∷ []) ∙ ap (λ (ms : List Mark). ms ++ Did (Read (named span.at bytes)) ∷ []) (transfers_silent m.size m.size w.grants (load_transfers m h.0 span kind)))
+    (marks-append m.size w.grants (transfer_records m.size (load_transfers m h.0 span kind)) (load_record true h span.at bytes ∷ []) ∙ ap (λ (ms : List Mark). ms ++ Did (Read (named span.at bytes)) ∷ []) (transfers_silent m.size m.size w.grants (load_transfers m h.0 span kind)))
     (record { untouched = tt; latest = (load_shows sc f m w.drivers w.owners h span kind i own piece, tt); flatness = flat_load sc f m w.drivers es w.owners h.0 span kind i drivers lt piece may })
 
 -- ---- an operation with an entry
@@ -130,8 +130,8 @@ flat_wrote sc f m ds es os h op e at bytes a i drivers lt enters own same = reco
 
 goes_store : (sc : Scenario) (f : List ℕ) (w : WorldState) (es : List DriverState) (h : HartNo) (span : Span) (kind : MemType) (bytes : Payload) → IsAccepted sc → Flatness sc f w.machine w.drivers w.owners → DriversMove sc w.drivers es → h.0 < length w.machine.harts
     → op_touch w h (hart.Store span kind bytes) ≡ None → OpIsThere w.machine h.0 (hart.Store span kind bytes) → may_issue w.machine h.0 (hart.Store span kind bytes) ≡ true
-    → Goes sc f (all_marks w.machine.size w.grants (op_told w.machine h true (hart.Store span kind bytes))) (issue_next w.machine h.0 (hart.Store span kind bytes)) es w.owners
-unfolding op_touch op_told issue_next
+    → Goes sc f (all_marks w.machine.size w.grants (op_records w.machine h true (hart.Store span kind bytes))) (issue_next w.machine h.0 (hart.Store span kind bytes)) es w.owners
+unfolding op_touch op_records issue_next
 goes_store sc f w es h span kind bytes a i drivers lt none there may =
     let m = w.machine in
     let op = hart.Store span kind bytes in
@@ -144,8 +144,8 @@ goes_store sc f w es h span kind bytes a i drivers lt none there may =
 
 goes_zero : (sc : Scenario) (f : List ℕ) (w : WorldState) (es : List DriverState) (h : HartNo) (block : Block) → IsAccepted sc → Flatness sc f w.machine w.drivers w.owners → DriversMove sc w.drivers es → h.0 < length w.machine.harts
     → op_touch w h (hart.Cbo cbos.Zero block) ≡ None → OpIsThere w.machine h.0 (hart.Cbo cbos.Zero block) → may_issue w.machine h.0 (hart.Cbo cbos.Zero block) ≡ true
-    → Goes sc f (all_marks w.machine.size w.grants (op_told w.machine h true (hart.Cbo cbos.Zero block))) (issue_next w.machine h.0 (hart.Cbo cbos.Zero block)) es w.owners
-unfolding op_touch op_told issue_next
+    → Goes sc f (all_marks w.machine.size w.grants (op_records w.machine h true (hart.Cbo cbos.Zero block))) (issue_next w.machine h.0 (hart.Cbo cbos.Zero block)) es w.owners
+unfolding op_touch op_records issue_next
 goes_zero sc f w es h block a i drivers lt none there may =
     let m = w.machine in
     let op = hart.Cbo cbos.Zero block in
@@ -168,8 +168,8 @@ flat_fence sc f m ds es os h pred succ false a i drivers lt is sound =
 -- whatever operation of a script it is
 pub goes_op : (sc : Scenario) (f : List ℕ) (w : WorldState) (es : List DriverState) (h : HartNo) (op : HartOp) → IsAccepted sc → Flatness sc f w.machine w.drivers w.owners → DriversMove sc w.drivers es → h.0 < length w.machine.harts
     → op_touch w h op ≡ None → IsNoMail op → OpIsThere w.machine h.0 op → may_issue w.machine h.0 op ≡ true
-    → Goes sc f (all_marks w.machine.size w.grants (op_told w.machine h true op)) (issue_next w.machine h.0 op) es w.owners
-unfolding op_touch op_told issue_next
+    → Goes sc f (all_marks w.machine.size w.grants (op_records w.machine h true op)) (issue_next w.machine h.0 op) es w.owners
+unfolding op_touch op_records issue_next
 goes_op sc f w es h (hart.Load span kind) a i drivers lt none quiet there may = goes_load sc f w es h span kind i drivers lt none there may
 goes_op sc f w es h (hart.Store span kind bytes) a i drivers lt none quiet there may = goes_store sc f w es h span kind bytes a i drivers lt none there may
 goes_op sc f w es h (hart.Cbo cbos.Zero block) a i drivers lt none quiet there may = goes_zero sc f w es h block a i drivers lt none there may

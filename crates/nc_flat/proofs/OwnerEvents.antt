@@ -23,12 +23,13 @@ use Rattle.nc_rules.specs.Sound.{IsMachine}
 use Rattle.nc_rules.specs.View.{middle}
 use Rattle.nc_calls.proofs.MachineParts.{box_here, box_away}
 use Rattle.nc_flat.specs.Rows.{ThreadRow, PassingRow, Row}
-use Rattle.nc_flat.specs.Messages.{pending, Quiet, IsHeld}
+use Rattle.nc_flat.specs.Messages.{is_marked, pending, Quiet, IsHeld}
 use Rattle.nc_flat.specs.Invariant.{Flatness, Drives, mark_step, mail_step, buffer_at, driver_at, no_buffer, StatusOf}
 use Rattle.nc_flat.proofs.Views.{Carries, carries_same, row_carried, given_to_all}
 use Rattle.nc_flat.proofs.Statuses.{follows_same}
 use Rattle.nc_flat.proofs.Frames.{of_same, driver_here, drives_set, status_stays}
-use Rattle.nc_flat.proofs.Situations.{pending_steps}
+use Rattle.nc_rules.specs.declared.steps.Step.{Step}
+use Rattle.nc_flat.proofs.Situations.{Works, pending_steps}
 use Rattle.nc_flat.proofs.Shifts.{Shifts, covers_in}
 use Rattle.nc_flat.proofs.Handing.{given_from, status_started}
 use Rattle.nc_flat.proofs.HandEvents.{pending_other, pending_own, only_driver, pending_set}
@@ -42,11 +43,11 @@ row_passed o p h to v m x was is row =
     subst (λ (k : Owner). Row k v m x) (sym is) passing
 
 pub flat_hand : (sc : Scenario) (f : List ℕ) (m : MachineState) (ds : List DriverState) (os ps : List Owner) (h to : HartNo) (d : DriverState) (buf n : ℕ) → IsAccepted sc → Flatness sc f m ds os → h.0 < length sc.harts → Drives sc h.0 d
-    → buf < length sc.buffers → in_hand (driver_at ds h.0) ≡ Some (ops.Hand buf to) → (driver_at ds h.0).phase ≡ Steps n → d ≡ record (driver_at ds h.0) { phase = Work; rest = mark_step ∷ mail_step buf to ∷ [] }
+    → buf < length sc.buffers → in_hand (driver_at ds h.0) ≡ Some (ops.Hand buf to) → (driver_at ds h.0).phase ≡ Steps n → Works (driver_at ds h.0) d (mark_step ∷ mail_step buf to ∷ [])
     → ((x : ℕ) → IsIn (buffer_at sc buf) x → owner_in os x ≡ Thread h) → Shifts sc os ps buf (Passing h to) → Flatness sc f m (slice_set ds h.0 d) ps
 flat_hand sc f m ds os ps h to d buf n a i lt drives there hand phase is own shift =
     let k = driver_at ds h.0 in
-    let goes = record k { phase = Work; rest = mark_step ∷ mail_step buf to ∷ [] } in
+    let held = is.hand ∙ hand in
     let es = slice_set ds h.0 d in
     record {
       machine = i.machine;
@@ -64,12 +65,12 @@ flat_hand sc f m ds os ps h to d buf n a i lt drives there hand phase is own shi
         | inl same ↦ rw same
             (status_started m.size (buffer_at sc buf) buf h to (owner_in os) (owner_in ps) (λ g. pending buf (driver_at ds g)) (λ g. pending buf (driver_at es g)) (queue_of m) (box_of m buf)
             (a.buffers buf no_buffer there).some own shift.inside (only_driver m ds h.0 buf d)
-            (ap (pending buf) (driver_here ds h.0 h.0 d (omega (arith, i.drivers, lt)) refl) ∙ ap (pending buf) is ∙ pending_own goes buf to hand refl)
+            (ap (pending buf) (driver_here ds h.0 h.0 d (omega (arith, i.drivers, lt)) refl) ∙ pending_own d buf to held is.phase ∙ ap (λ (r : List Step). Some (to, is_marked r)) is.rest)
             (i.buffers buf there))
         | inr ne ↦ status_stays sc m m ds es os ps b refl
             (record {
               owners = λ x here. shift.others b x less ne here;
-              driver = λ g. pending_set sc ds h.0 b g d i.drivers lt (ap (pending b) is ∙ pending_other b goes buf to hand refl ne ∙ sym (pending_steps b k n phase));
+              driver = λ g. pending_set sc ds h.0 b g d i.drivers lt (pending_other b d buf to held is.phase ne ∙ sym (pending_steps b k n phase));
               queues = follows_same m.size (buffer_at sc b) b (owner_in os) (queue_of m) (queue_of m) (λ g. refl);
               box_is = refl;
             })

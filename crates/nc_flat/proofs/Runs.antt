@@ -1,6 +1,7 @@
 -- Whole runs.
 use Rattle.std.specs.Prelude.{Bool, true, false, if◌then◌else◌}
 use Rattle.std.proofs.Common.{◌≡◌, ℕ, ◌<◌, List, [], ◌∷◌, ◌++◌, length, refl, sym, ap, ◌∙◌, inl, inr, arith, subst}
+use Rattle.std.proofs.lemmas.Bool.{and_parts}
 use Rattle.std.proofs.lemmas.List.Elements.{All-head, All-tail}
 use Rattle.nc_num.specs.declared.names.HartNo.{HartNo}
 use Rattle.nc_model.specs.Flat.{Mark, Did, Touched, Latest, Untouched, flat, deeds}
@@ -12,18 +13,20 @@ use Rattle.nc_scen.specs.declared.events.Event.{Event}
 use Rattle.nc_scen.specs.declared.events.Event.TheVariants as events
 use Rattle.nc_scen.specs.declared.scenario.Scenario.{Scenario}
 use Rattle.nc_rules.specs.declared.records.Record.TheVariants as records
-use Rattle.nc_rules.specs.Calls.{leaving}
-use Rattle.nc_rules.specs.Events.{enabled}
+use Rattle.nc_rules.specs.Driver.{next_of, waits_for}
+use Rattle.nc_rules.specs.Events.{may_go_on, is_out, may_issue_step, enabled}
 use Rattle.nc_rules.specs.Flat.{all_marks, event_marks, run_marks, AreThere}
-use Rattle.nc_rules.specs.Next.{performed, counted, next}
+use Rattle.nc_rules.specs.Next.{performed, counted, next, event_records}
 use Rattle.nc_rules.specs.Run.{after}
-use Rattle.nc_rules.specs.Told.{recorded, told}
+use Rattle.nc_rules.specs.Outcomes.{step_outcome, try_outcome, told_outcome, outcome}
 use Rattle.nc_rules.specs.World.{WorldState, driver_of}
 use Rattle.nc_scripts.proofs.DriverLaws.{drivers_stay}
 use Rattle.nc_flat.specs.Invariant.{Inv}
-use Rattle.nc_flat.proofs.Steps.{Before}
+use Rattle.nc_flat.proofs.Steps.{Follows, Before}
+use Rattle.nc_flat.proofs.Situations.{situation}
+use Rattle.nc_flat.proofs.ActSteps.{issues}
 use Rattle.nc_flat.specs.Laws.{IsTouch, EventGoes, EachEventIsFlat}
-use Rattle.nc_flat.proofs.WorldEvents.{goes_silently, issue_goes, drain_goes, fill_goes, evict_goes, read_goes, write_goes}
+use Rattle.nc_flat.proofs.WorldEvents.{goes_silently, drain_goes, word_goes, fill_goes, evict_goes, read_goes, write_goes}
 
 -- ---- one event
 
@@ -31,22 +34,33 @@ before : (sc : Scenario) (f : List ℕ) (w : WorldState) (h : HartNo) → IsAcce
 before sc f w h a inv lt = record {
   accepted = a;
   flatness = inv.flatness;
+  grants = inv.grants;
   lt = lt;
   stays = drivers_stay sc.ram (length sc.harts) (driver_of w h.0) (inv.flatness.drives h.0 lt).driver;
 }
 
-recorded_goes : (sc : Scenario) (f : List ℕ) (w : WorldState) (e : Event) → IsAccepted sc → Inv sc f w → IsThere (length sc.harts) sc.block_size sc.ram e → enabled w e ≡ true → EventGoes sc f (all_marks w.machine.size w.grants (recorded w e)) (performed w e)
-unfolding recorded performed enabled
-recorded_goes sc f w (events.Issue h) a inv there on = issue_goes sc f w h (before sc f w h a inv there) inv.grants on
-recorded_goes sc f w (events.Try h) a inv there on = goes_silently sc f [] w refl inv
-recorded_goes sc f w (events.Told h got) a inv there on = goes_silently sc f [] w refl inv
-recorded_goes sc f w (events.Drain h i) a inv there on = drain_goes sc f w h i (leaving w.machine h.0 i) refl inv (omega (arith, inv.flatness.of_scenario.harts, there))
-recorded_goes sc f w (events.Fill h b) a inv there on =
+step_goes : (sc : Scenario) (f : List ℕ) (w : WorldState) (h : HartNo) → Before sc f w h → may_issue_step w h ≡ true → Follows sc f w (step_outcome w h (next_of (driver_of w h.0)))
+step_goes sc f w h b on =
+    let d = driver_of w h.0 in
+    issues sc f w h b (situation d (b.flatness.drives h.0 b.lt).plan) (and_parts (is_out w.machine h (waits_for d)) (may_go_on w h (next_of d)) on).1
+
+outcome_goes : (sc : Scenario) (f : List ℕ) (w : WorldState) (e : Event) → IsAccepted sc → Inv sc f w → IsThere (length sc.harts) sc.block_size sc.ram e → enabled w e ≡ true → Follows sc f w (outcome w e)
+unfolding outcome enabled
+outcome_goes sc f w (events.Issue h) a inv there on = step_goes sc f w h (before sc f w h a inv there) on
+outcome_goes sc f w (events.Try h) a inv there on = word_goes sc f w h (try_outcome w h) (before sc f w h a inv there)
+outcome_goes sc f w (events.Told h got) a inv there on = word_goes sc f w h (told_outcome w h got) (before sc f w h a inv there)
+outcome_goes sc f w (events.Drain h i) a inv there on = drain_goes sc f w h i (before sc f w h a inv there)
+outcome_goes sc f w (events.Fill h b) a inv there on =
     let of = inv.flatness.of_scenario in fill_goes sc f w h b inv (omega (arith, of.harts, there.0)) (rw (of.size, of.ram) there.1)
-recorded_goes sc f w (events.Evict h b) a inv there on =
+outcome_goes sc f w (events.Evict h b) a inv there on =
     let of = inv.flatness.of_scenario in evict_goes sc f w h b inv (omega (arith, of.harts, there.0)) (rw (of.size, of.ram) there.1)
-recorded_goes sc f w (events.ChanRead chan) a inv there on = read_goes sc f w chan inv there
-recorded_goes sc f w (events.ChanWrite chan) a inv there on = write_goes sc f w chan inv there
+outcome_goes sc f w (events.ChanRead chan) a inv there on = read_goes sc f w chan inv there
+outcome_goes sc f w (events.ChanWrite chan) a inv there on = write_goes sc f w chan inv there
+
+performed_goes : (sc : Scenario) (f : List ℕ) (w : WorldState) (e : Event) → IsAccepted sc → Inv sc f w → IsThere (length sc.harts) sc.block_size sc.ram e → enabled w e ≡ true
+    → EventGoes sc f (all_marks w.machine.size w.grants (outcome w e).records) (performed w e)
+unfolding performed
+performed_goes sc f w e a inv there on = outcome_goes sc f w e a inv there on
 
 -- one event more was counted
 counted_goes : (sc : Scenario) (f : List ℕ) (ms : List Mark) (w : WorldState) → EventGoes sc f ms w → EventGoes sc f ms (counted w)
@@ -54,12 +68,12 @@ counted_goes sc f ms w (inl touch) = inl touch
 counted_goes sc f ms w (inr goes) = inr (record { untouched = goes.untouched; latest = goes.latest; inv = record { flatness = goes.inv.flatness; grants = goes.inv.grants } })
 
 event_by : (sc : Scenario) (f : List ℕ) (w : WorldState) (e : Event) (t : Bool) → IsAccepted sc → Inv sc f w → IsThere (length sc.harts) sc.block_size sc.ram e → enabled w e ≡ t
-    → EventGoes sc f (all_marks w.machine.size w.grants (if t then records.Event e ∷ recorded w e else [])) (if t then counted (performed w e) else w)
-event_by sc f w e true a inv there on = counted_goes sc f _ (performed w e) (recorded_goes sc f w e a inv there on)
+    → EventGoes sc f (all_marks w.machine.size w.grants (if t then records.Event e ∷ (outcome w e).records else [])) (if t then counted (performed w e) else w)
+event_by sc f w e true a inv there on = counted_goes sc f _ (performed w e) (performed_goes sc f w e a inv there on)
 event_by sc f w e false a inv there on = goes_silently sc f [] w refl inv
 
 pub event_goes : EachEventIsFlat
-unfolding event_marks told next
+unfolding event_marks event_records next
 event_goes sc f w e a inv there = event_by sc f w e (enabled w e) a inv there refl
 
 -- ---- all of them

@@ -21,7 +21,23 @@ use Rattle.nc_rules.specs.declared.steps.Act.{Act}
 use Rattle.nc_rules.specs.declared.steps.Act.TheVariants as acts
 use Rattle.nc_rules.specs.declared.steps.Step.{Step}
 use Rattle.nc_rules.specs.declared.steps.Turn.TheVariants as turns
-use Rattle.nc_rules.specs.Operations.{Fixed, ◌>>=◌, bus_of, buffer_of, part_of, legal, spot_at, known, step, hart_step, single, piece_step, effect_of, cbo_blocks, cbo_step, control_step, step_at}
+use Rattle.nc_rules.specs.declared.lots.Lot.{Lot}
+use Rattle.nc_rules.specs.Lots.{Fixed}
+use Rattle.nc_rules.specs.Refusals.{◌>>=◌, buffer_of, part_of, legal}
+use Rattle.nc_rules.specs.Plans.{step, hart_step, single, control_step}
+use Rattle.nc_rules.specs.Accesses.{spot_at, piece_step}
+use Rattle.nc_rules.specs.Accesses as accesses
+use Rattle.nc_rules.specs.CacheOps.{effect_of, cbo_blocks, cbo_step}
+use Rattle.nc_rules.specs.CacheOps as cache_ops
+use Rattle.nc_rules.specs.Handing.{take_step}
+use Rattle.nc_rules.specs.Handing as handing
+use Rattle.nc_rules.specs.Channels.{bus_of, known}
+use Rattle.nc_rules.specs.Channels as channels
+use Rattle.nc_rules.specs.Mappings as mappings
+use Rattle.nc_rules.specs.ScatterLists as lists
+use Rattle.nc_rules.specs.Areas as areas
+use Rattle.nc_rules.specs.Copies as copies
+use Rattle.nc_rules.specs.Operations.{meaning, step_at}
 
 -- an operation of a hart that sends no message
 abbrev pub IsNoTarget : IoTarget → Type 0
@@ -45,11 +61,9 @@ IsNoTake (acts.Poll chan) = Unit {0}
 IsNoTake (acts.Take buf) = ⊥
 
 pub record IsOwn (s : Step) : Type 0 where
-  pub turn : s.turn ≡ turns.Stay
+  pub first : s.first ≡ turns.Stay
+  pub last : s.last ≡ turns.Stay
   pub act : IsNoTake s.act
-
-abbrev pub take_step : Fixed → ℕ → Step
-take_step f buf = record { act = acts.Take buf; turn = turns.Own (buffer_of f buf) }
 
 pub record Takes (f : Fixed) (o : Op) (s : Step) : Type 0 where
   pub buf : ℕ
@@ -63,7 +77,7 @@ through (Ok x) g s rest e = rest x e
 through (Err r) g s rest e = absurd cc
 
 own_hart : (op : HartOp) (s : Step) → IsNoMail op → hart_step op ≡ s → IsOwn s
-own_hart op s quiet e = subst IsOwn e (record { turn = refl; act = quiet })
+own_hart op s quiet e = subst IsOwn e (record { first = refl; last = refl; act = quiet })
 
 own_single : (t : Step) (n : ℕ) (s : Step) → IsOwn t → ◌≡◌ {A = Result (Option Step) Refusal} (Ok (single t n)) (Ok (Some s)) → IsOwn s
 own_single t zero s own e = let same : t ≡ s = cc in subst IsOwn same own
@@ -99,7 +113,7 @@ store_quiet to pbmte table bytes n a e = steps_quiet (store_op (range to (length
 
 own_block : (effect : CboOp) (o : Option ℕ) (s : Step) → ◌≡◌ {A = Result (Option Step) Refusal} (Ok (option_map (cbo_step effect) o)) (Ok (Some s)) → IsOwn s
 own_block effect None s e = absurd cc
-own_block effect (Some b) s e = let same : cbo_step effect b ≡ s = cc in subst IsOwn same (record { turn = refl; act = tt })
+own_block effect (Some b) s e = let same : cbo_step effect b ≡ s = cc in subst IsOwn same (record { first = refl; last = refl; act = tt })
 
 own_reg : (o : Option HartOp) (s : Step) → ((op : HartOp) → o ≡ Some op → IsNoMail op) → ◌≡◌ {A = Result (Option Step) Refusal} (Ok (option_map hart_step o)) (Ok (Some s)) → IsOwn s
 own_reg None s quiet e = absurd cc
@@ -119,31 +133,31 @@ take_is : (f : Fixed) (buf n : ℕ) (s : Step) → ◌≡◌ {A = Result (Option
 take_is f buf zero s e = cc
 take_is f buf (suc n) s e = absurd cc
 
-pub script_step : (f : Fixed) (o : Op) (n : ℕ) (s : Step) → step_at f o n ≡ Ok (Some s) → IsOwn s ⊎ Takes f o s
-unfolding step_at
-script_step f (ops.Ld spot off len) n s e = inl (through (spot_at f spot off len) _ s (λ to p. own_piece (load_step to f.pbmte f.table len n) s (load_quiet to f.pbmte f.table len n) p) e)
-script_step f (ops.St spot off bytes) n s e = inl (through (spot_at f spot off (length bytes)) _ s (λ to p. own_piece (store_step to f.pbmte f.table bytes n) s (store_quiet to f.pbmte f.table bytes n) p) e)
-script_step f (ops.Cbo op buf off) n s e =
+pub script_step : (f : Fixed) (lots : List Lot) (o : Op) (n : ℕ) (s : Step) → step_at f lots o n ≡ Ok (Some s) → IsOwn s ⊎ Takes f o s
+unfolding step_at meaning accesses.load accesses.store cache_ops.cache_operation cache_ops.fence handing.take handing.hand channels.claim channels.free channels.set_up channels.run channels.poll channels.read_register channels.write_register mappings.map_single mappings.unmap_single mappings.sync_for_cpu mappings.sync_for_device lists.map_sg lists.unmap_sg areas.calloc areas.give_area areas.take_area areas.free_area copies.copy
+script_step f lots (ops.Ld spot off len) n s e = inl (through (spot_at f lots spot off len) _ s (λ to p. own_piece (load_step to f.pbmte f.table len n) s (load_quiet to f.pbmte f.table len n) p) e)
+script_step f lots (ops.St spot off bytes) n s e = inl (through (spot_at f lots spot off (length bytes)) _ s (λ to p. own_piece (store_step to f.pbmte f.table bytes n) s (store_quiet to f.pbmte f.table bytes n) p) e)
+script_step f lots (ops.Cbo op buf off) n s e =
     inl (through (part_of (buffer_of f buf) off 1) _ s (λ byte p. through (legal (effect_of f.effects op)) _ s (λ effect q. own_block effect (slice_get (cbo_blocks f op byte.at) n) s q) p) e)
-script_step f (ops.Fence pred succ) n s e = inl (own_single (hart_step (hart.Fence pred succ)) n s (record { turn = refl; act = tt }) e)
-script_step f (ops.Take buf) n s e = inr (record { buf = buf; op = refl; is = take_is f buf n s e })
-script_step f (ops.Claim chan) n s e = inl (own_single (step (acts.Claim chan)) n s (record { turn = refl; act = tt }) e)
-script_step f (ops.Free chan) n s e = inl (own_single (control_step chan 0) n s (record { turn = refl; act = tt }) e)
-script_step f (ops.Regs chan src dst len cfg) n s e =
-    inl (through (bus_of src) _ s (λ source p. through (bus_of dst) _ s (λ target q. own_reg (regs_step chan source target len cfg n) s (regs_quiet chan source target len cfg n) q) p) e)
-script_step f (ops.Run chan) n s e = inl (own_single (control_step chan 3) n s (record { turn = refl; act = tt }) e)
-script_step f (ops.Poll chan) n s e = inl (own_single (step (acts.Poll chan)) n s (record { turn = refl; act = tt }) e)
-script_step f (ops.Regr chan off width) n s e = inl (through (known off width) _ s (λ _ p. own_single (hart_step (hart.IoLoad chan off width)) n s (record { turn = refl; act = tt }) p) e)
-script_step f (ops.Regw chan off width value) n s e = inl (through (known off width) _ s (λ _ p. own_single (hart_step (hart.IoStore (io.Reg chan off width value))) n s (record { turn = refl; act = tt }) p) e)
-script_step f (ops.Hand buf to) n s e = inl (none_such s e)
-script_step f (ops.Map label buf off len dir chan) n s e = inl (none_such s e)
-script_step f (ops.Unmap label) n s e = inl (none_such s e)
-script_step f (ops.ToCpu label) n s e = inl (none_such s e)
-script_step f (ops.ToDev label) n s e = inl (none_such s e)
-script_step f (ops.MapSg label entries dir chan) n s e = inl (none_such s e)
-script_step f (ops.UnmapSg label count) n s e = inl (none_such s e)
-script_step f (ops.Calloc label pages chan) n s e = inl (none_such s e)
-script_step f (ops.Cgive label) n s e = inl (none_such s e)
-script_step f (ops.Ctake label) n s e = inl (none_such s e)
-script_step f (ops.Cfree label) n s e = inl (none_such s e)
-script_step f (ops.Copy chan src src_off dst dst_off len cfg) n s e = inl (none_such s e)
+script_step f lots (ops.Fence pred succ) n s e = inl (own_single (hart_step (hart.Fence pred succ)) n s (record { first = refl; last = refl; act = tt }) e)
+script_step f lots (ops.Take buf) n s e = inr (record { buf = buf; op = refl; is = take_is f buf n s e })
+script_step f lots (ops.Claim chan) n s e = inl (own_single (step (acts.Claim chan)) n s (record { first = refl; last = refl; act = tt }) e)
+script_step f lots (ops.Free chan) n s e = inl (own_single (control_step chan 0) n s (record { first = refl; last = refl; act = tt }) e)
+script_step f lots (ops.Regs chan src dst len cfg) n s e =
+    inl (through (bus_of f lots src) _ s (λ source p. through (bus_of f lots dst) _ s (λ target q. own_reg (regs_step chan source target len cfg n) s (regs_quiet chan source target len cfg n) q) p) e)
+script_step f lots (ops.Run chan) n s e = inl (own_single (control_step chan 3) n s (record { first = refl; last = refl; act = tt }) e)
+script_step f lots (ops.Poll chan) n s e = inl (own_single (step (acts.Poll chan)) n s (record { first = refl; last = refl; act = tt }) e)
+script_step f lots (ops.Regr chan off width) n s e = inl (through (known off width) _ s (λ _ p. own_single (hart_step (hart.IoLoad chan off width)) n s (record { first = refl; last = refl; act = tt }) p) e)
+script_step f lots (ops.Regw chan off width value) n s e = inl (through (known off width) _ s (λ _ p. own_single (hart_step (hart.IoStore (io.Reg chan off width value))) n s (record { first = refl; last = refl; act = tt }) p) e)
+script_step f lots (ops.Hand buf to) n s e = inl (none_such s e)
+script_step f lots (ops.Map label buf off len dir chan) n s e = inl (none_such s e)
+script_step f lots (ops.Unmap label) n s e = inl (none_such s e)
+script_step f lots (ops.ToCpu label) n s e = inl (none_such s e)
+script_step f lots (ops.ToDev label) n s e = inl (none_such s e)
+script_step f lots (ops.MapSg label entries dir chan) n s e = inl (none_such s e)
+script_step f lots (ops.UnmapSg label count) n s e = inl (none_such s e)
+script_step f lots (ops.Calloc label pages chan) n s e = inl (none_such s e)
+script_step f lots (ops.Cgive label) n s e = inl (none_such s e)
+script_step f lots (ops.Ctake label) n s e = inl (none_such s e)
+script_step f lots (ops.Cfree label) n s e = inl (none_such s e)
+script_step f lots (ops.Copy chan src src_off dst dst_off len cfg) n s e = inl (none_such s e)

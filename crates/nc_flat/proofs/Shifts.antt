@@ -18,7 +18,7 @@ use Rattle.nc_scen.specs.Regions.{IsIn, pool_of}
 use Rattle.nc_scen.specs.declared.scenario.BufferSpec.{BufferSpec}
 use Rattle.nc_scen.specs.declared.scenario.HartSpec.{HartSpec}
 use Rattle.nc_scen.specs.declared.scenario.Scenario.{Scenario}
-use Rattle.nc_rules.specs.Operations.{buffer_of, owned, owned_but}
+use Rattle.nc_rules.specs.Refusals.{buffer_of, owned, owned_but}
 use Rattle.nc_rules.specs.Start.{fixed_of}
 use Rattle.nc_flat.specs.Invariant.{buffer_at, no_buffer, no_span}
 

@@ -1,48 +1,58 @@
 -- Where a driver stands, and what each of its calls changes there.
 use Rattle.std.specs.Prelude.{Option, Some, None, Result, Ok, Err, if◌then◌else◌, Bool, true, false}
-use Rattle.std.proofs.Common.{◌≡◌, ◌⊎◌, ℕ, ◌+◌, List, [], ◌∷◌, refl, sym, ap, ◌∙◌, inl, inr, subst}
+use Rattle.std.proofs.Common.{◌≡◌, ◌⊎◌, ℕ, ◌+◌, List, [], ◌∷◌, ◌++◌, refl, sym, ap, ◌∙◌, inl, inr, subst}
 use Rattle.nc_num.specs.declared.names.HartNo.{HartNo}
 use Rattle.nc_plan.specs.declared.ops.HartOp.TheVariants as hart
 use Rattle.nc_plan.specs.declared.ops.IoTarget.TheVariants as io
 use Rattle.nc_model.specs.declared.owners.Owner.{Owner}
-use Rattle.nc_model.specs.declared.owners.Owner.TheVariants.{Passing}
+use Rattle.nc_model.specs.declared.owners.Owner.TheVariants.{Thread, Passing}
+use Rattle.nc_num.specs.declared.places.Span.{Span}
 use Rattle.nc_ops.specs.declared.ops.Op.{Op}
 use Rattle.nc_ops.specs.declared.ops.Op.TheVariants as ops
 use Rattle.nc_rules.specs.declared.answers.Refusal.{Refusal}
 use Rattle.nc_rules.specs.declared.steps.Next.{Next}
 use Rattle.nc_rules.specs.declared.steps.Next.TheVariants as nexts
 use Rattle.nc_rules.specs.declared.steps.Phase.{Phase}
-use Rattle.nc_rules.specs.declared.steps.Phase.TheVariants.{Steps, Work}
+use Rattle.nc_rules.specs.declared.steps.Phase.TheVariants.{Steps, Search, Work}
 use Rattle.nc_rules.specs.declared.steps.Seen.{Seen}
 use Rattle.nc_rules.specs.declared.steps.Seen.TheVariants as seen
 use Rattle.nc_rules.specs.declared.steps.Step.{Step}
-use Rattle.nc_rules.specs.Operations.{Fixed, buffer_of, owned, step_at, has_start, plan_of, opening, turned}
-use Rattle.nc_rules.specs.Driver.{DriverState, Moved, in_hand, next_of, next_of_op, next_in, next_step, next_rest, next_act, over, counted, went, started, started_of, opened, opened_moves, tested, start_moves, start_moves_of, busy, stepped, turn_of, done, done_of, done_unless, done_in, done_rest, done_moves, done_moves_of, done_moves_unless, done_moves_in, rest_moves}
+use Rattle.nc_rules.specs.declared.steps.Turn.TheVariants as turns
+use Rattle.nc_rules.specs.declared.lots.Lot.{Lot}
+use Rattle.nc_rules.specs.Lots.{Fixed}
+use Rattle.nc_rules.specs.Refusals.{◌>>=◌, buffer_of, owned}
+use Rattle.nc_rules.specs.Turns.{lots_after_both, turned, given_up, without_wanted}
+use Rattle.nc_rules.specs.Handing.{take_step}
+use Rattle.nc_rules.specs.Handing as handing
+use Rattle.nc_rules.specs.Operations.{meaning, step_at, has_start, begin, opening, plan_of}
+use Rattle.nc_rules.specs.Built.{is_built_op}
+use Rattle.nc_coherent.specs.Pages.{PageMap}
+use Rattle.nc_rules.specs.Driver.{DriverState, Went, in_hand, next_of, next_of_op, next_in, next_step, next_rest, next_act, over, stands, stays, kept, give_up, went_to, opened, placed, with_lots, begun, refused_step, started, started_of, started_op, busy, stepped_to, stepped, worked, done, done_of, done_unless, done_in}
 use Rattle.nc_flat.specs.Invariant.{mark_step, mail_step, RestOf, PlanIs}
 use Rattle.nc_flat.specs.Messages.{pending, pending_in}
-use Rattle.nc_flat.proofs.ScriptSteps.{IsOwn, Takes, take_step, script_step}
+use Rattle.nc_flat.proofs.ScriptSteps.{IsOwn, Takes, script_step}
 
 pub data Situation (d : DriverState) (nx : Next) : Type 0 where
   AtEnd : in_hand d ≡ None → nx ≡ nexts.End → Situation d nx
   AtStart : (o : Op) (n : ℕ) → in_hand d ≡ Some o → d.phase ≡ Steps n → nx ≡ nexts.Start → Situation d nx
-  AtStep : (o : Op) (n : ℕ) (s : Step) → in_hand d ≡ Some o → d.phase ≡ Steps n → step_at d.fixed o n ≡ Ok (Some s) → IsOwn s → nx ≡ next_act s.act → Situation d nx
-  AtTake : (buf n : ℕ) → in_hand d ≡ Some (ops.Take buf) → d.phase ≡ Steps n → step_at d.fixed (ops.Take buf) n ≡ Ok (Some (take_step d.fixed buf)) → nx ≡ nexts.Take buf → Situation d nx
+  AtStep : (o : Op) (n : ℕ) (s : Step) → in_hand d ≡ Some o → d.phase ≡ Steps n → step_at d.fixed d.lots o n ≡ Ok (Some s) → IsOwn s → nx ≡ next_act s.act → Situation d nx
+  AtTake : (buf n : ℕ) → in_hand d ≡ Some (ops.Take buf) → d.phase ≡ Steps n → step_at d.fixed d.lots (ops.Take buf) n ≡ Ok (Some (take_step d.fixed buf)) → nx ≡ nexts.Take buf → Situation d nx
   AtMark : (buf : ℕ) (to : HartNo) → in_hand d ≡ Some (ops.Hand buf to) → d.phase ≡ Work → d.rest ≡ mark_step ∷ mail_step buf to ∷ [] → nx ≡ nexts.Op (hart.Mark 1 4) → Situation d nx
   AtMail : (buf : ℕ) (to : HartNo) → in_hand d ≡ Some (ops.Hand buf to) → d.phase ≡ Work → d.rest ≡ mail_step buf to ∷ [] → nx ≡ nexts.Op (hart.IoStore (io.Mail buf to)) → Situation d nx
 
-at_step : (d : DriverState) (o : Op) (n : ℕ) (s : Step) → in_hand d ≡ Some o → d.phase ≡ Steps n → step_at d.fixed o n ≡ Ok (Some s) → IsOwn s ⊎ Takes d.fixed o s → Situation d (next_act s.act)
+at_step : (d : DriverState) (o : Op) (n : ℕ) (s : Step) → in_hand d ≡ Some o → d.phase ≡ Steps n → step_at d.fixed d.lots o n ≡ Ok (Some s) → IsOwn s ⊎ Takes d.fixed o s → Situation d (next_act s.act)
 at_step d o n s hand phase is (inl own) = AtStep o n s hand phase is own refl
 at_step d o n s hand phase is (inr takes) =
-    AtTake takes.buf n (hand ∙ ap (λ (p : Op). Some p) takes.op) phase (ap (λ (p : Op). step_at d.fixed p n) (sym takes.op) ∙ is ∙ ap (λ (t : Step). Ok (Some t)) takes.is) (ap (λ (t : Step). next_act t.act) takes.is)
+    AtTake takes.buf n (hand ∙ ap (λ (p : Op). Some p) takes.op) phase (ap (λ (p : Op). step_at d.fixed d.lots p n) (sym takes.op) ∙ is ∙ ap (λ (t : Step). Ok (Some t)) takes.is) (ap (λ (t : Step). next_act t.act) takes.is)
 
-at_result : (d : DriverState) (o : Op) (n : ℕ) (r : Result (Option Step) Refusal) → in_hand d ≡ Some o → d.phase ≡ Steps n → step_at d.fixed o n ≡ r → Situation d (next_step r)
+at_result : (d : DriverState) (o : Op) (n : ℕ) (r : Result (Option Step) Refusal) → in_hand d ≡ Some o → d.phase ≡ Steps n → step_at d.fixed d.lots o n ≡ r → Situation d (next_step r)
 at_result d o n (Err r) hand phase is = AtStart o n hand phase refl
 at_result d o n (Ok None) hand phase is = AtStart o n hand phase refl
-at_result d o n (Ok (Some s)) hand phase is = at_step d o n s hand phase is (script_step d.fixed o n s is)
+at_result d o n (Ok (Some s)) hand phase is = at_step d o n s hand phase is (script_step d.fixed d.lots o n s is)
 
-at_steps : (d : DriverState) (o : Op) (n : ℕ) (t : Bool) → in_hand d ≡ Some o → d.phase ≡ Steps n → Situation d (if t then nexts.Start else next_step (step_at d.fixed o n))
+at_steps : (d : DriverState) (o : Op) (n : ℕ) (t : Bool) → in_hand d ≡ Some o → d.phase ≡ Steps n → Situation d (if t then nexts.Start else next_step (step_at d.fixed d.lots o n))
 at_steps d o n true hand phase = AtStart o n hand phase refl
-at_steps d o n false hand phase = at_result d o n (step_at d.fixed o n) hand phase refl
+at_steps d o n false hand phase = at_result d o n (step_at d.fixed d.lots o n) hand phase refl
 
 at_work : (d : DriverState) (o : Op) → in_hand d ≡ Some o → d.phase ≡ Work → RestOf d.rest o → Situation d (next_rest d.rest)
 at_work d (ops.Hand buf to) hand phase (inl rest) = AtMark buf to hand phase rest (ap next_rest rest)
@@ -51,6 +61,7 @@ at_work d _ hand phase rest = absurd rest
 
 at_phase : (d : DriverState) (o : Op) (p : Phase) → in_hand d ≡ Some o → d.phase ≡ p → PlanIs d.rest p (Some o) → Situation d (next_in d o p)
 at_phase d o (Steps n) hand phase plan = at_steps d o n (has_start o) hand phase
+at_phase d o (Search k) hand phase plan = absurd plan
 at_phase d o Work hand phase plan = at_work d o hand phase plan
 
 at_op : (d : DriverState) (o : Option Op) → in_hand d ≡ o → PlanIs d.rest d.phase o → Situation d (next_of_op d o)
@@ -75,123 +86,166 @@ pending_steps b d n is = ap (λ (p : Phase). pending_in b d.rest p (in_hand d)) 
 pub plan_steps : (d : DriverState) (n : ℕ) → d.phase ≡ Steps n → PlanIs d.rest d.phase (in_hand d)
 plan_steps d n is = subst (λ (p : Phase). PlanIs d.rest p (in_hand d)) (sym is) tt
 
-over_idles : (d : DriverState) → Idles d (over d)
-over_idles d = record { fixed = refl; count = 0; phase = refl }
+-- ---- a step of an operation without a plan
 
-counted_idles : (d : DriverState) (n : ℕ) → Idles d (counted d n)
-counted_idles d n = record { fixed = refl; count = n; phase = refl }
+-- it goes on without a plan, and these owners change
+pub record GoesIdle (d : DriverState) (w : Went) (ts : List (Span × Owner)) : Type 0 where
+  pub driver : Idles d w.driver
+  pub transfers : w.moves.transfers ≡ ts
 
-stepped_idles : (d : DriverState) (n : ℕ) (r : Result (Option Step) Refusal) → Idles d (stepped d n r)
-stepped_idles d n (Err r) = counted_idles d n
-stepped_idles d n (Ok (Some s)) = counted_idles d n
-stepped_idles d n (Ok None) = over_idles d
+over_idles : (d : DriverState) (lots : List Lot) → Idles d (over d lots)
+over_idles d lots = record { fixed = refl; count = 0; phase = refl }
 
-unless_idles : (d : DriverState) (o : Op) (n : ℕ) (r : Option Refusal) → d.phase ≡ Steps n → Idles d (done_unless d o r)
-unless_idles d o n (Some r) phase = over_idles d
-unless_idles d o n None phase = subst (λ (p : Phase). Idles d (done_in d o p)) (sym phase) (stepped_idles d (n + 1) (step_at d.fixed o (n + 1)))
+counted_idles : (d : DriverState) (n : ℕ) (lots : List Lot) (saw : Seen) → Idles d (stands d (Steps n) [] lots saw)
+counted_idles d n lots saw = record { fixed = refl; count = n; phase = refl }
 
-pub done_idles : (d : DriverState) (saw : Seen) (o : Op) (n : ℕ) → in_hand d ≡ Some o → d.phase ≡ Steps n → Idles d (done d saw)
+stepped_idles : (d : DriverState) (n : ℕ) (lots : List Lot) (saw : Seen) (r : Result (Option Step) Refusal) → Idles d (stepped_to d n lots saw r)
+stepped_idles d n lots saw (Err r) = counted_idles d n lots saw
+stepped_idles d n lots saw (Ok (Some s)) = counted_idles d n lots saw
+stepped_idles d n lots saw (Ok None) = over_idles d lots
+
+gives_up : (d : DriverState) (o : Op) (r : Refusal) → GoesIdle d (give_up d o r) []
+gives_up d o r = record { driver = over_idles d (without_wanted d.lots); transfers = refl }
+
+-- what a step changes that was made
+abbrev pub turned_by : DriverState → Step → List (Span × Owner)
+turned_by d s = (turned d.fixed d.lots s.first s.last None).transfers
+
+in_idles : (d : DriverState) (o : Op) (n : ℕ) (s : Step) (saw : Seen) → d.phase ≡ Steps n → step_at d.fixed d.lots o n ≡ Ok (Some s) → GoesIdle d (done_in d o saw d.phase) (turned_by d s)
+unfolding turned
+in_idles d o n s saw phase is =
+    let next = step_at d.fixed d.lots o (n + 1) in
+    subst (λ (p : Phase). GoesIdle d (done_in d o saw p) (turned_by d s)) (sym phase)
+    (subst (λ (r : Result (Option Step) Refusal). GoesIdle d (stepped d o (n + 1) saw r next) (turned_by d s)) (sym is)
+    (record { driver = stepped_idles d (n + 1) (lots_after_both s.first s.last d.lots) saw next; transfers = refl }))
+
+unless_idles : (d : DriverState) (o : Op) (n : ℕ) (s : Step) (saw : Seen) (r : Option Refusal) → d.phase ≡ Steps n → step_at d.fixed d.lots o n ≡ Ok (Some s) → turned_by d s ≡ [] → GoesIdle d (done_unless d o saw r) []
+unless_idles d o n s saw (Some r) phase is none = gives_up d o r
+unless_idles d o n s saw None phase is none =
+    subst (λ (ts : List (Span × Owner)). GoesIdle d (done_in d o (kept d.saw saw) d.phase) ts) none (in_idles d o n s (kept d.saw saw) phase is)
+
+none_turned : (d : DriverState) (s : Step) → IsOwn s → turned_by d s ≡ []
+unfolding turned
+none_turned d s own = rw (own.first, own.last) refl
+
+pub done_idles : (d : DriverState) (saw : Seen) (o : Op) (n : ℕ) (s : Step) → in_hand d ≡ Some o → d.phase ≡ Steps n → step_at d.fixed d.lots o n ≡ Ok (Some s) → IsOwn s → GoesIdle d (done d saw) []
 unfolding done
-done_idles d saw o n hand phase = subst (λ (k : Option Op). Idles d (done_of d saw k)) (sym hand) (unless_idles d o n (busy saw) phase)
+done_idles d saw o n s hand phase is own =
+    subst (λ (k : Option Op). GoesIdle d (done_of d saw k) []) (sym hand) (unless_idles d o n s saw (busy saw) phase is (none_turned d s own))
 
-unless_turned : (d : DriverState) (saw : Seen) (o : Op) (n : ℕ) (s : Step) → d.phase ≡ Steps n → step_at d.fixed o n ≡ Ok (Some s) → (done_moves_unless d o saw None).transfers ≡ turned d.fixed.me s.turn
-unless_turned d saw o n s phase is =
-    ap (λ (p : Phase). (done_moves_in d o saw p).transfers) phase ∙ ap (λ (r : Result (Option Step) Refusal). turned d.fixed.me (turn_of r)) is
-
-unless_stays : (d : DriverState) (saw : Seen) (o : Op) (n : ℕ) (s : Step) (r : Option Refusal) → d.phase ≡ Steps n → step_at d.fixed o n ≡ Ok (Some s) → turned d.fixed.me s.turn ≡ [] → (done_moves_unless d o saw r).transfers ≡ []
-unless_stays d saw o n s (Some r) phase is stay = refl
-unless_stays d saw o n s None phase is stay = unless_turned d saw o n s phase is ∙ stay
-
-pub done_stays : (d : DriverState) (saw : Seen) (o : Op) (n : ℕ) (s : Step) → in_hand d ≡ Some o → d.phase ≡ Steps n → step_at d.fixed o n ≡ Ok (Some s) → IsOwn s → (done_moves d saw).transfers ≡ []
-unfolding done_moves
-done_stays d saw o n s hand phase is own =
-    ap (λ (k : Option Op). (done_moves_of d saw k).transfers) hand ∙ unless_stays d saw o n s (busy saw) phase is (ap (λ t. turned d.fixed.me t) own.turn)
-
-pub done_takes : (d : DriverState) (buf n : ℕ) → in_hand d ≡ Some (ops.Take buf) → d.phase ≡ Steps n → step_at d.fixed (ops.Take buf) n ≡ Ok (Some (take_step d.fixed buf))
-    → (done_moves d seen.Nothing).transfers ≡ turned d.fixed.me (take_step d.fixed buf).turn
-unfolding done_moves
+pub done_takes : (d : DriverState) (buf n : ℕ) → in_hand d ≡ Some (ops.Take buf) → d.phase ≡ Steps n → step_at d.fixed d.lots (ops.Take buf) n ≡ Ok (Some (take_step d.fixed buf))
+    → GoesIdle d (done d seen.Nothing) ((buffer_of d.fixed buf, Thread d.fixed.me) ∷ [])
+unfolding done turned
 done_takes d buf n hand phase is =
-    ap (λ (k : Option Op). (done_moves_of d seen.Nothing k).transfers) hand ∙ unless_turned d seen.Nothing (ops.Take buf) n (take_step d.fixed buf) phase is
+    subst (λ (k : Option Op). GoesIdle d (done_of d seen.Nothing k) ((buffer_of d.fixed buf, Thread d.fixed.me) ∷ [])) (sym hand)
+    (in_idles d (ops.Take buf) n (take_step d.fixed buf) d.saw phase is)
 
 -- ---- a driver at work
 
-pub done_works : (d : DriverState) (o : Op) (s : Step) (rest : List Step) → in_hand d ≡ Some o → d.phase ≡ Work → d.rest ≡ s ∷ rest → done d seen.Nothing ≡ went d rest
+-- it goes on with this rest of a plan
+pub record Works (d e : DriverState) (left : List Step) : Type 0 where
+  pub fixed : e.fixed ≡ d.fixed
+  pub hand : in_hand e ≡ in_hand d
+  pub phase : e.phase ≡ Work
+  pub rest : e.rest ≡ left
+
+done_works : (d : DriverState) (o : Op) (s : Step) (rest : List Step) → in_hand d ≡ Some o → d.phase ≡ Work → d.rest ≡ s ∷ rest → done d seen.Nothing ≡ worked d o d.saw (s ∷ rest)
 unfolding done
 done_works d o s rest hand phase is =
-    ap (λ (k : Option Op). done_of d seen.Nothing k) hand ∙ ap (λ (p : Phase). done_in d o p) phase ∙ ap (λ (r : List Step). done_rest d r) is
+    ap (λ (k : Option Op). done_of d seen.Nothing k) hand ∙ ap (λ (p : Phase). done_in d o d.saw p) phase ∙ ap (λ (r : List Step). worked d o d.saw r) is
 
-pub work_turned : (d : DriverState) (o : Op) (s : Step) (rest : List Step) → in_hand d ≡ Some o → d.phase ≡ Work → d.rest ≡ s ∷ rest → (done_moves d seen.Nothing).transfers ≡ turned d.fixed.me s.turn
-unfolding done_moves
-work_turned d o s rest hand phase is =
-    ap (λ (k : Option Op). (done_moves_of d seen.Nothing k).transfers) hand ∙ ap (λ (p : Phase). (done_moves_in d o seen.Nothing p).transfers) phase
-    ∙ ap (λ (r : List Step). (rest_moves d o seen.Nothing r).transfers) is
+-- a step that turns nothing
+pub record IsStill (s : Step) : Type 0 where
+  pub first : s.first ≡ turns.Stay
+  pub last : s.last ≡ turns.Stay
+
+pub done_stays : (d : DriverState) (o : Op) (s : Step) (rest : List Step) → in_hand d ≡ Some o → d.phase ≡ Work → d.rest ≡ s ∷ rest → IsStill s → (done d seen.Nothing).moves.transfers ≡ []
+unfolding turned
+done_stays d o s rest hand phase is still = ap (λ (w : Went). w.moves.transfers) (done_works d o s rest hand phase is) ∙ rw (still.first, still.last) refl
+
+pub done_goes_on : (d : DriverState) (o : Op) (s t : Step) (rest : List Step) → in_hand d ≡ Some o → d.phase ≡ Work → d.rest ≡ s ∷ t ∷ rest → Works d (done d seen.Nothing).driver (t ∷ rest)
+done_goes_on d o s t rest hand phase is = rw (done_works d o s (t ∷ rest) hand phase is) (record { fixed = refl; hand = refl; phase = refl; rest = refl })
+
+pub done_ends : (d : DriverState) (o : Op) (s : Step) → in_hand d ≡ Some o → d.phase ≡ Work → d.rest ≡ s ∷ [] → Idles d (done d seen.Nothing).driver
+done_ends d o s hand phase is = rw (done_works d o s [] hand phase is) (over_idles d (lots_after_both s.first s.last d.lots))
 
 -- ---- a start
 
-pub record Hands (d : DriverState) (owners : List Owner) : Type 0 where
+pub record Hands (d : DriverState) (owners : List Owner) (w : Went) : Type 0 where
   pub buf : ℕ
   pub to : HartNo
   pub op : in_hand d ≡ Some (ops.Hand buf to)
   pub own : owned d.fixed.me owners (buffer_of d.fixed buf) ≡ Ok tt
-  pub driver : started d owners ≡ record d { phase = Work; rest = mark_step ∷ mail_step buf to ∷ [] }
-  pub transfers : (start_moves d owners).transfers ≡ (buffer_of d.fixed buf, Passing d.fixed.me to) ∷ []
+  pub driver : Works d w.driver (mark_step ∷ mail_step buf to ∷ [])
+  pub transfers : w.moves.transfers ≡ (buffer_of d.fixed buf, Passing d.fixed.me to) ∷ []
 
-pub record StaysIdle (d : DriverState) (owners : List Owner) : Type 0 where
-  pub driver : Idles d (started d owners)
-  pub transfers : (start_moves d owners).transfers ≡ []
-
-started_is : (d : DriverState) (owners : List Owner) (o : Op) → in_hand d ≡ Some o → started d owners ≡ opened d o (tested d owners o)
+started_is : (d : DriverState) (owners : List Owner) (pages : PageMap) (o : Op) → in_hand d ≡ Some o → started d owners pages ≡ started_op d owners pages o
 unfolding started
-started_is d owners o hand = ap (λ (k : Option Op). started_of d owners k) hand
+started_is d owners pages o hand = ap (λ (k : Option Op). started_of d owners pages k) hand
 
-moves_are : (d : DriverState) (owners : List Owner) (o : Op) → in_hand d ≡ Some o → start_moves d owners ≡ opened_moves d o (tested d owners o)
-unfolding start_moves
-moves_are d owners o hand = ap (λ (k : Option Op). start_moves_of d owners k) hand
+-- the start of a hand, by its test
+abbrev pub handed : DriverState → ℕ → HartNo → Result (Unit {0}) Refusal → Went
+handed d buf to r = begun d (ops.Hand buf to) (r >>= λ _. Ok [])
 
-stays_idle : (d : DriverState) (owners : List Owner) (o : Op) → in_hand d ≡ Some o → Idles d (opened d o (tested d owners o)) → (opened_moves d o (tested d owners o)).transfers ≡ [] → StaysIdle d owners
-stays_idle d owners o hand idle none = record {
-  driver = rw (started_is d owners o hand) idle;
-  transfers = ap (λ (m : Moved). m.transfers) (moves_are d owners o hand) ∙ none;
-}
+handed_is : (d : DriverState) (owners : List Owner) (pages : PageMap) (buf : ℕ) (to : HartNo) → started_op d owners pages (ops.Hand buf to) ≡ handed d buf to (owned d.fixed.me owners (buffer_of d.fixed buf))
+unfolding begin meaning handing.hand
+handed_is d owners pages buf to = refl
 
-hand_by : (d : DriverState) (owners : List Owner) (buf : ℕ) (to : HartNo) (r : Result (Unit {0}) Refusal) → in_hand d ≡ Some (ops.Hand buf to) → owned d.fixed.me owners (buffer_of d.fixed buf) ≡ r → StaysIdle d owners ⊎ Hands d owners
-hand_by d owners buf to (Err r) hand is = inl (record {
-  driver = rw (started_is d owners (ops.Hand buf to) hand, is) (over_idles d);
-  transfers = ap (λ (m : Moved). m.transfers) (moves_are d owners (ops.Hand buf to) hand) ∙ ap (λ (k : Result (Unit {0}) Refusal). (opened_moves d (ops.Hand buf to) k).transfers) is;
-})
-hand_by d owners buf to (Ok u) hand is = inr (record {
+-- with no lot there is nothing to wait for
+opened_hand : (d : DriverState) (buf : ℕ) (to : HartNo) → d.lots ≡ [] → handed d buf to (Ok tt) ≡ opened (with_lots d []) (ops.Hand buf to)
+opened_hand d buf to none = ap (λ (lots : List Lot). placed (with_lots d (lots ++ [])) (ops.Hand buf to)) none
+
+open_works : (d : DriverState) (buf : ℕ) (to : HartNo) → Works d (opened (with_lots d []) (ops.Hand buf to)).driver (mark_step ∷ mail_step buf to ∷ [])
+unfolding plan_of opening meaning handing.hand
+open_works d buf to = record { fixed = refl; hand = refl; phase = refl; rest = refl }
+
+open_passes : (d : DriverState) (buf : ℕ) (to : HartNo) → (opened (with_lots d []) (ops.Hand buf to)).moves.transfers ≡ (buffer_of d.fixed buf, Passing d.fixed.me to) ∷ []
+unfolding plan_of opening meaning handing.hand turned
+open_passes d buf to = refl
+
+hand_by : (d : DriverState) (owners : List Owner) (buf : ℕ) (to : HartNo) (r : Result (Unit {0}) Refusal) → d.lots ≡ [] → in_hand d ≡ Some (ops.Hand buf to) → owned d.fixed.me owners (buffer_of d.fixed buf) ≡ r
+    → GoesIdle d (handed d buf to r) [] ⊎ Hands d owners (handed d buf to r)
+hand_by d owners buf to (Err r) none hand is = inl (gives_up d (ops.Hand buf to) r)
+hand_by d owners buf to (Ok u) none hand is = inr (subst (λ (w : Went). Hands d owners w) (sym (opened_hand d buf to none)) (record {
   buf = buf;
   to = to;
   op = hand;
   own = is;
-  driver = started_is d owners (ops.Hand buf to) hand ∙ ap (λ (k : Result (Unit {0}) Refusal). opened d (ops.Hand buf to) k) is;
-  transfers = ap (λ (m : Moved). m.transfers) (moves_are d owners (ops.Hand buf to) hand) ∙ ap (λ (k : Result (Unit {0}) Refusal). (opened_moves d (ops.Hand buf to) k).transfers) is;
-})
-
--- an operation that is no hand has no plan, and its start moves nothing
-pub record HasNoPlan (o : Op) : Type 0 where
-  pub plan : (f : Fixed) → plan_of f o ≡ []
-  pub turn : (f : Fixed) → turned f.me (opening f o) ≡ []
+  driver = open_works d buf to;
+  transfers = open_passes d buf to;
+}))
 
 pub record IsHand (o : Op) : Type 0 where
   pub buf : ℕ
   pub to : HartNo
   pub op : o ≡ ops.Hand buf to
 
-planned : (o : Op) → HasNoPlan o ⊎ IsHand o
-planned (ops.Hand buf to) = inr (record { buf = buf; to = to; op = refl })
-planned _ = inl (record { plan = λ f. refl; turn = λ f. refl })
+-- of the operations that are built a hand alone has a start step
+planned : (o : Op) → is_built_op o ≡ true → (has_start o ≡ false) ⊎ IsHand o
+planned (ops.Hand buf to) built = inr (record { buf = buf; to = to; op = refl })
+planned (ops.Map label buf off len dir chan) built = absurd cc
+planned (ops.Unmap label) built = absurd cc
+planned (ops.ToCpu label) built = absurd cc
+planned (ops.ToDev label) built = absurd cc
+planned (ops.MapSg label entries dir chan) built = absurd cc
+planned (ops.UnmapSg label count) built = absurd cc
+planned (ops.Calloc label pages chan) built = absurd cc
+planned (ops.Cgive label) built = absurd cc
+planned (ops.Ctake label) built = absurd cc
+planned (ops.Cfree label) built = absurd cc
+planned (ops.Copy chan src src_off dst dst_off len cfg) built = absurd cc
+planned _ built = inl refl
 
-opened_idles : (d : DriverState) (o : Op) (r : Result (Unit {0}) Refusal) → HasNoPlan o → Idles d (opened d o r)
-opened_idles d o (Err r) bare = over_idles d
-opened_idles d o (Ok u) bare = rw (bare.plan d.fixed) (over_idles d)
+refused_idles : (d : DriverState) (o : Op) (n : ℕ) (r : Result (Option Step) Refusal) → d.phase ≡ Steps n → GoesIdle d (refused_step d o r) []
+refused_idles d o n (Err r) phase = gives_up d o r
+refused_idles d o n (Ok s) phase = record { driver = record { fixed = refl; count = n; phase = phase }; transfers = refl }
 
-opened_stays : (d : DriverState) (o : Op) (r : Result (Unit {0}) Refusal) → HasNoPlan o → (opened_moves d o r).transfers ≡ []
-opened_stays d o (Err r) bare = refl
-opened_stays d o (Ok u) bare = bare.turn d.fixed
+bare_idles : (d : DriverState) (owners : List Owner) (pages : PageMap) (o : Op) (n : ℕ) → d.phase ≡ Steps n → has_start o ≡ false → GoesIdle d (started_op d owners pages o) []
+bare_idles d owners pages o n phase none = rw none (refused_idles d o n _ phase)
 
-pub start_is : (d : DriverState) (owners : List Owner) (o : Op) → in_hand d ≡ Some o → StaysIdle d owners ⊎ Hands d owners
-start_is d owners o hand = elim (planned o) [
-  | inl bare ↦ inl (stays_idle d owners o hand (opened_idles d o (tested d owners o) bare) (opened_stays d o (tested d owners o) bare))
-  | inr is ↦ hand_by d owners is.buf is.to (owned d.fixed.me owners (buffer_of d.fixed is.buf)) (hand ∙ ap (λ (p : Op). Some p) is.op) refl
-]
+pub start_is : (d : DriverState) (owners : List Owner) (pages : PageMap) (o : Op) (n : ℕ) → d.lots ≡ [] → in_hand d ≡ Some o → d.phase ≡ Steps n → is_built_op o ≡ true
+    → GoesIdle d (started d owners pages) [] ⊎ Hands d owners (started d owners pages)
+start_is d owners pages o n none hand phase built = rw (started_is d owners pages o hand) (elim (planned o built) [
+  | inl bare ↦ inl (bare_idles d owners pages o n phase bare)
+  | inr is ↦ rw (is.op, handed_is d owners pages is.buf is.to) (hand_by d owners is.buf is.to (owned d.fixed.me owners (buffer_of d.fixed is.buf)) none (hand ∙ ap (λ (p : Op). Some p) is.op) refl)
+])

@@ -22,11 +22,11 @@ use Rattle.nc_ops.specs.declared.ops.Op.TheVariants.{Hand}
 use Rattle.nc_scen.specs.declared.scenario.BufferSpec.{BufferSpec}
 use Rattle.nc_scen.specs.declared.scenario.Scenario.{Scenario}
 use Rattle.nc_rules.specs.declared.steps.Phase.{Phase}
-use Rattle.nc_rules.specs.declared.steps.Phase.TheVariants.{Steps, Work}
+use Rattle.nc_rules.specs.declared.steps.Phase.TheVariants.{Steps, Search, Work}
 use Rattle.nc_rules.specs.declared.steps.Step.{Step}
 use Rattle.nc_rules.specs.Machine.{MachineState, queue_of, box_of}
 use Rattle.nc_rules.specs.Sound.{IsMachine}
-use Rattle.nc_rules.specs.Operations.{hart_step}
+use Rattle.nc_rules.specs.Plans.{hart_step}
 use Rattle.nc_rules.specs.Driver.{DriverState, in_hand}
 use Rattle.nc_scripts.specs.Scripts.{IsDriver}
 use Rattle.nc_rules.specs.Start.{fixed_of, hart_spec}
@@ -89,6 +89,7 @@ RestOf rest _ = ⊥
 
 abbrev pub PlanIs : List Step → Phase → Option Op → Type 0
 PlanIs rest (Steps n) o = Unit {0}
+PlanIs rest (Search k) o = ⊥
 PlanIs rest Work None = ⊥
 PlanIs rest Work (Some o) = RestOf rest o
 

@@ -14,7 +14,7 @@ use Rattle.nc_scen.specs.Regions.{IsIn}
 use Rattle.nc_ops.specs.declared.ops.Op.{Op}
 use Rattle.nc_ops.specs.declared.ops.Op.TheVariants.{Hand}
 use Rattle.nc_rules.specs.declared.steps.Phase.{Phase}
-use Rattle.nc_rules.specs.declared.steps.Phase.TheVariants.{Steps, Work}
+use Rattle.nc_rules.specs.declared.steps.Phase.TheVariants.{Steps, Search, Work}
 use Rattle.nc_rules.specs.declared.steps.Step.{Step}
 use Rattle.nc_rules.specs.Driver.{DriverState, in_hand}
 
@@ -46,6 +46,7 @@ pending_op b rest _ = None
 
 abbrev pub pending_in : ℕ → List Step → Phase → Option Op → Option (HartNo × Bool)
 pending_in b rest (Steps n) o = None
+pending_in b rest (Search k) o = None
 pending_in b rest Work None = None
 pending_in b rest Work (Some o) = pending_op b rest o
 
