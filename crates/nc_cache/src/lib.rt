@@ -11,14 +11,14 @@
 #![tactic(auto)]
 
 mod bus;
-mod caches;
+mod directory;
 mod domain;
-mod hart_cache;
 mod laws;
 mod line;
-mod transfers;
+mod slab;mod transfers;
 
 pub use bus::BusList;
+pub use directory::Row;
 pub use domain::Domain;
 pub use laws::{
     bytes_are_seen, calls_keep_places, calls_keep_whole, calls_write_places, inval_drops,
