@@ -1,3 +1,5 @@
 pub mod Follows
 pub mod Alike
 pub mod Views
+pub mod Tilings
+pub mod Cuts
