@@ -1,6 +1,6 @@
 -- A span of places that gets an owner: what lies before and behind it is cut or joined.
-use Rattle.std.proofs.Common.{◌≡◌, ◌≢◌, ◌⊎◌, ℕ, zero, suc, ◌+◌, ◌-◌, ◌<◌, ◌≤◌, Bool, true, false, List, [], ◌∷◌, ◌++◌, length, take, drop, get_or, cond, ltb, min, refl, sym, ap, ◌∙◌, subst, append_assoc, arith, inl, inr}
-use Rattle.std.proofs.lemmas.Bool.{cases_lt, lt-ltb, ltb-false}
+use Rattle.std.proofs.Common.{◌≡◌, ◌≢◌, ◌⊎◌, ℕ, zero, suc, ◌+◌, ◌-◌, ◌<◌, ◌≤◌, true, false, List, [], ◌∷◌, ◌++◌, length, take, drop, get_or, cond, ltb, min, refl, sym, ap, ◌∙◌, subst, append_assoc, arith, inl, inr}
+use Rattle.std.proofs.lemmas.Bool.{cases_lt, lt-ltb}
 use Rattle.std.proofs.lemmas.Bool.Decides.{nat_tests}
 use Rattle.std.proofs.lemmas.List.{take-take, length-drop}
 use Rattle.std.proofs.Math.Seq.{drop-append_seam, take-append_seam, take-append-add}
@@ -11,7 +11,7 @@ use Rattle.nc_model.specs.Owners.{owner_at}
 use Rattle.nc_model.specs.declared.owners.Owner.{Owner}
 use Rattle.nc_own.specs.Tiles.{places, Tile, BeginsOther, Joined, made, run, Found, IsGiven, IsBorder}
 use Rattle.nc_own.specs.declared.intervals.Interval.{Interval}
-use Rattle.nc_own.proofs.Tilings.{places-append, places-take_drop, places-more, places-all, tile-append, tile-take, tile-drop, starts_at, some_at, ends_at, none_of_none, owner_in_front, owner_behind, owner_in_take, owner_in_drop, owner_of_kth}
+use Rattle.nc_own.proofs.Tilings.{places-append, places-take_drop, places-more, tile-append, tile-take, tile-drop, starts_at, ends_at, none_of_none, owner_in_front, owner_behind, owner_in_take, owner_in_drop, owner_of_kth}
 
 -- an interval from one place to another
 pub no_run : (start end : ℕ) (o : Owner) → end ≤ start → run start end o ≡ []
@@ -91,7 +91,7 @@ front_of xs first behind rest le e =
 
 pub turned : {X : Type 0} (xs l m r : List X) (first behind rest : ℕ) → first ≤ behind → behind ≤ length xs → rest ≡ length xs - behind
     → drop rest (((take (rest + first) (drop behind xs ++ take behind xs) ++ l) ++ m) ++ r) ++ take rest (((take (rest + first) (drop behind xs ++ take behind xs) ++ l) ++ m) ++ r)
-      ≡ take first xs ++ (l ++ (m ++ (r ++ drop behind xs)))
+    ≡ take first xs ++ (l ++ (m ++ (r ++ drop behind xs)))
 turned xs l m r first behind rest le le' e =
     let size : length (drop behind xs) ≡ rest = length-drop behind xs ∙ sym e in
     let front : ((take (rest + first) (drop behind xs ++ take behind xs) ++ l) ++ m) ++ r ≡ drop behind xs ++ (take first xs ++ (l ++ (m ++ r))) = rw (front_of xs first behind rest le size) (simp append_assoc) in
@@ -140,7 +140,7 @@ numbers : (xs : List Interval) (span : Span) (owner : Owner) (first last : ℕ) 
 numbers xs span owner first last a b start stop c =
     let a_at : a.span.at ≡ places (take first xs) = omega (arith, ap (λ (i : Interval). i.span.at) c.first_is, starts_at 0 first xs a c.tile c.first_in) in
     let b_end : b.span.at + b.span.len ≡ places (take (suc last) xs) =
-        omega (arith, ap (λ (i : Interval). i.span.at + i.span.len) c.last_is, ends_at last xs b c.tile c.last_in) in
+    omega (arith, ap (λ (i : Interval). i.span.at + i.span.len) c.last_is, ends_at last xs b c.tile c.last_in) in
     let low : (a.span.at ≤ start) × (start ≤ span.at) = low_border _ _ _ _ _ c.left c.before in
     let high : (span.at + span.len ≤ stop) × (stop ≤ b.span.at + b.span.len) = high_border _ _ _ _ _ c.right c.behind in
     record {
@@ -241,7 +241,7 @@ cut_owners xs span owner first last a b start stop c x =
     let n = numbers xs span owner first last a b start stop c in
     elim (cases_lt x a.span.at) [
       | inl lt ↦ outside span owner _ _ x (covers-below span x (omega (arith, c.before)))
-        (owner_in_front 0 (take first xs) _ x (tile-take 0 first xs c.tile) (omega arith) (omega (arith, n.a_at)) ∙ owner_in_take 0 first xs x c.tile (omega arith) (omega (arith, n.a_at)))
+          (owner_in_front 0 (take first xs) _ x (tile-take 0 first xs c.tile) (omega arith) (omega (arith, n.a_at)) ∙ owner_in_take 0 first xs x c.tile (omega arith) (omega (arith, n.a_at)))
       | inr ge ↦ owner_behind 0 (take first xs) _ x (tile-take 0 first xs c.tile) (omega (arith, n.a_at)) ∙ from_a xs span owner first last a b start stop x c n ge
     ]
 
@@ -284,12 +284,12 @@ joined_left xs span owner first last a b start stop c rest i e j =
     let kth : a.owner ≡ (get_or xs first a).owner = ap (λ (k : Interval). k.owner) c.first_is in
     elim c.left [
       | inl same ↦ subst (λ ys. Joined (take first xs ++ ys)) (sym (ap (λ ys. ys ++ i ∷ rest) (no_run a.span.at start a.owner (omega (arith, same.1)))))
-        (joined-take first xs a i rest c.joined c.first_in (e ∙ sym same.0 ∙ kth) j)
+          (joined-take first xs a i rest c.joined c.first_in (e ∙ sym same.0 ∙ kth) j)
       | inr other ↦ elim c.at_front [
         | inl lt ↦ subst (λ ys. Joined (take first xs ++ ys)) (sym (ap (λ ys. ys ++ i ∷ rest) (one_run a.span.at start a.owner (omega (arith, other.1)))))
-          (joined-take first xs a _ (i ∷ rest) c.joined c.first_in kth ((λ f. other.0 (f ∙ e)), j))
+            (joined-take first xs a _ (i ∷ rest) c.joined c.first_in kth ((λ f. other.0 (f ∙ e)), j))
         | inr front ↦ subst (λ k. Joined (take k xs ++ (run a.span.at start a.owner ++ i ∷ rest))) (sym front)
-          (joined-run a.span.at start a.owner (i ∷ rest) j (λ lt f. other.0 (f ∙ e)))
+            (joined-run a.span.at start a.owner (i ∷ rest) j (λ lt f. other.0 (f ∙ e)))
       ]
     ]
 
@@ -344,6 +344,7 @@ found_cut xs span owner ram first last a b start stop t j whole some inside f g 
     none_before ys zero u lt e = refl
     none_before [] (suc k) u lt e = absurd (omega arith)
     none_before (y ∷ ys) (suc k) u lt e = absurd (omega (arith, u.1))
+
     all_before : (ys : List Interval) (k : ℕ) → Tile 0 ys → k < length ys → places ys ≤ places (take (suc k) ys) → length ys ≡ suc k
     all_before ys k u lt e =
         let none : length (drop (suc k) ys) ≡ 0 = none_of_none _ (drop (suc k) ys) (tile-drop 0 (suc k) ys u) (omega (arith, places-take_drop (suc k) ys)) in

@@ -3,3 +3,4 @@ pub mod Alike
 pub mod Views
 pub mod Tilings
 pub mod Cuts
+pub mod Runs

@@ -1,3 +1,3 @@
-pub mod Books
 pub mod Tiles
+pub mod Books
 pub mod Laws

@@ -1,11 +1,9 @@
 -- Intervals of RAM, each with its owner (this project's own).
 use Rattle.std.specs.Prelude.{ℕ, ◌≡◌, ◌≢◌, ◌⊎◌, ◌+◌, ◌-◌, ◌<◌, ◌≤◌, true, List, [], ◌∷◌, length, nat_lt, slice_index_or, if◌then◌else◌}
-use Rattle.std.specs.List.{All}
 use Rattle.nc_num.specs.Places.{covers}
 use Rattle.nc_num.specs.declared.places.Span.{Span}
 use Rattle.nc_model.specs.Owners.{owner_at}
 use Rattle.nc_model.specs.declared.owners.Owner.{Owner}
-use Rattle.nc_own.specs.Books.{owner_in}
 use Rattle.nc_own.specs.declared.intervals.Interval.{Interval}
 
 -- how many places there are in the intervals
@@ -27,14 +25,6 @@ BeginsOther owner (i ∷ is) = owner ≢ i.owner
 abbrev pub Joined : List Interval → Type 0
 Joined [] = Unit {0}
 Joined (i ∷ is) = BeginsOther i.owner is × Joined is
-
--- exactly the intervals of these owners: they cover the places from 0 to the end, ascending and without a gap, none is
--- empty, each place in one has its owner, and neighbours have different owners
-pub record AreIntervals (owners : List Owner) (is : List Interval) : Type 0 where
-  pub ascending : Tile 0 is
-  pub whole : places is ≡ length owners
-  pub owner : All (λ i. (x : ℕ) → covers i.span x ≡ true → owner_in owners x ≡ i.owner) is
-  pub joined : Joined is
 
 -- intervals as transfers
 abbrev pub made : List Interval → List (Span × Owner)

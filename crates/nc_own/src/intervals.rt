@@ -19,7 +19,7 @@ pub struct Interval {
 }
 
 /// The place behind a span.
-fn end_of(span: Span) -> u32
+pub fn end_of(span: Span) -> u32
     requires { span.at + span.len < 2 ^ 32 }
     ensures { result ≡ span.at + span.len }
 {

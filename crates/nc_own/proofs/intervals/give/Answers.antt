@@ -1,4 +1,4 @@
-use Rattle.std.proofs.Common.{◌≡◌, ◌+◌, ◌-◌, ◌≤◌, ◌<◌, ◌++◌, ℕ, suc, length, take, drop, List, min, subst, refl, sym, arith, ◌∙◌, ap}
+use Rattle.std.proofs.Common.{◌≡◌, ◌+◌, ◌-◌, ◌≤◌, ◌<◌, ◌++◌, ℕ, suc, length, take, drop, List, min, subst, sym, arith, ◌∙◌, ap}
 use Rattle.nc_own.specs.Tiles.{Found, run, IsGiven, IsBorder}
 use Rattle.nc_own.specs.declared.intervals.Interval.{Interval}
 use Rattle.nc_own.proofs.Cuts.{IsCut, cut, turned, found_cut, cut_given, cut_order}
@@ -36,7 +36,7 @@ pieces c =
     let middle = run c.border-start.result c.border-stop.result c.args.owner in
     let right = run c.border-stop.result c.end_of-2.result b.owner in
     let front : c.push_run-3.new.intervals.items ≡ ((take (rest + first) (drop behind xs ++ take behind xs) ++ left) ++ middle) ++ right =
-        c.push_run-3.ensures.items ∙ ap (λ z. z ++ right) (c.push_run-2.ensures.items ∙ ap (λ z. z ++ middle) (c.push_run.ensures.items ∙ ap (λ z. z ++ left) (c.truncate.ensures.items ∙ ap (take (rest + first)) c.rotate_left.ensures.items))) in
+    c.push_run-3.ensures.items ∙ ap (λ z. z ++ right) (c.push_run-2.ensures.items ∙ ap (λ z. z ++ middle) (c.push_run.ensures.items ∙ ap (λ z. z ++ left) (c.truncate.ensures.items ∙ ap (take (rest + first)) c.rotate_left.ensures.items))) in
     let order : first ≤ c.find-last.result.0 = cut_order _ _ _ _ _ _ _ _ _ (is_cut c) in
     let last_in : c.find-last.result.0 < length xs = (last_found c).inside in
     let next : behind ≡ suc c.find-last.result.0 = omega arith in

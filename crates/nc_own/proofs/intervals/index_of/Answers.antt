@@ -1,6 +1,5 @@
-use Rattle.std.proofs.Common.{◌≡◌, ◌+◌, ◌-◌, ◌<◌, ◌≤◌, ℕ, suc, true, length, get_or, leb, arith, rules, subst}
+use Rattle.std.proofs.Common.{◌≡◌, ◌-◌, ◌≤◌, suc, leb, arith, rules, subst}
 use Rattle.std.proofs.lemmas.List.Sorted.{IsPartitionPoint-from_clause, IsPartitionedBy-leb}
-use Rattle.nc_num.specs.Places.{covers}
 use Rattle.nc_own.specs.declared.intervals.Interval.{Interval}
 use Rattle.nc_own.proofs.Tilings.{IsPoint, starts_rise, point_some, point_has}
 use Rattle.nc_own.proofs.intervals.index_of.Goals as goal

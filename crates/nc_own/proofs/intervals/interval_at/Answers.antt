@@ -1,4 +1,3 @@
-use Rattle.std.proofs.Common.{arith}
 use Rattle.nc_own.proofs.Tilings.{kth_has}
 use Rattle.nc_own.proofs.intervals.interval_at.Goals as goal
 
