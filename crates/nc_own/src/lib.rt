@@ -8,8 +8,10 @@
 
 mod book;
 mod finds;
+mod intervals;
 mod laws;
 
 pub use book::Book;
+pub use intervals::Interval;
 pub use laws::{book_is_transfers, same_touches};
 pub use nc_model::{Access, Actor, Grant, Owner, Touch, TouchKind};
