@@ -15,7 +15,8 @@ mod directory;
 mod domain;
 mod laws;
 mod line;
-mod slab;mod transfers;
+mod slab;
+mod transfers;
 
 pub use bus::BusList;
 pub use directory::Row;
