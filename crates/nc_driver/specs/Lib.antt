@@ -1,4 +1,3 @@
-pub mod Shown
 pub mod Kept
 pub mod Rests
 pub mod Safe

@@ -16,13 +16,13 @@ ghost use Rattle.nc_scripts.specs.Scripts.{is_act};
 ghost use Rattle.nc_driver.specs.Kept.{IsKept};
 ghost use Rattle.nc_driver.specs.Rests.{is_nil, is_more};
 ghost use Rattle.nc_driver.specs.Safe.{IsSafe, IsShort};
-ghost use Rattle.nc_driver.specs.Shown.{seen_as};
+ghost use Rattle.nc_moves.specs.Shown.{seen_as};
 
 use crate::checks::start_checks;
-use crate::moves::Moves;
 use crate::setup::Setup;
 use crate::turns::{busy, good_answer, has_start, opening, plan_of};
 use nc_coherent::PagePool;
+use nc_moves::Moves;
 use nc_num::{HartNo, NoMemory};
 use nc_own::Book;
 use nc_rules::{Act, Next, Phase, Refusal, Seen, Step, Turn};
@@ -122,18 +122,18 @@ impl Driver {
     {
         let alloc = self.alloc;
         let Some(op) = self.in_hand() else {
-            return Ok(Moves::answer(None));
+            return Ok(Moves::answer(self.alloc, None));
         };
         match self.tested(book, op) {
             Ok(()) => {
                 let plan = plan_of(alloc, op)?;
-                let moves = self.opened(op, &plan);
+                let moves = self.opened(op, &plan)?;
                 self.go(plan);
                 Ok(moves)
             }
             Err(refusal) => {
                 self.close();
-                Ok(Moves::refusal(refusal))
+                Ok(Moves::refusal(self.alloc, refusal))
             }
         }
     }
@@ -147,7 +147,7 @@ impl Driver {
         ensures err { OnErr result (self.new ≡ self.old) }
     {
         let _got = got;
-        Ok(Moves::answer(None))
+        Ok(Moves::answer(self.alloc, None))
     }
 
     /// Tells what a step saw that the machine made: `Claimed` or `Busy` of a claim, `Control` of a poll, `Value` of a
@@ -161,13 +161,13 @@ impl Driver {
         ensures err { OnErr result (self.new ≡ self.old) }
     {
         let Some(op) = self.in_hand() else {
-            return Ok(Moves::answer(None));
+            return Ok(Moves::answer(self.alloc, None));
         };
         if let Some(refusal) = busy(seen) {
             self.close();
-            return Ok(Moves::refusal(refusal));
+            return Ok(Moves::refusal(self.alloc, refusal));
         }
-        let moves = self.moved(op, seen);
+        let moves = self.moved(op, seen)?;
         self.advance();
         Ok(moves)
     }
@@ -228,22 +228,27 @@ impl Driver {
     }
 
     /// What the start of an operation changes, before this plan.
-    fn opened(&self, op: &Op, plan: &VecDeque<Step>) -> Moves
-        ensures { seen_as result ≡ moved (turned self.now.fixed.me (rules.opening self.now.fixed op.now)) (due.answered op.now seens.Nothing plan.now.items) }
+    fn opened(&self, op: &Op, plan: &VecDeque<Step>) -> Result<Moves, NoMemory>
+        ensures { IfOk result (λ m. seen_as m ≡ moved (turned self.now.fixed.me (rules.opening self.now.fixed op.now)) (due.answered op.now seens.Nothing plan.now.items)) }
     {
         let answer = if plan.is_empty() {
             good_answer(op, Seen::Nothing)
         } else {
             None
         };
-        Moves::turn(self.setup.me(), opening(&self.setup, op), answer)
+        Moves::turn(
+            self.alloc,
+            self.setup.me(),
+            opening(&self.setup, op),
+            answer,
+        )
     }
 
     /// What a step changes, once it is made.
-    fn moved(&self, op: &Op, seen: Seen) -> Moves
+    fn moved(&self, op: &Op, seen: Seen) -> Result<Moves, NoMemory>
         requires short { IsShort op.now }
         requires next { is_act (due.next_in self.now op.now self.now.phase) ≡ true }
-        ensures { seen_as result ≡ due.done_moves_in self.now op.now seen self.now.phase }
+        ensures { IfOk result (λ m. seen_as m ≡ due.done_moves_in self.now op.now seen self.now.phase) }
     {
         match self.phase {
             Phase::Steps(n) => self.step_moved(op, n, seen),
@@ -252,32 +257,37 @@ impl Driver {
     }
 
     /// What step n changes, once it is made.
-    fn step_moved(&self, op: &Op, n: u32, seen: Seen) -> Moves
+    fn step_moved(&self, op: &Op, n: u32, seen: Seen) -> Result<Moves, NoMemory>
         requires short { IsShort op.now }
         requires small { n + 1 < 2 ^ 32 }
-        ensures { seen_as result ≡ due.done_moves_in self.now op.now seen (Steps n) }
+        ensures { IfOk result (λ m. seen_as m ≡ due.done_moves_in self.now op.now seen (Steps n)) }
     {
         let setup = self.setup();
         let answer = match setup.step_at(op, n + 1) {
             Ok(None) => good_answer(op, seen),
             Ok(Some(_)) | Err(_) => None,
         };
-        Moves::turn(setup.me(), turn_of(setup.step_at(op, n)), answer)
+        Moves::turn(
+            self.alloc,
+            setup.me(),
+            turn_of(setup.step_at(op, n)),
+            answer,
+        )
     }
 
     /// What the first step of the rest changes, once it is made.
-    fn rest_moved(&self, op: &Op, seen: Seen) -> Moves
-        ensures { seen_as result ≡ due.rest_moves self.now op.now seen self.now.rest }
+    fn rest_moved(&self, op: &Op, seen: Seen) -> Result<Moves, NoMemory>
+        ensures { IfOk result (λ m. seen_as m ≡ due.rest_moves self.now op.now seen self.now.rest) }
     {
         let Some(step) = self.rest.front() else {
-            return Moves::answer(None);
+            return Ok(Moves::answer(self.alloc, None));
         };
         let answer = if self.is_last() {
             good_answer(op, seen)
         } else {
             None
         };
-        Moves::turn(self.setup.me(), step.turn, answer)
+        Moves::turn(self.alloc, self.setup.me(), step.turn, answer)
     }
 
     /// The rest is one step, or none.

@@ -33,7 +33,7 @@ use Rattle.nc_pte.specs.Words.{IsPteWord}
 use Rattle.nc_coherent.specs.Pages.{PageMap}
 use Rattle.nc_rules.specs.declared.lots.Lot.{Lot}
 use Rattle.nc_rules.specs.Lots.{Fixed}
-use Rattle.nc_rules.specs.Turns.{moved, lots_after, lots_after_both, turned, given_up, without_wanted}
+use Rattle.nc_rules.specs.Turns.{moved, lots_after, lots_after_both, turned, turned_by, given_up, without_wanted}
 use Rattle.nc_rules.specs.Plans.{hart_step}
 use Rattle.nc_rules.specs.Refusals.{◌>>=◌, owned, buffer_of}
 use Rattle.nc_rules.specs.Handing.{hand_steps}
@@ -132,7 +132,7 @@ two_there ram r s o p a h k = record { inside = All-cons (InRam ram) (r, o) ((s,
 
 -- no turn of a step that is built touches a lot
 pub turned_there : (ram : ℕ) (f : Fixed) (lots : List Lot) (t u : Turn) (a : Option Answer) → TurnIsThere ram t → TurnIsThere ram u → AreThere ram (turned f lots t u a)
-unfolding turned
+unfolding turned_by
 turned_there ram f lots turns.Stay turns.Stay a h k = none_there ram a
 turned_there ram f lots turns.Stay (turns.Pass range to) a h k = one_there ram range (owners.Passing f.me to) a k
 turned_there ram f lots turns.Stay (turns.Own range) a h k = one_there ram range (owners.Thread f.me) a k

@@ -8,9 +8,9 @@ ghost use Rattle.nc_rules.specs.Events.{is_over, is_idle_step};
 ghost use Rattle.nc_calls.specs.MachineLaws.{SameShape};
 ghost use Rattle.nc_rules.specs.Next.{seen_of, step_seen, step_machine};
 ghost use Rattle.nc_rules.specs.Sound.{IsMachine, IsBlockIn, EntryIsThere};
-ghost use Rattle.nc_world.specs.Logs.{HasPlace, EntryHasPlace};
+ghost use Rattle.nc_log.specs.Logs.{HasPlace, EntryHasPlace, ActedHasPlaces};
 ghost use Rattle.nc_world.specs.Looks.{IsTransactionIn};
-ghost use Rattle.nc_world.specs.Steps.{OpFits, NextFits, CanAct, acted, ActedHasPlaces};
+ghost use Rattle.nc_world.specs.Steps.{OpFits, NextFits, CanAct, acted};
 
 use nc_cache::BusList;
 use nc_calls::calls_keep_shape;

@@ -23,12 +23,11 @@ ghost use Rattle.nc_world.specs.Shown.{answer};
 ghost use Rattle.nc_world.specs.State.{IsWorld};
 ghost use Rattle.nc_world.specs.Steps.{NextFits};
 
-use crate::log::Log;
-use crate::records::RecordList;
 use crate::{acts, setup, steps};
 use nc_coherent::PagePool;
 use nc_driver::Driver;
 use nc_env::CboOp;
+use nc_log::{Log, RecordList};
 use nc_machine::Machine;
 use nc_num::{Block, Bytes, ChanNo, HartNo, MemType, NoMemory, Span};
 use nc_own::{Access, Actor, Book, Touch};

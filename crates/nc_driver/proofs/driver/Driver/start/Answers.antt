@@ -11,16 +11,16 @@ go-requires-clause-kept c =
     let kept = subst (λ (d : DriverState). IsKept d) c.self.view_is c.self.invariant in
     rw (c.in_ok-plan-in-Ok.ensures c.args.self.now.fixed) (plan_kept c.args.self.now c.in-Some.op.now kept c.in-Some.ensures.op)
 
-pub returns-in_ok-plan-in-Ok-clause-driver : goal.returns-in_ok-plan-in-Ok-clause-driver
-returns-in_ok-plan-in-Ok-clause-driver c =
+pub returns-in_ok-moves-in-Ok-clause-driver : goal.returns-in_ok-moves-in-Ok-clause-driver
+returns-in_ok-moves-in-Ok-clause-driver c =
     c.go.ensures
     ∙ (ap (went c.args.self.now) (c.in_ok-plan-in-Ok.ensures c.args.self.now.fixed)
     ∙ sym (started_on c.args.self.now c.args.book.now.owners c.in-Some.op.now _ c.in-Some.ensures.op (sym c.in-Ok.ensures)))
 
-pub returns-in_ok-plan-in-Ok-clause-moves : goal.returns-in_ok-plan-in-Ok-clause-moves
-returns-in_ok-plan-in-Ok-clause-moves c =
+pub returns-in_ok-moves-in-Ok-clause-moves : goal.returns-in_ok-moves-in-Ok-clause-moves
+returns-in_ok-moves-in-Ok-clause-moves c =
     let f = c.args.self.now.fixed in
     let o = c.in-Some.op.now in
-    c.opened-moves.ensures
+    c.in_ok-moves-in-Ok.ensures
     ∙ (ap (λ p. moved (turned f.me (opening f o)) (answered o seens.Nothing p)) (c.in_ok-plan-in-Ok.ensures f)
     ∙ sym (start_moved c.args.self.now c.args.book.now.owners o _ c.in-Some.ensures.op (sym c.in-Ok.ensures)))

@@ -15,10 +15,11 @@ use Rattle.nc_rules.specs.Next.{step_touch}
 use Rattle.nc_scripts.specs.Scripts.{IsRangeIn}
 use Rattle.nc_rules.specs.Told.{touch_told, moves_told, told}
 use Rattle.nc_rules.specs.World.{driver_of}
-use Rattle.nc_driver.specs.Shown.{seen_as}
+use Rattle.nc_moves.specs.Shown.{seen_as}
+use Rattle.nc_log.specs.Logs.{acted_told}
 use Rattle.nc_world.specs.Inside.{state_of}
 use Rattle.nc_world.specs.Shown.{Shown}
-use Rattle.nc_world.specs.Steps.{NextFits, went_on, moves_on, acted, acted_told}
+use Rattle.nc_world.specs.Steps.{NextFits, went_on, moves_on, acted}
 use Rattle.nc_world.proofs.Kept.{moves_inside, world_on}
 use Rattle.nc_world.proofs.Parts.{going, joined, told_on, act_told_is, step_moves_is}
 use Rattle.nc_world.proofs.world.World.go_on.Goals as goal

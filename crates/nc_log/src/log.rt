@@ -1,37 +1,35 @@
-//! The records of a world, with room for those of one event.
+//! Records, with room for those of one event.
 
 ghost use Rattle.std.specs.Prelude.{◌≡◌, ◌≤◌, ◌<◌, ◌+◌, ◌*◌, ◌^◌, ◌++◌, [], ◌∷◌, length, All, OnOk};
 ghost use Rattle.nc_hart.specs.Issue.{cut as cut_of};
 ghost use Rattle.nc_rules.specs.Told as rules;
-ghost use Rattle.nc_driver.specs.Shown.{seen_as};
-ghost use Rattle.nc_world.specs.Logs.{HasPlace, OpHasPlace, IssuedHasPlaces, EntryHasPlace, payload_told, loaded_told, fence_told, issued_told};
-ghost use Rattle.nc_world.specs.Steps.{NextHasPlace, ActedHasPlaces, acted_told};
+ghost use Rattle.nc_moves.specs.Shown.{seen_as};
+ghost use Rattle.nc_log.specs.Logs.{HasPlace, OpHasPlace, NextHasPlace, IssuedHasPlaces, ActedHasPlaces, EntryHasPlace, payload_told, loaded_told, fence_told, issued_told, acted_told};
 
 use crate::records::RecordList;
 use nc_cache::{BusRec, Origin};
-use nc_driver::Moves;
-use nc_machine::Issued;
 use nc_model::{Owner, Touch};
+use nc_moves::Moves;
 use nc_num::{Block, Bytes, ChanNo, HartNo, NoMemory, Place, Span};
 use nc_pdma::ChanStep;
 use nc_plan::{HartOp, IoTarget, Payload};
 use nc_queue::Entry;
-use nc_rules::{Answer, Next, Record};
+use nc_rules::{Answer, Issued, Next, Record};
 use std::alloc::Global;
 use std::marker::Model;
 
 /// More than one event records.
-const ROOM: usize = 64;
+const ROOM: usize = 96;
 
 /// Records, in order. Contracts see them, and for how many more there is room.
 #[derive(Drop)]
-pub(crate) struct Log {
+pub struct Log {
     items: Vec<Record>,
 }
 
 impl Model for Log {
     ghost use Rattle.std.specs.Prelude.{◌-◌, vec_len, vec_capacity};
-    ghost use Rattle.nc_world.specs.Logs.{LogShown};
+    ghost use Rattle.nc_log.specs.Logs.{LogShown};
 
     ghost Value = { LogShown };
 
@@ -40,7 +38,7 @@ impl Model for Log {
 
 impl Log {
     /// No records.
-    pub(crate) fn new(alloc: Global) -> Log
+    pub fn new(alloc: Global) -> Log
         ensures { result.records ≡ [] }
     {
         Log {
@@ -49,8 +47,8 @@ impl Log {
     }
 
     /// Makes room for the records of one event.
-    pub(crate) fn reserve(&mut self) -> Result<(), NoMemory>
-        ensures room { OnOk result (64 ≤ self.new.room) }
+    pub fn reserve(&mut self) -> Result<(), NoMemory>
+        ensures room { OnOk result (96 ≤ self.new.room) }
         ensures records { self.new.records ≡ self.old.records }
     {
         self.items.reserve(ROOM)?;
@@ -58,14 +56,14 @@ impl Log {
     }
 
     /// The records, in order.
-    pub(crate) fn as_slice(&self) -> &[Record]
+    pub fn as_slice(&self) -> &[Record]
         ensures { result.now ≡ self.now.records }
     {
         &self.items
     }
 
     /// Hands the records over, and leaves none.
-    pub(crate) fn take(&mut self) -> RecordList
+    pub fn take(&mut self) -> RecordList
         ensures taken { result ≡ self.old.records }
         ensures none { self.new.records ≡ [] }
     {
@@ -74,14 +72,14 @@ impl Log {
     }
 
     /// Drops the records; the room for them stays.
-    pub(crate) fn clear(&mut self)
+    pub fn clear(&mut self)
         ensures { self.new.records ≡ [] }
     {
         self.items.clear();
     }
 
     /// One more record.
-    pub(crate) fn push(&mut self, entry: &Record)
+    pub fn push(&mut self, entry: &Record)
         requires room { 1 ≤ self.old.room }
         ensures records { self.new.records ≡ self.old.records ++ entry.now ∷ [] }
         ensures room { self.old.room ≤ self.new.room + 1 }
@@ -94,7 +92,7 @@ impl Log {
     }
 
     /// A touch, where there is one.
-    pub(crate) fn touch(&mut self, touch: Option<Touch>)
+    pub fn touch(&mut self, touch: Option<Touch>)
         requires room { 1 ≤ self.old.room }
         ensures records { self.new.records ≡ self.old.records ++ rules.touch_told touch }
         ensures room { self.old.room ≤ self.new.room + 1 }
@@ -105,7 +103,7 @@ impl Log {
     }
 
     /// Transfers on the bus.
-    pub(crate) fn transfers(&mut self, size: u32, bus: &[BusRec])
+    pub fn transfers(&mut self, size: u32, bus: &[BusRec])
         requires places { All (HasPlace size) bus.now }
         requires room { length bus.now ≤ self.old.room }
         ensures records { self.new.records ≡ self.old.records ++ rules.transfers_told size bus.now }
@@ -117,7 +115,7 @@ impl Log {
     }
 
     /// The machine's part of a step, by its answer.
-    pub(crate) fn acted(
+    pub fn acted(
         &mut self,
         size: u32,
         h: HartNo,
@@ -187,7 +185,7 @@ impl Log {
     }
 
     /// An entry that left hart h's queue.
-    pub(crate) fn drained(&mut self, size: u32, h: HartNo, e: &Entry)
+    pub fn drained(&mut self, size: u32, h: HartNo, e: &Entry)
         requires place { EntryHasPlace size e.now }
         requires room { 1 ≤ self.old.room }
         ensures records { self.new.records ≡ self.old.records ++ rules.entry_told size h e.now ∷ [] }
@@ -197,7 +195,7 @@ impl Log {
     }
 
     /// Changes of owners.
-    pub(crate) fn owners(&mut self, transfers: &[(Span, Owner)])
+    pub fn owners(&mut self, transfers: &[(Span, Owner)])
         requires room { length transfers.now ≤ self.old.room }
         ensures records { self.new.records ≡ self.old.records ++ rules.owners_told transfers.now }
         ensures room { self.old.room ≤ self.new.room + length transfers.now }
@@ -211,7 +209,7 @@ impl Log {
     }
 
     /// The answer of operation n, where there is one.
-    pub(crate) fn answer(&mut self, h: HartNo, n: u32, answer: Option<Answer>)
+    pub fn answer(&mut self, h: HartNo, n: u32, answer: Option<Answer>)
         requires room { 1 ≤ self.old.room }
         ensures records { self.new.records ≡ self.old.records ++ rules.answered h n answer }
     {
@@ -225,7 +223,7 @@ impl Log {
     }
 
     /// What a driver's call moves, with the answer of operation n.
-    pub(crate) fn moves(&mut self, h: HartNo, n: u32, moves: &Moves)
+    pub fn moves(&mut self, h: HartNo, n: u32, moves: &Moves)
         requires room { 35 ≤ self.old.room }
         ensures records { self.new.records ≡ self.old.records ++ rules.moves_told h n (seen_as moves.now) }
     {
@@ -234,7 +232,7 @@ impl Log {
     }
 
     /// A channel's read.
-    pub(crate) fn chan_read(&mut self, chan: ChanNo, step: &ChanStep)
+    pub fn chan_read(&mut self, chan: ChanNo, step: &ChanStep)
         requires room { 2 ≤ self.old.room }
         ensures records { self.new.records ≡ self.old.records ++ rules.read_told chan step.now }
     {
@@ -254,7 +252,7 @@ impl Log {
     }
 
     /// A channel's write.
-    pub(crate) fn chan_write(&mut self, chan: ChanNo, step: &ChanStep)
+    pub fn chan_write(&mut self, chan: ChanNo, step: &ChanStep)
         requires room { 2 ≤ self.old.room }
         ensures records { self.new.records ≡ self.old.records ++ rules.write_told chan step.now }
     {

@@ -1,6 +1,6 @@
 use Rattle.std.proofs.Common.{◌≡◌, ◌≤◌, ◌+◌, ◌++◌, drop}
 use Rattle.nc_rules.specs.Told.{transfers_told}
-use Rattle.nc_world.proofs.log.Log.transfers.Given as goal
+use Rattle.nc_log.proofs.log.Log.transfers.Given as goal
 
 abbrev pub invariant-loop-transfer : goal.invariant-loop-transfer
 invariant-loop-transfer l = record {

@@ -1,6 +1,6 @@
 use Rattle.std.proofs.Common.{◌≡◌, ◌≤◌, ◌+◌, ◌++◌, drop}
 use Rattle.nc_rules.specs.Told.{owners_told}
-use Rattle.nc_world.proofs.log.Log.owners.Given as goal
+use Rattle.nc_log.proofs.log.Log.owners.Given as goal
 
 abbrev pub invariant-loop-span : goal.invariant-loop-span
 invariant-loop-span l = record {
