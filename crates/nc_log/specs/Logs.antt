@@ -5,17 +5,14 @@ use Rattle.nc_cache.specs.declared.line.BusRec.{BusRec}
 use Rattle.nc_cache.specs.declared.line.BusRec.TheVariants as bus
 use Rattle.nc_plan.specs.declared.ops.HartOp.{HartOp}
 use Rattle.nc_plan.specs.declared.ops.HartOp.TheVariants.{Load, Store, Cbo, Fence, IoLoad, IoStore, Mark}
-use Rattle.nc_plan.specs.declared.ops.Payload.{Payload}
-use Rattle.nc_plan.specs.declared.ops.Payload.TheVariants.{Given, Last}
+use Rattle.nc_hart.specs.Issue.{payload}
 use Rattle.nc_queue.specs.declared.entry.Entry.{Entry}
 use Rattle.nc_queue.specs.declared.entry.Entry.TheVariants as entries
 use Rattle.nc_rules.specs.declared.answers.Issued.{Issued}
 use Rattle.nc_rules.specs.declared.answers.Issued.TheVariants.{Loaded, Queued, Passed, Value}
 use Rattle.nc_rules.specs.declared.records.Record.{Record}
 use Rattle.nc_rules.specs.declared.records.Record.TheVariants as records
-use Rattle.nc_rules.specs.declared.steps.Next.{Next}
-use Rattle.nc_rules.specs.declared.steps.Next.TheVariants as nexts
-use Rattle.nc_rules.specs.Told.{start_of, transfers_told, load_told, store_told, mark_told}
+use Rattle.nc_rules.specs.Records.{start_of, transfer_records, load_record, store_record, mark_record}
 
 -- the records, and for how many more there is room
 pub record LogShown : Type 0 where
@@ -33,33 +30,29 @@ block_of (bus.Drop h b) = b.0
 abbrev pub HasPlace : ℕ → BusRec → Type 0
 HasPlace size t = size * block_of t < 2 ^ 32
 
-abbrev pub payload_told : Bool → HartNo → ℕ → Payload → List Record
-payload_told by_script h at (Given bytes) = store_told by_script h at bytes ∷ []
-payload_told by_script h at Last = []
-
 -- a load, by its answer
-abbrev pub loaded_told : ℕ → HartNo → Bool → ℕ → Issued → List Record
-loaded_told size h by_script at (Loaded bytes bus) = transfers_told size bus ++ load_told by_script h at bytes ∷ []
-loaded_told size h by_script at Queued = []
-loaded_told size h by_script at Passed = []
-loaded_told size h by_script at (Value value) = []
+abbrev pub loaded_records : ℕ → HartNo → Bool → ℕ → Issued → List Record
+loaded_records size h by_script at (Loaded bytes bus) = transfer_records size bus ++ load_record by_script h at bytes ∷ []
+loaded_records size h by_script at Queued = []
+loaded_records size h by_script at Passed = []
+loaded_records size h by_script at (Value value) = []
 
 -- a fence, by its answer
-abbrev pub fence_told : HartNo → ℕ → ℕ → Issued → Record
-fence_told h pred succ Queued = mark_told h pred succ
-fence_told h pred succ (Loaded bytes bus) = records.Fence h pred succ
-fence_told h pred succ Passed = records.Fence h pred succ
-fence_told h pred succ (Value value) = records.Fence h pred succ
+abbrev pub fence_record : HartNo → ℕ → ℕ → Issued → Record
+fence_record h pred succ Queued = mark_record h pred succ
+fence_record h pred succ (Loaded bytes bus) = records.Fence h pred succ
+fence_record h pred succ Passed = records.Fence h pred succ
+fence_record h pred succ (Value value) = records.Fence h pred succ
 
--- an operation, by its answer
-abbrev pub issued_told : ℕ → HartNo → Bool → HartOp → Issued → List Record
-issued_told size h by_script (Load span kind) i = loaded_told size h by_script span.at i
-issued_told size h by_script (Store span kind bytes) i = payload_told by_script h span.at bytes
-issued_told size h by_script (Cbo op block) i = records.Cbo h op (start_of size block.0) ∷ []
-issued_told size h by_script (Fence pred succ) i = fence_told h pred succ i ∷ []
-issued_told size h by_script (IoLoad chan off width) i = []
-issued_told size h by_script (IoStore target) i = records.Io h target ∷ []
-issued_told size h by_script (Mark pred succ) i = mark_told h pred succ ∷ []
+-- an operation of a hart whose last load gave these bytes, by its answer
+abbrev pub issued_records : ℕ → HartNo → Bool → HartOp → List ℕ → Issued → List Record
+issued_records size h by_script (Load span kind) last i = loaded_records size h by_script span.at i
+issued_records size h by_script (Store span kind bytes) last i = store_record by_script h span.at (payload last bytes) ∷ []
+issued_records size h by_script (Cbo op block) last i = records.Cbo h op (start_of size block.0) ∷ []
+issued_records size h by_script (Fence pred succ) last i = fence_record h pred succ i ∷ []
+issued_records size h by_script (IoLoad chan off width) last i = []
+issued_records size h by_script (IoStore target) last i = records.Io h target ∷ []
+issued_records size h by_script (Mark pred succ) last i = mark_record h pred succ ∷ []
 
 -- the blocks that it names start at places
 abbrev pub IssuedHasPlaces : ℕ → Issued → Type 0
@@ -85,33 +78,3 @@ EntryHasPlace size (entries.Reg chan off width value) = Unit {0}
 EntryHasPlace size (entries.Mail buf to) = Unit {0}
 EntryHasPlace size (entries.Lend label first count) = Unit {0}
 EntryHasPlace size (entries.Mark pred succ) = Unit {0}
-
--- ---- a driver's step, by the machine's answer where it has one
-
-abbrev pub op_acted_told : ℕ → HartNo → Bool → HartOp → Option Issued → List Record
-op_acted_told size h by_script op None = []
-op_acted_told size h by_script op (Some i) = issued_told size h by_script op i
-
--- what is recorded of it
-abbrev pub acted_told : ℕ → HartNo → Bool → Next → Option Issued → List Record
-acted_told size h by_script (nexts.Op op) i = op_acted_told size h by_script op i
-acted_told size h by_script nexts.End i = []
-acted_told size h by_script nexts.Start i = []
-acted_told size h by_script (nexts.Search k) i = []
-acted_told size h by_script (nexts.Claim chan) i = []
-acted_told size h by_script (nexts.Poll chan) i = []
-acted_told size h by_script (nexts.Take buf) i = []
-
--- the blocks that this names start at places
-abbrev pub ActedHasPlaces : ℕ → Option Issued → Type 0
-ActedHasPlaces size None = Unit {0}
-ActedHasPlaces size (Some i) = IssuedHasPlaces size i
-
-abbrev pub NextHasPlace : ℕ → Next → Type 0
-NextHasPlace size (nexts.Op op) = OpHasPlace size op
-NextHasPlace size nexts.End = Unit {0}
-NextHasPlace size nexts.Start = Unit {0}
-NextHasPlace size (nexts.Search k) = Unit {0}
-NextHasPlace size (nexts.Claim chan) = Unit {0}
-NextHasPlace size (nexts.Poll chan) = Unit {0}
-NextHasPlace size (nexts.Take buf) = Unit {0}

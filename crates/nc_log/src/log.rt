@@ -1,10 +1,10 @@
 //! Records, with room for those of one event.
 
 ghost use Rattle.std.specs.Prelude.{◌≡◌, ◌≤◌, ◌<◌, ◌+◌, ◌*◌, ◌^◌, ◌++◌, [], ◌∷◌, length, All, OnOk};
-ghost use Rattle.nc_hart.specs.Issue.{cut as cut_of};
-ghost use Rattle.nc_rules.specs.Told as rules;
+ghost use Rattle.nc_hart.specs.Issue.{cut as cut_of, payload};
+ghost use Rattle.nc_rules.specs.Records as rules;
 ghost use Rattle.nc_moves.specs.Shown.{seen_as};
-ghost use Rattle.nc_log.specs.Logs.{HasPlace, OpHasPlace, NextHasPlace, IssuedHasPlaces, ActedHasPlaces, EntryHasPlace, payload_told, loaded_told, fence_told, issued_told, acted_told};
+ghost use Rattle.nc_log.specs.Logs.{HasPlace, OpHasPlace, IssuedHasPlaces, EntryHasPlace, loaded_records, fence_record, issued_records};
 
 use crate::records::RecordList;
 use nc_cache::{BusRec, Origin};
@@ -14,7 +14,8 @@ use nc_num::{Block, Bytes, ChanNo, HartNo, NoMemory, Place, Span};
 use nc_pdma::ChanStep;
 use nc_plan::{HartOp, IoTarget, Payload};
 use nc_queue::Entry;
-use nc_rules::{Answer, Issued, Next, Record};
+use nc_rules::{Answer, Issued, Record, ToldAnswer};
+use nc_slots::TryAnswer;
 use std::alloc::Global;
 use std::marker::Model;
 
@@ -94,7 +95,7 @@ impl Log {
     /// A touch, where there is one.
     pub fn touch(&mut self, touch: Option<Touch>)
         requires room { 1 ≤ self.old.room }
-        ensures records { self.new.records ≡ self.old.records ++ rules.touch_told touch }
+        ensures records { self.new.records ≡ self.old.records ++ rules.touch_records touch }
         ensures room { self.old.room ≤ self.new.room + 1 }
     {
         if let Some(touch) = touch {
@@ -106,57 +107,47 @@ impl Log {
     pub fn transfers(&mut self, size: u32, bus: &[BusRec])
         requires places { All (HasPlace size) bus.now }
         requires room { length bus.now ≤ self.old.room }
-        ensures records { self.new.records ≡ self.old.records ++ rules.transfers_told size bus.now }
+        ensures records { self.new.records ≡ self.old.records ++ rules.transfer_records size bus.now }
         ensures room { self.old.room ≤ self.new.room + length bus.now }
     {
         for transfer in bus {
-            self.push(&transfer_told(size, transfer));
+            self.push(&transfer_record(size, transfer));
         }
     }
 
-    /// The machine's part of a step, by its answer.
-    pub fn acted(
+    /// An operation that hart h issued, by the machine's answer; `last` are the bytes of the hart's last load.
+    pub fn issued(
         &mut self,
         size: u32,
         h: HartNo,
         by_script: bool,
-        next: &Next,
-        acted: &Option<Issued>,
+        op: &HartOp,
+        last: &Bytes,
+        issued: &Issued,
     )
-        requires block { NextHasPlace size next.now }
-        requires places { ActedHasPlaces size acted.now }
-        requires room { 7 ≤ self.old.room }
-        ensures records { self.new.records ≡ self.old.records ++ acted_told size h by_script next.now acted.now }
-        ensures room { self.old.room ≤ self.new.room + 7 }
-    {
-        if let (Next::Op(op), Some(issued)) = (next, acted) {
-            self.issued(size, h, by_script, op, issued);
-        }
-    }
-
-    /// An operation that hart h issued, by the machine's answer.
-    fn issued(&mut self, size: u32, h: HartNo, by_script: bool, op: &HartOp, issued: &Issued)
         requires block { OpHasPlace size op.now }
         requires places { IssuedHasPlaces size issued.now }
         requires room { 7 ≤ self.old.room }
-        ensures records { self.new.records ≡ self.old.records ++ issued_told size h by_script op.now issued.now }
+        ensures records { self.new.records ≡ self.old.records ++ issued_records size h by_script op.now last.now issued.now }
         ensures room { self.old.room ≤ self.new.room + 7 }
     {
         match op {
             HartOp::Load { span, .. } => self.loaded(size, h, by_script, Place(span.at), issued),
-            HartOp::Store { span, bytes, .. } => self.stored(h, by_script, Place(span.at), bytes),
+            HartOp::Store { span, bytes, .. } => {
+                self.stored(h, by_script, Place(span.at), bytes, last);
+            }
             HartOp::Cbo { op, block } => self.push(&Record::Cbo {
                 hart: h,
                 op: *op,
                 at: start_of(size, *block),
             }),
-            HartOp::Fence { pred, succ } => self.push(&fence_told(h, *pred, *succ, issued)),
+            HartOp::Fence { pred, succ } => self.push(&fence_record(h, *pred, *succ, issued)),
             HartOp::IoLoad { .. } => {}
             HartOp::IoStore(target) => self.push(&Record::Io {
                 hart: h,
                 target: *target,
             }),
-            HartOp::Mark { pred, succ } => self.push(&mark_told(h, *pred, *succ)),
+            HartOp::Mark { pred, succ } => self.push(&mark_record(h, *pred, *succ)),
         }
     }
 
@@ -164,23 +155,24 @@ impl Log {
     fn loaded(&mut self, size: u32, h: HartNo, by_script: bool, at: Place, issued: &Issued)
         requires places { IssuedHasPlaces size issued.now }
         requires room { 7 ≤ self.old.room }
-        ensures records { self.new.records ≡ self.old.records ++ loaded_told size h by_script at.0 issued.now }
+        ensures records { self.new.records ≡ self.old.records ++ loaded_records size h by_script at.0 issued.now }
         ensures room { self.old.room ≤ self.new.room + 7 }
     {
         if let Issued::Loaded { bytes, bus } = issued {
             self.transfers(size, bus.as_slice());
-            self.push(&load_told(h, by_script, at, bytes));
+            self.push(&load_record(h, by_script, at, bytes));
         }
     }
 
-    /// A store, of which the bytes are given.
-    fn stored(&mut self, h: HartNo, by_script: bool, at: Place, bytes: &Payload)
+    /// A store, of bytes that are given or those of the last load.
+    fn stored(&mut self, h: HartNo, by_script: bool, at: Place, bytes: &Payload, last: &Bytes)
         requires room { 1 ≤ self.old.room }
-        ensures records { self.new.records ≡ self.old.records ++ payload_told by_script h at.0 bytes.now }
+        ensures records { self.new.records ≡ self.old.records ++ rules.store_record by_script h at.0 (payload last.now bytes.now) ∷ [] }
         ensures room { self.old.room ≤ self.new.room + 1 }
     {
-        if let Payload::Given(bytes) = bytes {
-            self.push(&store_told(h, by_script, at, bytes));
+        match bytes {
+            Payload::Given(bytes) => self.push(&store_record(h, by_script, at, bytes)),
+            Payload::Last => self.push(&store_record(h, by_script, at, last)),
         }
     }
 
@@ -188,16 +180,16 @@ impl Log {
     pub fn drained(&mut self, size: u32, h: HartNo, e: &Entry)
         requires place { EntryHasPlace size e.now }
         requires room { 1 ≤ self.old.room }
-        ensures records { self.new.records ≡ self.old.records ++ rules.entry_told size h e.now ∷ [] }
+        ensures records { self.new.records ≡ self.old.records ++ rules.entry_record size h e.now ∷ [] }
         ensures room { self.old.room ≤ self.new.room + 1 }
     {
-        self.push(&entry_told(size, h, e));
+        self.push(&entry_record(size, h, e));
     }
 
     /// Changes of owners.
     pub fn owners(&mut self, transfers: &[(Span, Owner)])
         requires room { length transfers.now ≤ self.old.room }
-        ensures records { self.new.records ≡ self.old.records ++ rules.owners_told transfers.now }
+        ensures records { self.new.records ≡ self.old.records ++ rules.owner_records transfers.now }
         ensures room { self.old.room ≤ self.new.room + length transfers.now }
     {
         for (span, owner) in transfers {
@@ -208,8 +200,22 @@ impl Log {
         }
     }
 
+    /// Slots that hart h gives back.
+    fn backs(&mut self, h: HartNo, words: &[u32])
+        requires room { length words.now ≤ self.old.room }
+        ensures records { self.new.records ≡ self.old.records ++ rules.back_records h words.now }
+        ensures room { self.old.room ≤ self.new.room + length words.now }
+    {
+        for word in words {
+            self.push(&Record::Back {
+                hart: h,
+                word: *word,
+            });
+        }
+    }
+
     /// The answer of operation n, where there is one.
-    pub fn answer(&mut self, h: HartNo, n: u32, answer: Option<Answer>)
+    fn answer(&mut self, h: HartNo, n: u32, answer: Option<Answer>)
         requires room { 1 ≤ self.old.room }
         ensures records { self.new.records ≡ self.old.records ++ rules.answered h n answer }
     {
@@ -224,17 +230,53 @@ impl Log {
 
     /// What a driver's call moves, with the answer of operation n.
     pub fn moves(&mut self, h: HartNo, n: u32, moves: &Moves)
-        requires room { 35 ≤ self.old.room }
-        ensures records { self.new.records ≡ self.old.records ++ rules.moves_told h n (seen_as moves.now) }
+        requires room { 67 ≤ self.old.room }
+        ensures records { self.new.records ≡ self.old.records ++ rules.moves_records h n (seen_as moves.now) }
     {
         self.owners(moves.transfers.as_slice());
+        self.backs(h, moves.backs.as_slice());
         self.answer(h, n, moves.answer);
+    }
+
+    /// A try of a slot word, which it found held by this hart, or free.
+    pub fn tried(&mut self, h: HartNo, word: u32, holder: Option<HartNo>)
+        requires room { 1 ≤ self.old.room }
+        ensures records { self.new.records ≡ self.old.records ++ rules.try_records h word holder }
+        ensures room { self.old.room ≤ self.new.room + 1 }
+    {
+        let answer = match holder {
+            None => TryAnswer::Got,
+            Some(g) => TryAnswer::Held(g),
+        };
+        self.push(&Record::Try {
+            hart: h,
+            word,
+            answer,
+        });
+    }
+
+    /// An answer that the search of hart h was told of a slot word, by who holds the word.
+    pub fn told(&mut self, h: HartNo, word: u32, got: bool, holder: Option<HartNo>)
+        requires room { 1 ≤ self.old.room }
+        ensures records { self.new.records ≡ self.old.records ++ rules.told_records h word got holder }
+        ensures room { self.old.room ≤ self.new.room + 1 }
+    {
+        let answer = match holder {
+            _ if !got => ToldAnswer::Miss,
+            None => ToldAnswer::Got,
+            Some(g) => ToldAnswer::Held(g),
+        };
+        self.push(&Record::Told {
+            hart: h,
+            word,
+            answer,
+        });
     }
 
     /// A channel's read.
     pub fn chan_read(&mut self, chan: ChanNo, step: &ChanStep)
         requires room { 2 ≤ self.old.room }
-        ensures records { self.new.records ≡ self.old.records ++ rules.read_told chan step.now }
+        ensures records { self.new.records ≡ self.old.records ++ rules.read_records chan step.now }
     {
         match step {
             ChanStep::Idle => {}
@@ -254,7 +296,7 @@ impl Log {
     /// A channel's write.
     pub fn chan_write(&mut self, chan: ChanNo, step: &ChanStep)
         requires room { 2 ≤ self.old.room }
-        ensures records { self.new.records ≡ self.old.records ++ rules.write_told chan step.now }
+        ensures records { self.new.records ≡ self.old.records ++ rules.write_records chan step.now }
     {
         match step {
             ChanStep::Idle => {}
@@ -285,13 +327,13 @@ fn start_of(size: u32, block: Block) -> Place
     Place(size * block.0)
 }
 
-fn transfer_told(size: u32, transfer: &BusRec) -> Record
+fn transfer_record(size: u32, transfer: &BusRec) -> Record
     requires { HasPlace size transfer.now }
-    ensures { result ≡ rules.transfer_told size transfer.now }
+    ensures { result ≡ rules.transfer_record size transfer.now }
 {
     match transfer {
-        BusRec::Fill { hart, block, from } => fill_told(*hart, start_of(size, *block), from),
-        BusRec::Own { hart, block, from } => own_told(*hart, start_of(size, *block), from),
+        BusRec::Fill { hart, block, from } => fill_record(*hart, start_of(size, *block), from),
+        BusRec::Own { hart, block, from } => own_record(*hart, start_of(size, *block), from),
         BusRec::WriteBack { hart, block, bytes } => Record::Wb {
             hart: *hart,
             at: start_of(size, *block),
@@ -304,22 +346,22 @@ fn transfer_told(size: u32, transfer: &BusRec) -> Record
     }
 }
 
-fn fill_told(hart: HartNo, at: Place, from: &Origin) -> Record
+fn fill_record(hart: HartNo, at: Place, from: &Origin) -> Record
     ensures { result ≡ Record.Fill hart at from.now }
 {
     let from = *from;
     Record::Fill { hart, at, from }
 }
 
-fn own_told(hart: HartNo, at: Place, from: &Origin) -> Record
+fn own_record(hart: HartNo, at: Place, from: &Origin) -> Record
     ensures { result ≡ Record.Own hart at from.now }
 {
     let from = *from;
     Record::Own { hart, at, from }
 }
 
-fn load_told(hart: HartNo, by_script: bool, at: Place, bytes: &Bytes) -> Record
-    ensures { result ≡ rules.load_told by_script hart at.0 bytes.now }
+fn load_record(hart: HartNo, by_script: bool, at: Place, bytes: &Bytes) -> Record
+    ensures { result ≡ rules.load_record by_script hart at.0 bytes.now }
 {
     let bytes = *bytes;
     if by_script {
@@ -329,8 +371,8 @@ fn load_told(hart: HartNo, by_script: bool, at: Place, bytes: &Bytes) -> Record
     }
 }
 
-fn store_told(hart: HartNo, by_script: bool, at: Place, bytes: &Bytes) -> Record
-    ensures { result ≡ rules.store_told by_script hart at.0 bytes.now }
+fn store_record(hart: HartNo, by_script: bool, at: Place, bytes: &Bytes) -> Record
+    ensures { result ≡ rules.store_record by_script hart at.0 bytes.now }
 {
     let bytes = *bytes;
     if by_script {
@@ -348,8 +390,8 @@ fn cut(set: u8) -> u8
     set & 0b0101
 }
 
-fn mark_told(hart: HartNo, pred: u8, succ: u8) -> Record
-    ensures { result ≡ rules.mark_told hart pred succ }
+fn mark_record(hart: HartNo, pred: u8, succ: u8) -> Record
+    ensures { result ≡ rules.mark_record hart pred succ }
 {
     Record::Mark {
         hart,
@@ -358,18 +400,18 @@ fn mark_told(hart: HartNo, pred: u8, succ: u8) -> Record
     }
 }
 
-fn fence_told(hart: HartNo, pred: u8, succ: u8, issued: &Issued) -> Record
-    ensures { result ≡ fence_told hart pred succ issued.now }
+fn fence_record(hart: HartNo, pred: u8, succ: u8, issued: &Issued) -> Record
+    ensures { result ≡ fence_record hart pred succ issued.now }
 {
     match issued {
-        Issued::Queued => mark_told(hart, pred, succ),
+        Issued::Queued => mark_record(hart, pred, succ),
         _ => Record::Fence { hart, pred, succ },
     }
 }
 
-fn entry_told(size: u32, hart: HartNo, e: &Entry) -> Record
+fn entry_record(size: u32, hart: HartNo, e: &Entry) -> Record
     requires { EntryHasPlace size e.now }
-    ensures { result ≡ rules.entry_told size hart e.now }
+    ensures { result ≡ rules.entry_record size hart e.now }
 {
     match e {
         Entry::Store { span, bytes, .. } => Record::DrStore {

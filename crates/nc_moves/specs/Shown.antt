@@ -1,5 +1,5 @@
 -- The moves of a step, as nc_rules sees them.
-use Rattle.nc_rules.specs.Driver.{Moved}
+use Rattle.nc_rules.specs.Turns.{Moved}
 use Rattle.nc_moves.specs.declared.moves.Moves.{Moves}
 
 abbrev pub seen_as : Moves → Moved
