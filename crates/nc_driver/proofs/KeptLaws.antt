@@ -1,5 +1,5 @@
 -- What a driver goes on to keeps what every driver keeps.
-use Rattle.std.proofs.Common.{◌≡◌, ℕ, ◌<◌, true, List, length, refl, ap, subst, ◌∙◌, Option, Some, None, Ok}
+use Rattle.std.proofs.Common.{◌≡◌, ℕ, ◌<◌, true, List, length, refl, ap, subst, ◌∙◌, Option, Some, None, Ok, Err, Result, false, sym, ◌+◌}
 use Rattle.std.proofs.lemmas.Option.{slice_get_within}
 use Rattle.nc_num.specs.declared.names.HartNo.{HartNo}
 use Rattle.nc_scen.specs.Accepted.{IsAccepted}
@@ -10,12 +10,17 @@ use Rattle.nc_rules.specs.declared.steps.Phase.TheVariants.{Steps}
 use Rattle.nc_model.specs.declared.owners.Owner.{Owner}
 use Rattle.nc_rules.specs.declared.steps.Seen.TheVariants as seens
 use Rattle.nc_rules.specs.Built.{IsBuilt}
-use Rattle.nc_rules.specs.Operations.{plan_of, opening, turned}
-use Rattle.nc_rules.specs.Driver.{DriverState, in_hand, next_of, next_of_op, next_in, went, started, started_of, opened, tested, start_moves, start_moves_of, opened_moves, moved, answered}
+use Rattle.nc_rules.specs.Operations.{plan_of, opening, turned, step_at}
+use Rattle.nc_rules.specs.declared.answers.Refusal.{Refusal}
+use Rattle.nc_rules.specs.declared.steps.Seen.{Seen}
+use Rattle.nc_rules.specs.declared.steps.Step.{Step}
+use Rattle.nc_rules.specs.Driver.{DriverState, in_hand, next_of, next_of_op, next_in, went, started, started_of, opened, tested, start_moves, start_moves_of, opened_moves, moved, answered, steps_done, turn_of, step_answer, stepped, over, counted, done_in, done_moves_in}
 use Rattle.nc_rules.specs.Scripts.{is_act}
 use Rattle.nc_rules.specs.Start.{first_driver}
 use Rattle.nc_rules.proofs.DriverLaws.{first_drivers, in_hand_is, went_is, plan_there, few_steps}
-use Rattle.nc_driver.specs.Kept.{IsKept}
+use Rattle.nc_checks.specs.Due.{step_of, step_due}
+use Rattle.nc_driver.specs.Kept.{IsKept, due_of}
+use Rattle.nc_driver.specs.Rests.{is_more}
 
 pub first_kept : (sc : Scenario) (me : HartNo) → IsAccepted sc → IsBuilt sc → me.0 < length sc.harts → IsKept (first_driver sc me)
 first_kept sc me a b lt = record { ram = sc.ram; harts = length sc.harts; driver = first_drivers sc me a b lt }
@@ -52,3 +57,39 @@ pub start_moved : (d : DriverState) (ws : List Owner) (o : Op) (u : Unit {0}) �
     → start_moves d ws ≡ moved (turned d.fixed.me (opening d.fixed o)) (answered o seens.Nothing (plan_of d.fixed o))
 unfolding start_moves
 start_moved d ws o u e t = ap (λ x. start_moves_of d ws x) e ∙ ap (λ r. opened_moves d o r) t
+
+-- what the step that is due changes
+pub step_moves : (d : DriverState) (o : Op) (saw : Seen) (n : ℕ) (after : Result (Option Step) Refusal) → d.phase ≡ Steps n → in_hand d ≡ Some o → after ≡ step_due d.fixed d.op (n + 1)
+    → moved (turned d.fixed.me (turn_of (due_of d))) (step_answer o saw after) ≡ done_moves_in d o saw d.phase
+step_moves d o saw n after p e a =
+    let f = d.fixed in
+    let at : due_of d ≡ step_at f o n = ap (λ (q : Phase). step_due f d.op (steps_done q)) p ∙ ap (λ (x : Option Op). step_of f n x) e in
+    let next : after ≡ step_at f o (n + 1) = a ∙ ap (λ (x : Option Op). step_of f (n + 1) x) e in
+    ap (λ (s : Result (Option Step) Refusal). moved (turned f.me (turn_of s)) (step_answer o saw after)) at
+    ∙ ap (λ (s : Result (Option Step) Refusal). moved (turned f.me (turn_of (step_at f o n))) (step_answer o saw s)) next
+    ∙ ap (λ (q : Phase). done_moves_in d o saw q) (sym p)
+
+more_left : (d : DriverState) (n : ℕ) (step : Result (Option Step) Refusal) → is_more step ≡ true → stepped d n step ≡ counted d n
+more_left d n (Err r) m = refl
+more_left d n (Ok (Some s)) m = refl
+more_left d n (Ok None) m = absurd (cc)
+
+none_left : (d : DriverState) (n : ℕ) (step : Result (Option Step) Refusal) → is_more step ≡ false → stepped d n step ≡ over d
+none_left d n (Err r) m = absurd (cc)
+none_left d n (Ok (Some s)) m = absurd (cc)
+none_left d n (Ok None) m = refl
+
+-- the driver behind it
+stepped_on : (d : DriverState) (o : Op) (n : ℕ) (after : Result (Option Step) Refusal) → d.phase ≡ Steps n → in_hand d ≡ Some o → after ≡ step_due d.fixed d.op (n + 1)
+    → stepped d (n + 1) after ≡ done_in d o d.phase
+stepped_on d o n after p e a =
+    ap (λ (s : Result (Option Step) Refusal). stepped d (n + 1) s) (a ∙ ap (λ (x : Option Op). step_of d.fixed (n + 1) x) e)
+    ∙ ap (λ (q : Phase). done_in d o q) (sym p)
+
+pub counts : (d : DriverState) (o : Op) (n : ℕ) (after : Result (Option Step) Refusal) → d.phase ≡ Steps n → in_hand d ≡ Some o → after ≡ step_due d.fixed d.op (n + 1) → is_more after ≡ true
+    → counted d (n + 1) ≡ done_in d o d.phase
+counts d o n after p e a m = sym (more_left d (n + 1) after m) ∙ stepped_on d o n after p e a
+
+pub closes : (d : DriverState) (o : Op) (n : ℕ) (after : Result (Option Step) Refusal) → d.phase ≡ Steps n → in_hand d ≡ Some o → after ≡ step_due d.fixed d.op (n + 1) → is_more after ≡ false
+    → over d ≡ done_in d o d.phase
+closes d o n after p e a m = sym (none_left d (n + 1) after m) ∙ stepped_on d o n after p e a

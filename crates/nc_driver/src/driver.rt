@@ -1,6 +1,6 @@
 //! Where a script stands.
 
-ghost use Rattle.std.specs.Prelude.{◌≡◌, ◌+◌, ◌<◌, ◌≤◌, ◌^◌, true, false, length, drop, All, IfOk, IfSome, OnSome, OnErr, MatchOption, Some, None};
+ghost use Rattle.std.specs.Prelude.{ℕ, ◌≡◌, ◌+◌, ◌<◌, ◌≤◌, ◌^◌, true, false, length, drop, All, IfOk, IfSome, OnSome, OnErr, MatchOption, Some, None};
 ghost use Rattle.nc_scen.specs.Accepted.{IsAccepted};
 ghost use Rattle.nc_rules.specs.declared.steps.Next.TheVariants as nexts;
 ghost use Rattle.nc_rules.specs.declared.steps.Phase.TheVariants.{Steps, Work};
@@ -13,19 +13,21 @@ ghost use Rattle.nc_rules.specs.Operations as rules;
 ghost use Rattle.nc_rules.specs.Operations.{turned};
 ghost use Rattle.nc_rules.specs.Start.{first_driver};
 ghost use Rattle.nc_rules.specs.Scripts.{is_act};
-ghost use Rattle.nc_driver.specs.Kept.{IsKept};
-ghost use Rattle.nc_driver.specs.Rests.{is_nil, is_more};
-ghost use Rattle.nc_driver.specs.Safe.{IsSafe, IsShort};
+ghost use Rattle.nc_checks.specs.Due.{step_due};
+ghost use Rattle.nc_checks.specs.Safe.{IsSafe};
+ghost use Rattle.nc_driver.specs.Kept.{IsKept, due_of};
+ghost use Rattle.nc_driver.specs.Rests.{is_nil};
 ghost use Rattle.nc_moves.specs.Shown.{seen_as};
 
-use crate::checks::start_checks;
-use crate::setup::Setup;
-use crate::turns::{busy, good_answer, has_start, opening, plan_of};
+use crate::answers::{busy, good_answer};
+use crate::coming::{is_more, next_rest, next_step, steps_done, turn_of};
+use nc_checks::{Setup, has_start};
 use nc_coherent::PagePool;
 use nc_moves::Moves;
 use nc_num::{HartNo, NoMemory};
 use nc_own::Book;
-use nc_rules::{Act, Next, Phase, Refusal, Seen, Step, Turn};
+use nc_planned::plan_of;
+use nc_rules::{Next, Phase, Refusal, Seen, Step};
 use nc_scen::{Op, Scenario};
 use std::alloc::Global;
 use std::collections::VecDeque;
@@ -33,7 +35,7 @@ use std::marker::Model;
 
 /// The control of one hart's script: it gives the script's steps one at a time. Contracts see what the written machine
 /// keeps of a driver: what it knows from the start, the number of the operation in hand, how many of its steps are
-/// done, and the rest of its plan.
+/// done, and the rest of its plan. The step that is due is worked out once, when the driver comes to it.
 #[derive(Drop)]
 pub struct Driver {
     alloc: Global,
@@ -41,17 +43,18 @@ pub struct Driver {
     op: u32,
     phase: Phase,
     rest: VecDeque<Step>,
+    due: Result<Option<Step>, Refusal>,
 }
 
 impl Model for Driver {
     ghost use Rattle.nc_rules.specs.Driver.{DriverState};
-    ghost use Rattle.nc_driver.specs.Kept.{IsKept};
+    ghost use Rattle.nc_driver.specs.Kept.{IsReady};
 
     ghost Value = { DriverState };
 
     ghost view = { λ d. record { fixed = d.setup; op = d.op; phase = d.phase; rest = d.rest.items } };
 
-    ghost invariant = { λ d. IsKept (record { fixed = d.setup; op = d.op; phase = d.phase; rest = d.rest.items }) };
+    ghost invariant = { λ d. IsReady (record { fixed = d.setup; op = d.op; phase = d.phase; rest = d.rest.items }) d.due };
 }
 
 impl Driver {
@@ -64,12 +67,14 @@ impl Driver {
         ensures { IfOk result (λ d. d ≡ first_driver sc.now me) }
     {
         let setup = Setup::of(alloc, me, sc)?;
+        let due = setup.step_due(0, 0);
         Ok(Driver {
             alloc,
             setup,
             op: 0,
             phase: Phase::Steps(0),
             rest: VecDeque::new(alloc),
+            due,
         })
     }
 
@@ -167,15 +172,15 @@ impl Driver {
             self.close();
             return Ok(Moves::refusal(self.alloc, refusal));
         }
-        let moves = self.moved(op, seen)?;
-        self.advance();
+        let after = self.after();
+        let moves = self.moved(op, &after, seen)?;
+        self.advance(after);
         Ok(moves)
     }
 
     /// The operation in hand, or None at the script's end.
     fn in_hand(&self) -> Option<&Op>
         ensures op { MatchOption result (due.in_hand self.now ≡ None) (λ o. due.in_hand self.now ≡ Some o.now) }
-        ensures short { IfSome result (λ o. IsShort o.now) }
         ensures here { OnSome result (self.now.op < length self.now.fixed.script) }
     {
         self.setup.op(self.op)
@@ -200,28 +205,28 @@ impl Driver {
         }
     }
 
-    /// What comes next in an operation.
+    /// What comes next in the operation in hand.
     fn next_in(&self, op: &Op) -> Next
-        requires { IsShort op.now }
+        requires { due.in_hand self.now ≡ Some op.now }
         ensures { result ≡ due.next_in self.now op.now self.now.phase }
     {
         match self.phase {
             Phase::Steps(_) if has_start(op) => Next::Start,
-            Phase::Steps(n) => next_step(self.setup().step_at(op, n)),
+            Phase::Steps(_) => next_step(&self.due),
             Phase::Work => next_rest(&self.rest),
         }
     }
 
-    /// What a start step tests: the refusals of an operation that has one, or else the next step.
+    /// What a start step tests: the refusals of an operation that has one, or else the step that is due.
     fn tested(&self, book: &Book, op: &Op) -> Result<(), Refusal>
-        requires short { IsShort op.now }
+        requires op { due.in_hand self.now ≡ Some op.now }
         requires book { All (λ b. b.at + b.len ≤ length book.now.owners) self.now.fixed.buffers }
         ensures { result ≡ due.tested self.now book.now.owners op.now }
     {
         if has_start(op) {
-            return start_checks(self.setup(), book, op);
+            return self.setup().start_checks(book, op);
         }
-        match self.setup().step_at(op, steps_done(self.phase)) {
+        match self.due {
             Ok(_) => Ok(()),
             Err(refusal) => Err(refusal),
         }
@@ -236,43 +241,50 @@ impl Driver {
         } else {
             None
         };
-        Moves::turn(
-            self.alloc,
-            self.setup.me(),
-            opening(&self.setup, op),
-            answer,
-        )
+        Moves::turn(self.alloc, self.setup.me(), self.setup.opening(op), answer)
     }
 
-    /// What a step changes, once it is made.
-    fn moved(&self, op: &Op, seen: Seen) -> Result<Moves, NoMemory>
-        requires short { IsShort op.now }
-        requires next { is_act (due.next_in self.now op.now self.now.phase) ≡ true }
+    /// The step behind the one that is due, where the operation in hand has steps by number.
+    fn after(&self) -> Result<Option<Step>, Refusal>
+        ensures { (n : ℕ) → self.now.phase ≡ Steps n → result ≡ step_due self.now.fixed self.now.op (n + 1) }
+    {
+        match self.phase {
+            Phase::Steps(n) => self.setup().step_due(self.op, n + 1),
+            Phase::Work => Ok(None),
+        }
+    }
+
+    /// What a step changes, once it is made; `after` is the step behind it.
+    fn moved(
+        &self,
+        op: &Op,
+        after: &Result<Option<Step>, Refusal>,
+        seen: Seen,
+    ) -> Result<Moves, NoMemory>
+        requires op { due.in_hand self.now ≡ Some op.now }
+        requires after { (n : ℕ) → self.now.phase ≡ Steps n → after.now ≡ step_due self.now.fixed self.now.op (n + 1) }
         ensures { IfOk result (λ m. seen_as m ≡ due.done_moves_in self.now op.now seen self.now.phase) }
     {
         match self.phase {
-            Phase::Steps(n) => self.step_moved(op, n, seen),
+            Phase::Steps(_) => self.step_moved(op, after, seen),
             Phase::Work => self.rest_moved(op, seen),
         }
     }
 
-    /// What step n changes, once it is made.
-    fn step_moved(&self, op: &Op, n: u32, seen: Seen) -> Result<Moves, NoMemory>
-        requires short { IsShort op.now }
-        requires small { n + 1 < 2 ^ 32 }
-        ensures { IfOk result (λ m. seen_as m ≡ due.done_moves_in self.now op.now seen (Steps n)) }
+    /// What the step that is due changes, once it is made.
+    fn step_moved(
+        &self,
+        op: &Op,
+        after: &Result<Option<Step>, Refusal>,
+        seen: Seen,
+    ) -> Result<Moves, NoMemory>
+        ensures { IfOk result (λ m. seen_as m ≡ moved (turned self.now.fixed.me (due.turn_of (due_of self.now))) (due.step_answer op.now seen after.now)) }
     {
-        let setup = self.setup();
-        let answer = match setup.step_at(op, n + 1) {
+        let answer = match after {
             Ok(None) => good_answer(op, seen),
             Ok(Some(_)) | Err(_) => None,
         };
-        Moves::turn(
-            self.alloc,
-            setup.me(),
-            turn_of(setup.step_at(op, n)),
-            answer,
-        )
+        Moves::turn(self.alloc, self.setup.me(), turn_of(&self.due), answer)
     }
 
     /// What the first step of the rest changes, once it is made.
@@ -302,18 +314,22 @@ impl Driver {
         requires { self.old.op < length self.old.fixed.script }
         ensures { self.new ≡ due.over self.old }
     {
+        let due = self.setup().step_due(self.op + 1, 0);
         self.op += 1;
         self.phase = Phase::Steps(0);
         self.rest.clear();
+        self.due = due;
     }
 
-    /// So many steps of the operation in hand are done.
-    fn count(&mut self, n: u32)
-        requires { n ≤ 4096 }
+    /// So many steps of the operation in hand are done, and this one is due.
+    fn count(&mut self, n: u32, step: Result<Option<Step>, Refusal>)
+        requires few { n ≤ 4096 }
+        requires step { step ≡ step_due self.old.fixed self.old.op n }
         ensures { self.new ≡ due.counted self.old n }
     {
         self.phase = Phase::Steps(n);
         self.rest.clear();
+        self.due = step;
     }
 
     /// On with this plan; the operation in hand is over where nothing is left of it.
@@ -326,35 +342,23 @@ impl Driver {
             self.close();
             return;
         }
+        self.due = self.setup().step_due(self.op, 0);
         self.phase = Phase::Work;
         self.rest = rest;
     }
 
-    /// On to the next step; the operation in hand is over where it has no other.
+    /// On to the step behind the one that is due, or of a plan to its next; the operation in hand is over where it has no
+    /// other.
     #[tactic(auto, unfolding(nc_rules::specs::Driver::next_of))]
-    fn advance(&mut self)
+    fn advance(&mut self, after: Result<Option<Step>, Refusal>)
         requires next { is_act (due.next_of self.old) ≡ true }
+        requires after { (n : ℕ) → self.old.phase ≡ Steps n → after ≡ step_due self.old.fixed self.old.op (n + 1) }
         ensures { (o : Op) → due.in_hand self.old ≡ Some o → self.new ≡ due.done_in self.old o self.old.phase }
     {
         match self.phase {
-            Phase::Steps(n) => {
-                if self.has_step(n + 1) {
-                    self.count(n + 1);
-                } else {
-                    self.close();
-                }
-            }
+            Phase::Steps(n) if is_more(&after) => self.count(n + 1, after),
+            Phase::Steps(_) => self.close(),
             Phase::Work => self.drop_step(),
-        }
-    }
-
-    /// Whether the operation in hand has a step n, be it refused.
-    fn has_step(&self, n: u32) -> bool
-        ensures { (o : Op) → due.in_hand self.now ≡ Some o → result ≡ is_more (rules.step_at self.now.fixed o n) }
-    {
-        match self.in_hand() {
-            Some(op) => !matches!(self.setup().step_at(op, n), Ok(None)),
-            None => false,
         }
     }
 
@@ -370,55 +374,5 @@ impl Driver {
             return;
         }
         self.rest.pop_front();
-    }
-}
-
-/// What a step leaves to do next: a refused step is a start.
-fn next_step(step: Result<Option<Step>, Refusal>) -> Next
-    ensures { result ≡ due.next_step step }
-{
-    match step {
-        Ok(Some(step)) => next_act(step.act),
-        Ok(None) | Err(_) => Next::Start,
-    }
-}
-
-/// The first step of a rest.
-fn next_rest(rest: &VecDeque<Step>) -> Next
-    ensures { result ≡ due.next_rest rest.now.items }
-{
-    match rest.front() {
-        Some(step) => next_act(step.act),
-        None => Next::Start,
-    }
-}
-
-fn next_act(act: Act) -> Next
-    ensures { result ≡ due.next_act act }
-{
-    match act {
-        Act::Op(op) => Next::Op(op),
-        Act::Claim(chan) => Next::Claim(chan),
-        Act::Poll(chan) => Next::Poll(chan),
-        Act::Take(buf) => Next::Take(buf),
-    }
-}
-
-/// What a step turns.
-fn turn_of(step: Result<Option<Step>, Refusal>) -> Turn
-    ensures { result ≡ due.turn_of step }
-{
-    match step {
-        Ok(Some(step)) => step.turn,
-        Ok(None) | Err(_) => Turn::Stay,
-    }
-}
-
-fn steps_done(phase: Phase) -> u32
-    ensures { result ≡ due.steps_done phase }
-{
-    match phase {
-        Phase::Steps(n) => n,
-        Phase::Work => 0,
     }
 }

@@ -8,7 +8,7 @@ use Rattle.nc_driver.proofs.driver.Driver.start.Goals as goal
 
 pub go-requires-clause-kept : goal.go-requires-clause-kept
 go-requires-clause-kept c =
-    let kept = subst (λ (d : DriverState). IsKept d) c.self.view_is c.self.invariant in
+    let kept = subst (λ (d : DriverState). IsKept d) c.self.view_is c.self.invariant.kept in
     rw (c.in_ok-plan-in-Ok.ensures c.args.self.now.fixed) (plan_kept c.args.self.now c.in-Some.op.now kept c.in-Some.ensures.op)
 
 pub returns-in_ok-moves-in-Ok-clause-driver : goal.returns-in_ok-moves-in-Ok-clause-driver

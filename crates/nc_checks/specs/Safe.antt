@@ -11,14 +11,15 @@ use Rattle.nc_rules.specs.Operations.{Fixed}
 pub record IsSmall (range : Span) : Type 0 where
   pub ends : range.at + range.len ≤ 1048576
 
+-- a store has few bytes
+abbrev pub IsShort : Op → Type 0
+IsShort (St spot off bytes) = length bytes ≤ 4096
+IsShort _ = Unit {0}
+
 pub record IsSafe (f : Fixed) : Type 0 where
   pub sized : IsBlockSize f.size
   pub zero_sized : IsBlockSize f.zero_size
   pub buffers : All IsSmall f.buffers
   pub pages : length f.table ≤ 256
   pub table : EachIndex f.table (λ k. IsPteWord 1048576 (slice_index f.table k))
-
--- a store has few bytes
-abbrev pub IsShort : Op → Type 0
-IsShort (St spot off bytes) = length bytes ≤ 4096
-IsShort _ = Unit {0}
+  pub script : All IsShort f.script
