@@ -1,4 +1,2 @@
 pub mod Kept
 pub mod Rests
-pub mod Safe
-pub mod Kinds

@@ -6,11 +6,9 @@
 //! makes the moves.
 #![tactic(auto)]
 
-mod checks;
+mod answers;
+mod coming;
 mod driver;
-mod setup;
-mod steps;
-mod turns;
 
 pub use driver::Driver;
 pub use nc_moves::{GrantList, IdList, Moves, SlotList, TransferList};

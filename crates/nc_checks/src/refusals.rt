@@ -1,18 +1,14 @@
-//! The tests of an operation, one function each.
+//! The tests of which each can refuse an operation.
 
-ghost use Rattle.std.specs.Prelude.{◌≡◌, ◌+◌, ◌<◌, ◌≤◌, ◌^◌, length, All};
+ghost use Rattle.std.specs.Prelude.{◌≡◌, ◌+◌, ◌<◌, ◌≤◌, ◌^◌, length};
 ghost use Rattle.nc_model.specs.Rights.{is_thread as thread_of};
-ghost use Rattle.nc_rules.specs.Operations as rules;
-ghost use Rattle.nc_driver.specs.Safe.{IsSafe};
+ghost use Rattle.nc_rules.specs.Refusals as rules;
 
-use crate::setup::Setup;
 use nc_env::{CboOp, Illegal};
 use nc_model::Owner;
 use nc_num::{HartNo, Place, Span};
 use nc_own::Book;
-use nc_pdma_regs::known as is_register;
 use nc_rules::Refusal;
-use nc_scen::{BusArg, Op};
 
 /// There are some bytes.
 pub(crate) fn some_bytes(len: u32) -> Result<(), Refusal>
@@ -66,44 +62,17 @@ pub(crate) fn owned(me: HartNo, book: &Book, range: Span) -> Result<(), Refusal>
     Ok(())
 }
 
-/// The tests of an operation with a start step.
-pub(crate) fn start_checks(setup: &Setup, book: &Book, op: &Op) -> Result<(), Refusal>
-    requires safe { IsSafe setup.now }
-    requires book { All (λ b. b.at + b.len ≤ length book.now.owners) setup.now.buffers }
-    ensures { result ≡ rules.start_checks setup.now book.now.owners op.now }
-{
-    match op {
-        Op::Hand { buf, .. } => owned(setup.me(), book, setup.buffer(*buf)),
-        _ => Ok(()),
-    }
-}
-
 /// Whether a byte of this owner is the hart's own.
 fn is_thread(me: HartNo, owner: Owner) -> bool
     ensures { result ≡ thread_of me owner }
 {
     match owner {
         Owner::Thread(hart) => hart == me,
-        _ => false,
-    }
-}
-
-/// A bus address. The hart has no mapping, list or area.
-pub(crate) fn bus_of(arg: BusArg) -> Result<u64, Refusal>
-    ensures { result ≡ rules.bus_of arg }
-{
-    match arg {
-        BusArg::At(bus) => Ok(bus),
-        BusArg::Map(_) | BusArg::Segment(_, _) | BusArg::Area(_) => Err(Refusal::NoLabel),
-    }
-}
-
-/// A register has this offset and width.
-pub(crate) fn known(off: u16, width: u8) -> Result<(), Refusal>
-    ensures { result ≡ rules.known off width }
-{
-    match is_register(off, width) {
-        Ok(()) => Ok(()),
-        Err(_) => Err(Refusal::BadMmio(off, width)),
+        Owner::Passing(..)
+        | Owner::Lending(_)
+        | Owner::Device(_)
+        | Owner::Returning(_)
+        | Owner::Synced(_)
+        | Owner::Pool => false,
     }
 }

@@ -2,7 +2,7 @@ use Rattle.std.proofs.Common.{◌≡◌, ℕ, ◌-◌}
 use Rattle.nc_model.specs.Rights.{is_thread}
 use Rattle.nc_model.specs.Touches.{first_fault}
 use Rattle.nc_own.specs.Books.{owner_in}
-use Rattle.nc_driver.proofs.checks.owned.Given as goal
+use Rattle.nc_checks.proofs.refusals.owned.Given as goal
 
 abbrev pub invariant-loop-at : goal.invariant-loop-at
 invariant-loop-at l =

@@ -1,23 +1,23 @@
 //! What a driver knows from the start.
 
-ghost use Rattle.std.specs.Prelude.{◌≡◌, ◌<◌, true, length, IfOk, All, map, slice_get, option_map};
+ghost use Rattle.std.specs.Prelude.{◌≡◌, ◌<◌, length, IfOk, map, slice_get, option_map};
 ghost use Rattle.nc_scen.specs.Accepted.{IsAccepted};
-ghost use Rattle.nc_rules.specs.Built.{is_built_op, IsBuilt};
-ghost use Rattle.nc_rules.specs.Operations.{buffer_of, effect_of};
+ghost use Rattle.nc_rules.specs.CacheOps.{effect_of};
+ghost use Rattle.nc_rules.specs.Refusals.{buffer_of};
 ghost use Rattle.nc_rules.specs.Start.{fixed_of, hart_spec, pbmte_of};
-ghost use Rattle.nc_driver.specs.Kinds.{is_memory_op, is_channel_op};
 
 use nc_env::{CboOp, Illegal};
 use nc_num::{HartNo, NoMemory, Span};
 use nc_plan::{Effects, effects_of};
-use nc_scen::{BufferSpec, HartSpec, HexBytes, Op, Scenario};
+use nc_scen::{BufferSpec, HartSpec, Op, Scenario};
 use std::alloc::Global;
 use std::marker::Model;
 
 /// A hart's number and what its cache operations do, whether it has memory types, the table of pages, the buffers, the
-/// bytes of a block and of a zeroed range, and the script.
+/// bytes of a block and of a zeroed range, how far each channel reaches, the bounce slots, the coherent pool, whether
+/// fences are light, and the script.
 #[derive(Drop)]
-pub(crate) struct Setup {
+pub struct Setup {
     me: HartNo,
     effects: Effects,
     pbmte: bool,
@@ -25,23 +25,27 @@ pub(crate) struct Setup {
     buffers: Vec<Span>,
     size: u32,
     zero_size: u32,
+    reach: [u32; 4],
+    slots_at: u32,
+    slots: u32,
+    pool: Span,
+    light: bool,
     script: Vec<Op>,
 }
 
 impl Model for Setup {
-    ghost use Rattle.nc_rules.specs.Operations.{Fixed};
+    ghost use Rattle.nc_rules.specs.Lots.{Fixed};
 
     ghost Value = { Fixed };
 
-    ghost view = { λ s. record { me = s.me; effects = s.effects; pbmte = s.pbmte; table = s.table.items; buffers = s.buffers.items; size = s.size; zero_size = s.zero_size; script = s.script.items } };
+    ghost view = { λ s. record { me = s.me; effects = s.effects; pbmte = s.pbmte; table = s.table.items; buffers = s.buffers.items; size = s.size; zero_size = s.zero_size; reach = s.reach; slots_at = s.slots_at; slots = s.slots; pool = s.pool; light = s.light; script = s.script.items } };
 }
 
 impl Setup {
-    /// That of hart `me` of a scenario.
-    pub(crate) fn of(alloc: Global, me: HartNo, sc: &Scenario) -> Result<Setup, NoMemory>
+    /// That of hart `me` of a scenario. The error is want of memory.
+    pub fn of(alloc: Global, me: HartNo, sc: &Scenario) -> Result<Setup, NoMemory>
         requires hart { me.0 < length sc.now.harts }
         requires accepted { IsAccepted sc.now }
-        requires built { IsBuilt sc.now }
         ensures { IfOk result (λ s. s ≡ fixed_of sc.now me (hart_spec sc.now me.0)) }
     {
         let hart = &sc.harts.as_slice()[me.0 as usize];
@@ -57,12 +61,17 @@ impl Setup {
             buffers,
             size: sc.block_size,
             zero_size: sc.zero_size,
+            reach: sc.reach,
+            slots_at: sc.slots_at,
+            slots: sc.slots,
+            pool: sc.pool(),
+            light: sc.light,
             script,
         })
     }
 
     /// The hart.
-    pub(crate) fn me(&self) -> HartNo
+    pub fn me(&self) -> HartNo
         ensures { result ≡ self.now.me }
     {
         self.me
@@ -118,8 +127,15 @@ impl Setup {
         }
     }
 
+    /// Whether fences are light: a lending ends with a token in the store queue, and not with a fence that waits.
+    pub fn light(&self) -> bool
+        ensures { result ≡ self.now.light }
+    {
+        self.light
+    }
+
     /// Operation n of the script.
-    pub(crate) fn op(&self, n: u32) -> Option<&Op>
+    pub fn op(&self, n: u32) -> Option<&Op>
         ensures { option_map (λ o. o.now) result ≡ slice_get self.now.script n }
     {
         self.script.get(n as usize)
@@ -143,87 +159,11 @@ fn spans_of(alloc: Global, buffers: &[BufferSpec]) -> Result<Vec<Span>, NoMemory
 
 /// A copy of a script.
 fn script_of(alloc: Global, script: &[Op]) -> Result<Vec<Op>, NoMemory>
-    requires { All (λ o. is_built_op o ≡ true) script.now }
     ensures { IfOk result (λ v. v.items ≡ script.now) }
 {
     let mut ops = Vec::new(alloc);
     for op in script {
-        ops.push(copy_of(alloc, op)?)?;
+        ops.push(op.try_clone()?)?;
     }
     Ok(ops)
-}
-
-/// A copy of an operation of those that are built.
-fn copy_of(alloc: Global, op: &Op) -> Result<Op, NoMemory>
-    requires { is_built_op op.now ≡ true }
-    ensures { IfOk result (λ o. o ≡ op.now) }
-{
-    match *op {
-        Op::St {
-            spot,
-            off,
-            ref bytes,
-        } => {
-            let bytes = HexBytes::new(Vec::from_slice(alloc, bytes.as_slice())?);
-            Ok(Op::St { spot, off, bytes })
-        }
-        Op::Ld { .. } | Op::Cbo { .. } | Op::Fence { .. } | Op::Hand { .. } | Op::Take(_) => {
-            Ok(memory_copy(op))
-        }
-        _ => Ok(channel_copy(op)),
-    }
-}
-
-/// A copy of an operation on memory, the caches or the mailbox, of those that take no memory.
-fn memory_copy(op: &Op) -> Op
-    requires { is_memory_op op.now ≡ true }
-    ensures { result ≡ op.now }
-{
-    match *op {
-        Op::Ld { spot, off, len } => Op::Ld { spot, off, len },
-        Op::Cbo { op, buf, off } => Op::Cbo { op, buf, off },
-        Op::Fence { pred, succ } => Op::Fence { pred, succ },
-        Op::Hand { buf, to } => Op::Hand { buf, to },
-        Op::Take(buf) => Op::Take(buf),
-        _ => unreachable!(),
-    }
-}
-
-/// A copy of an operation on a channel.
-fn channel_copy(op: &Op) -> Op
-    requires { is_channel_op op.now ≡ true }
-    ensures { result ≡ op.now }
-{
-    match *op {
-        Op::Claim(chan) => Op::Claim(chan),
-        Op::Free(chan) => Op::Free(chan),
-        Op::Regs {
-            chan,
-            src,
-            dst,
-            len,
-            cfg,
-        } => Op::Regs {
-            chan,
-            src,
-            dst,
-            len,
-            cfg,
-        },
-        Op::Run(chan) => Op::Run(chan),
-        Op::Poll(chan) => Op::Poll(chan),
-        Op::Regr { chan, off, width } => Op::Regr { chan, off, width },
-        Op::Regw {
-            chan,
-            off,
-            width,
-            value,
-        } => Op::Regw {
-            chan,
-            off,
-            width,
-            value,
-        },
-        _ => unreachable!(),
-    }
 }

@@ -3,7 +3,7 @@ use Rattle.std.proofs.lemmas.Grind.{common_steps}
 use Rattle.nc_model.proofs.Faults.{fault_passed}
 use Rattle.nc_model.specs.Rights.{is_thread}
 use Rattle.nc_own.specs.Books.{owner_in}
-use Rattle.nc_driver.proofs.checks.owned.Goals as goal
+use Rattle.nc_checks.proofs.refusals.owned.Goals as goal
 
 pub loop-at-preserved : goal.loop-at-preserved
 loop-at-preserved c =
