@@ -1,6 +1,6 @@
 -- The laws of scatter lists: their entries, and the bytes of their segments.
 use Rattle.std.proofs.Common.{◌≡◌, ℕ, zero, suc, ◌+◌, ◌<◌, ◌≤◌, Bool, true, false, List, [], ◌∷◌, ◌++◌, map, flat_map, length, take, drop, refl, sym, ap, ◌∙◌, arith, append_assoc, subst, Some}
-use Rattle.std.specs.Prelude.{All, if◌then◌else◌, slice_set, slice_index_or, unwrap_or}
+use Rattle.std.specs.Prelude.{All, if◌then◌else◌, slice_set, slice_index_or}
 use Rattle.std.specs.List.{range_with_len}
 use Rattle.std.proofs.lemmas.Bool.Decides.{nat_tests}
 use Rattle.std.proofs.lemmas.List.{length-map}

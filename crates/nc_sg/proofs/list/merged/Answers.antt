@@ -1,4 +1,4 @@
-use Rattle.std.proofs.Common.{◌≡◌, ◌∙◌, ◌+◌, ◌*◌, ◌++◌, ◌∷◌, take, drop, sym, ap, subst, arith, append_assoc, false, None}
+use Rattle.std.proofs.Common.{◌∙◌, ◌+◌, ◌++◌, take, drop, sym, ap, subst, arith, append_assoc, false, None}
 use Rattle.std.proofs.lemmas.List.{at_drop_more}
 use Rattle.std.specs.Option.{option_to_list}
 use Rattle.nc_sg.specs.declared.list.Entry.{Entry}
