@@ -6,8 +6,10 @@
 //! and `zero`.
 //!
 //! The contract for the crates above: each call makes the definition's change to the map of blocks and to memory, and
-//! tells of the definition's transfers, in order (`specs/Cache.antt`, `specs/Bus.antt`). Beside it stand the laws, of
-//! what each call keeps at one place of memory, on which the proof of flat memory stands (`specs/Laws.antt`).
+//! tells of the definition's transfers, in order (`specs/Cache.antt`, `specs/Bus.antt`). The map is kept as one
+//! directory, a vector of rows sorted by block, beside a slab of lines; `rows` gives it (`specs/Directory.antt`). Beside
+//! the calls stand the laws, of what each keeps at one place of memory, on which the proof of flat memory stands
+//! (`specs/Laws.antt`).
 #![tactic(auto)]
 
 mod bus;
