@@ -14,7 +14,8 @@ use crate::finds::{
     buffer_place, cpu_may, grant_allows, grant_for_channel, grant_over, grant_with_id,
     remove_with_id,
 };
-use crate::intervals::{Interval, end_of, give, interval_at, push_run};
+use crate::guesses::Guesses;
+use crate::intervals::{Interval, end_of, give, index_of, interval_near, push_run};
 use nc_model::{Access, Actor, Grant, Owner, Touch, TouchKind};
 use nc_num::{ChanNo, HartNo, MapId, NoMemory, Place, Span};
 use std::alloc::Global;
@@ -30,6 +31,7 @@ pub struct Book {
     intervals: Vec<Interval>,
     grants: Vec<Grant>,
     room: u32,
+    guesses: Guesses,
 }
 
 impl Model for Book {
@@ -57,6 +59,7 @@ impl Book {
             intervals,
             grants: Vec::new(alloc),
             room: 0,
+            guesses: Guesses::new(),
         })
     }
 
@@ -102,6 +105,8 @@ impl Book {
         ensures room { self.old.spare ≤ self.new.spare + 1 }
     {
         give(&mut self.intervals, self.ram, span, owner);
+        let number = index_of(&self.intervals, span.at);
+        self.guesses.note(span, number);
         self.room -= 1;
     }
 
@@ -244,7 +249,7 @@ impl Book {
         ensures around { IsAround self.now.owners at result }
         ensures size { length self.now.owners < 2 ^ 32 }
     {
-        interval_at(&self.intervals, at)
+        interval_near(&self.intervals, self.guesses.at(at), at)
     }
 
     /// Whether a hart may use a byte of this owner.

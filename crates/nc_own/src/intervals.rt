@@ -27,7 +27,7 @@ pub fn end_of(span: Span) -> u32
 }
 
 /// The number of the interval that has a place, by halving.
-fn index_of(intervals: &[Interval], at: u32) -> usize
+pub fn index_of(intervals: &[Interval], at: u32) -> usize
     requires tile { Tile 0 intervals.now }
     requires inside { at < places intervals.now }
     ensures inside { result < length intervals.now }
@@ -53,6 +53,28 @@ pub fn interval_at(intervals: &[Interval], at: u32) -> Interval
     ensures { Has intervals.now at result }
 {
     intervals[index_of(intervals, at)]
+}
+
+/// The interval that has a place: that of a guessed number where it has it, or else by halving.
+pub fn interval_near(intervals: &[Interval], guess: usize, at: u32) -> Interval
+    requires tile { Tile 0 intervals.now }
+    requires inside { at < places intervals.now }
+    ensures { Has intervals.now at result }
+{
+    if guess < intervals.len() {
+        let guessed = intervals[guess];
+        if has(guessed.span, at) {
+            return guessed;
+        }
+    }
+    interval_at(intervals, at)
+}
+
+/// Whether the place lies in the span.
+fn has(span: Span, at: u32) -> bool
+    ensures { result ≡ covers span at }
+{
+    span.at <= at && at - span.at < span.len
 }
 
 /// Where an owner's interval ends and a neighbour's begins: at the outer place where they are one owner's, else at the

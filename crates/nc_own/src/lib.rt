@@ -8,6 +8,7 @@
 
 mod book;
 mod finds;
+mod guesses;
 mod intervals;
 mod laws;
 

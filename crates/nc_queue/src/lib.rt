@@ -9,6 +9,7 @@
 mod entry;
 mod laws;
 mod queue;
+mod ring;
 mod rules;
 
 pub use entry::{Entry, Full};

@@ -7,6 +7,10 @@ use Rattle.nc_own.proofs.book.Book.transfer.Goals as goal
 pub give-requires-clause-inside : goal.give-requires-clause-inside
 give-requires-clause-inside c = omega (arith, shown_size _ _ _ _ _ c.self.view_is, c.requires.inside)
 
+pub index_of-number-requires-clause-inside : goal.index_of-number-requires-clause-inside
+index_of-number-requires-clause-inside c =
+    rw c.deref.ensures.value (omega (arith, shown_size _ _ _ _ _ c.self.view_is, c.self.invariant.whole, c.give.ensures.given.whole, c.requires.inside, c.requires.some))
+
 pub returns-clause-owners : goal.returns-clause-owners
 returns-clause-owners c = shown_given _ _ _ _ _ _ _ _ c.self.view_is c.self.invariant.whole c.give.ensures.given
 
