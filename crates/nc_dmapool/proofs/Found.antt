@@ -87,7 +87,7 @@ to_not : (b : Bool) → b ≡ false → not b ≡ true
 to_not true e = absurd cc
 to_not false e = refl
 
-free_spot : (l : Layout) (ps : List Marks) (i n x : ℕ) → IsKept l ps → IsSpot l ps i n x → mark_at ps i n ≡ false → fin.contains (used_set l ps) x ≡ false
+pub free_spot : (l : Layout) (ps : List Marks) (i n x : ℕ) → IsKept l ps → IsSpot l ps i n x → mark_at ps i n ≡ false → fin.contains (used_set l ps) x ≡ false
 free_spot l ps i n x is s m =
     elim (bool_cases (fin.contains (used_set l ps) x)) [
       | inl used ↦ (

@@ -10,8 +10,9 @@ use Rattle.nc_coherent.specs.Pages.{PageMap, lowest_span, with_pages}
 use Rattle.nc_dmapool.specs.Layouts.{Layout, Cuts, stride, each, offset_of, place_count}
 use Rattle.nc_dmapool.specs.Pieces.{Pieces, CanServe, IsTaken, given, given_at, given_on, lowest_free, with_piece, with_page, page_span}
 use Rattle.nc_dmapool.specs.Marks.{Marks, IsPage, IsKept, IsSpot, AreTaken, used_set, shown, fresh_page, no_page, page_at, mark_at}
-use Rattle.nc_dmapool.proofs.Offsets.{count_some}
-use Rattle.nc_dmapool.proofs.Shown.{IsUsed, used_is, is_used, sets_same, of_insert, in_insert}
+use Rattle.nc_dmapool.proofs.Powers.{cuts}
+use Rattle.nc_dmapool.proofs.Offsets.{count_some, offset_within}
+use Rattle.nc_dmapool.proofs.Shown.{IsUsed, used_is, is_used, bool_cases, sets_same, of_insert, in_insert}
 use Rattle.nc_dmapool.proofs.Taking.{IsPageOf, free_apart, taken_now, taken_still, length_with}
 
 none_of : (g s : ℕ) → 0 * g + 0 * s ≡ 0
@@ -195,3 +196,19 @@ given_no_page p m none e = given_none p m none ∙ ap (given_on p m) e
 pub serves_same : (m : PageMap) (p q : Pieces) → q.pages ≡ p.pages → CanServe m p → CanServe m q
 serves_same m p q e can =
     record { whole = can.whole; ends = can.ends; taken = subst (λ (xs : List ℕ). (i : ℕ) → i < length xs → IsTaken m (get_or xs i 0)) (sym e) can.taken }
+
+-- no piece in use starts at a page that is none of those taken
+
+on_none : (l : Layout) (ps : List Marks) (at : ℕ) → IsKept l ps → at % 4096 ≡ 0 → ((i : ℕ) → i < length ps → (page_at ps i).at ≢ at) → IsUsed l ps at → ⊥
+on_none l ps at is whole off u =
+    let page = is.each u.page u.spot.page in
+    let n : u.number < place_count l = omega (arith, u.spot.there, page.marks) in
+    let below : offset_of l u.number < 4096 = offset_within l (cuts l is.layout) u.number n in
+    off u.page u.spot.page (omega (arith, u.spot.is, below, page.whole, whole))
+
+pub page_unused : (l : Layout) (ps : List Marks) (m : PageMap) (at : ℕ) → IsKept l ps → m.at % 4096 ≡ 0 → AreTaken m ps → IsPageOf m true at → fin.contains (used_set l ps) at ≡ false
+page_unused l ps m at is whole are page =
+    elim (bool_cases (fin.contains (used_set l ps) at)) [
+      | inl used ↦ absurd (on_none l ps at is (omega (arith, page.starts, whole)) (push_apart ps m at are page) (used_is l ps at used))
+      | inr free ↦ free
+    ]

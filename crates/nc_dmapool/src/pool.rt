@@ -95,6 +95,7 @@ impl DmaPool {
     pub fn alloc(&mut self, pages: &mut PagePool) -> Result<Span, AllocNo>
         requires { CanServe pages.old self.old }
         ensures given { IfOk result (λ piece. (given self.old pages.old ≡ Some (record { at = piece.at; pool = self.new; pages = pages.new })) × (piece.len ≡ self.old.layout.size)) }
+        ensures fresh { IfOk result (λ piece. set.contains self.old.used piece.at ≡ false) }
         ensures no_page { IfErr result (λ e. (e ≡ AllocNo.NoPage) ↔ (given self.old pages.old ≡ None)) }
         ensures stays { OnErr result ((self.new ≡ self.old) × (pages.new ≡ pages.old)) }
         ensures serves { CanServe pages.new self.new }

@@ -1,12 +1,13 @@
 use Rattle.std.proofs.Common.{◌≡◌, ◌∙◌, ap, sym, subst, length, true, false, List, Some, map}
+use Rattle.std.specs.FinSet as fin
 use Rattle.nc_coherent.specs.Pages.{PageMap, with_pages}
 use Rattle.nc_dmapool.specs.Pieces.{Pieces, Given, CanServe, given, page_span, with_piece, with_page}
 use Rattle.nc_dmapool.specs.Marks.{Marks, IsKept, IsLowest, HasNone, shown, fresh_page}
 use Rattle.nc_dmapool.proofs.Powers.{cuts}
 use Rattle.nc_dmapool.proofs.Shown.{shown_more, ats_mark}
-use Rattle.nc_dmapool.proofs.Found.{free_found, free_none}
+use Rattle.nc_dmapool.proofs.Found.{free_found, free_none, free_spot}
 use Rattle.nc_dmapool.proofs.Taking.{found}
-use Rattle.nc_dmapool.proofs.Pushed.{given_free, given_more, kept_push, fresh_is_page, page_in_ram, push_apart, taken_pages, serves_push, serves_same, shown_push, no_page_given, given_no_page}
+use Rattle.nc_dmapool.proofs.Pushed.{page_unused, given_free, given_more, kept_push, fresh_is_page, page_in_ram, push_apart, taken_pages, serves_push, serves_same, shown_push, no_page_given, given_no_page}
 use Rattle.std.proofs.lemmas.Result.{err_from_is_err_and}
 use Rattle.nc_dmapool.proofs.pool.DmaPool.alloc.Goals as goal
 
@@ -74,3 +75,18 @@ returns-clause-serves c =
     subst (λ (m : PageMap). CanServe m (shown l c.take_page.new.own.items)) (sym c.in_ok-at.ensures.taken.2)
     (subst (λ (qs : List Marks). CanServe (with_pages c.args.pages.now (page_span c.in_ok-at.at) false) (shown l qs)) (sym c.in_ok-at.ensures.taken.1)
     (serves_push l ps c.args.pages.now c.in_ok-at.at can.whole can.ends (taken_pages l ps c.args.pages.now can c.self.invariant) page))
+
+pub returns-in-Some-clause-fresh : goal.returns-in-Some-clause-fresh
+returns-in-Some-clause-fresh c =
+    let l = c.self.inside.layout in
+    let ps = c.self.inside.pages.items in
+    let low : IsLowest l false ps (length ps) c.in-Some.spot = subst (λ (ps : List Marks). IsLowest l false ps (length ps) c.in-Some.spot) c.deref.ensures.value c.in-Some.ensures in
+    ap (λ (p : Pieces). fin.contains p.used c.in-Some.spot.at) (sym c.self.view_is) ∙ free_spot l ps c.in-Some.spot.page c.in-Some.spot.number c.in-Some.spot.at c.self.invariant low.spot low.is
+
+pub returns-clause-fresh : goal.returns-clause-fresh
+returns-clause-fresh c =
+    let l = c.self.inside.layout in
+    let ps = c.self.inside.pages.items in
+    let can : CanServe c.args.pages.now (shown l ps) = subst (CanServe c.args.pages.now) (sym c.self.view_is) c.requires in
+    let page = (found c.args.pages.now (page_span c.in_ok-at.at) c.in_ok-at.ensures.taken.0).0 in
+    ap (λ (p : Pieces). fin.contains p.used c.in_ok-at.at) (sym c.self.view_is) ∙ page_unused l ps c.args.pages.now c.in_ok-at.at c.self.invariant can.whole (taken_pages l ps c.args.pages.now can c.self.invariant) page
