@@ -8,8 +8,7 @@ ghost use Rattle.nc_io.specs.Streams.{GrowsByFront};
 ghost use Rattle.nc_scen.specs.Events.{IsThere};
 ghost use Rattle.nc_rules.specs.Lines.{line};
 ghost use Rattle.nc_calls.specs.MachineLaws.{SameShape};
-ghost use Rattle.nc_rules.specs.Next.{next};
-ghost use Rattle.nc_rules.specs.Told.{told};
+ghost use Rattle.nc_rules.specs.Next.{next, event_records};
 ghost use Rattle.nc_world.specs.Shown.{answer as stepped};
 
 use crate::lines::lines;
@@ -35,8 +34,8 @@ pub fn step_out<K: Sink>(
     ensures answer { IfOk result (λ s. s ≡ stepped w.old.at e) }
     ensures world { OnOk result (w.new ≡ record { at = next w.old.at e; records = [] }) }
     ensures shape { OnOk result (SameShape w.old.at.machine w.new.at.machine) }
-    ensures written { OnOk result (Appends (K.held out.old) (K.held out.new) (flat_map line (told w.old.at e))) }
-    ensures front { OnErr result (GrowsByFront (K.held out.old) (K.held out.new) (flat_map line (told w.old.at e))) }
+    ensures written { OnOk result (Appends (K.held out.old) (K.held out.new) (flat_map line (event_records w.old.at e))) }
+    ensures front { OnErr result (GrowsByFront (K.held out.old) (K.held out.new) (flat_map line (event_records w.old.at e))) }
     ensures later { K.faults out.old ≤ K.faults out.new }
     ensures cause { result ≡ Err Stop.Failed → Rose (K.faults out.old) (K.faults out.new) }
     ensures failed { result ≡ Err Stop.Failed → w.new ≡ record { at = next w.old.at e; records = [] } }

@@ -7,8 +7,7 @@ use Rattle.nc_scen.specs.declared.scenario.Scenario.{Scenario}
 use Rattle.nc_rules.specs.World.{WorldState, start, first_owners}
 use Rattle.nc_rules.specs.Start.{first_machine, first_driver, memory}
 use Rattle.nc_rules.specs.Events.{enabled}
-use Rattle.nc_rules.specs.Next.{next}
-use Rattle.nc_rules.specs.Told.{told}
+use Rattle.nc_rules.specs.Next.{next, event_records}
 use Rattle.nc_rules.specs.Run as run
 use Rattle.nc_rules.specs.Lines.{line, text_of, tail, report, status, status_at}
 use Rattle.nc_rules.specs.Schedule.{plan_events, finishing, sched}
@@ -19,9 +18,9 @@ next-skipped : (w : WorldState) (e : Event) → enabled w e ≡ false → next w
 unfolding next
 next-skipped w e h = rw h refl
 
-told-skipped : (w : WorldState) (e : Event) → enabled w e ≡ false → told w e ≡ []
-unfolding told
-told-skipped w e h = rw h refl
+records-skipped : (w : WorldState) (e : Event) → enabled w e ≡ false → event_records w e ≡ []
+unfolding event_records
+records-skipped w e h = rw h refl
 
 kept : (w : WorldState) (e : Event) (es : List Event) → enabled w e ≡ true → done_events w (e ∷ es) ≡ e ∷ done_events (next w e) es
 unfolding done_events
@@ -35,7 +34,7 @@ after-more : (w : WorldState) (e : Event) (es : List Event) → run.after w (e �
 unfolding run.after
 after-more w e es = refl
 
-records-more : (w : WorldState) (e : Event) (es : List Event) → run.records w (e ∷ es) ≡ told w e ++ run.records (next w e) es
+records-more : (w : WorldState) (e : Event) (es : List Event) → run.records w (e ∷ es) ≡ event_records w e ++ run.records (next w e) es
 unfolding run.records
 records-more w e es = refl
 
@@ -52,10 +51,10 @@ after-done w (e ∷ es) = after-one w e es (enabled w e) refl (λ v. after-done 
 records-one : (w : WorldState) (e : Event) (es : List Event) (t : Bool) → enabled w e ≡ t → ((v : WorldState) → run.records v (done_events v es) ≡ run.records v es)
     → run.records w (done_events w (e ∷ es)) ≡ run.records w (e ∷ es)
 records-one w e es true h same =
-    ap (run.records w) (kept w e es h) ∙ records-more w e (done_events (next w e) es) ∙ ap (λ rs. told w e ++ rs) (same (next w e)) ∙ sym (records-more w e es)
+    ap (run.records w) (kept w e es h) ∙ records-more w e (done_events (next w e) es) ∙ ap (λ rs. event_records w e ++ rs) (same (next w e)) ∙ sym (records-more w e es)
 records-one w e es false h same =
     ap (run.records w) (left_out w e es h) ∙ same w
-    ∙ sym (records-more w e es ∙ ap (λ rs. rs ++ run.records (next w e) es) (told-skipped w e h) ∙ ap (λ v. run.records v es) (next-skipped w e h))
+    ∙ sym (records-more w e es ∙ ap (λ rs. rs ++ run.records (next w e) es) (records-skipped w e h) ∙ ap (λ v. run.records v es) (next-skipped w e h))
 
 records-done : (w : WorldState) (es : List Event) → run.records w (done_events w es) ≡ run.records w es
 unfolding done_events

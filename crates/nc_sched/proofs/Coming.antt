@@ -14,9 +14,9 @@ use Rattle.nc_rules.specs.declared.records.Record.{Record}
 use Rattle.nc_rules.specs.declared.records.Record.TheVariants as records
 use Rattle.nc_rules.specs.World.{WorldState, start}
 use Rattle.nc_rules.specs.Events.{enabled}
-use Rattle.nc_rules.specs.Next.{next}
+use Rattle.nc_rules.specs.Next.{next, event_records}
 use Rattle.nc_rules.specs.Run as run
-use Rattle.nc_rules.specs.Told.{told, recorded}
+use Rattle.nc_rules.specs.Outcomes.{outcome}
 use Rattle.nc_rules.specs.Schedule.{Size, size_of, after_words, drawn, draws, round_event, round_len, round_from, round, rounds, finishing, is_idle, is_nothing, sched}
 use Rattle.nc_sched.specs.declared.sched.Phase.{Phase}
 use Rattle.nc_sched.specs.declared.sched.Phase.TheVariants as phases
@@ -176,8 +176,8 @@ done-by false true e rs later = refl
 done-by false false e rs later = refl
 
 done-here : (moved : Bool) (w : WorldState) (e : Event) (rest : List Event) → (moved || not (is_idle w (e ∷ rest))) ≡ ((moved || done w e) || not (is_idle (next w e) rest))
-unfolding is_idle run.records told
-done-here moved w e rest = done-by (enabled w e) moved e (recorded w e) (run.records (next w e) rest)
+unfolding is_idle run.records event_records
+done-here moved w e rest = done-by (enabled w e) moved e (outcome w e).records (run.records (next w e) rest)
 
 step-round : (harts m : ℕ) (moved : Bool) (es rest : List Event) (e : Event) (w : WorldState) → es ≡ e ∷ rest
     → take (suc m) (round_on harts (suc m) moved es w) ≡ e ∷ take m (round_on harts m (moved || done w e) rest (next w e))

@@ -12,10 +12,9 @@ use Rattle.nc_scen.specs.declared.scenario.Scenario.{Scenario}
 use Rattle.nc_rules.specs.Events.{enabled}
 use Rattle.nc_rules.specs.Lines.{line, text_of, report, status, status_at, tail}
 use Rattle.nc_calls.specs.MachineLaws.{SameShape}
-use Rattle.nc_rules.specs.Next.{next}
+use Rattle.nc_rules.specs.Next.{next, event_records}
 use Rattle.nc_rules.specs.Run.{after, records}
 use Rattle.nc_rules.specs.Schedule.{sched}
-use Rattle.nc_rules.specs.Told.{told}
 use Rattle.nc_rules.specs.World.{WorldState, start}
 use Rattle.nc_sched.specs.Stands.{Stand, to_come, is_done}
 use Rattle.nc_world.proofs.Starts.{start_harts, start_size, start_ram}
@@ -23,9 +22,9 @@ use Rattle.nc_world.specs.Shown.{Shown, answer}
 use Rattle.nc_world.specs.declared.world.Stepped.{Stepped}
 use Rattle.nc_world.specs.declared.world.Stepped.TheVariants.{Done, Skipped}
 
-text_more : (w : WorldState) (e : Event) (es : List Event) → text_of w (e ∷ es) ≡ flat_map line (told w e) ++ text_of (next w e) es
+text_more : (w : WorldState) (e : Event) (es : List Event) → text_of w (e ∷ es) ≡ flat_map line (event_records w e) ++ text_of (next w e) es
 unfolding text_of records
-text_more w e es = flat_map-append line (told w e) (records (next w e) es)
+text_more w e es = flat_map-append line (event_records w e) (records (next w e) es)
 
 state_more : (w : WorldState) (e : Event) (es : List Event) → after w (e ∷ es) ≡ after (next w e) es
 unfolding after
@@ -50,11 +49,11 @@ pub at_start : (held now : Option (List ℕ)) (w0 : WorldState) (all : List Even
 at_start held now w0 all h = record { done = []; grown = h; text = refl; state = refl }
 
 pub one_more : (held mid now : Option (List ℕ)) (w0 w : WorldState) (all left rest : List Event) (e : Event) → left ≡ e ∷ rest
-    → Appends mid now (flat_map line (told w e)) → SoFar held mid w0 w all left → SoFar held now w0 (next w e) all rest
+    → Appends mid now (flat_map line (event_records w e)) → SoFar held mid w0 w all left → SoFar held now w0 (next w e) all rest
 one_more held mid now w0 w all left rest e here grown s = record {
-  done = s.done ++ flat_map line (told w e);
-  grown = Appends-trans held mid now s.done (flat_map line (told w e)) s.grown grown;
-  text = s.text ∙ ap (λ es. s.done ++ text_of w es) here ∙ ap (λ t. s.done ++ t) (text_more w e rest) ∙ sym (append_assoc s.done (flat_map line (told w e)) (text_of (next w e) rest));
+  done = s.done ++ flat_map line (event_records w e);
+  grown = Appends-trans held mid now s.done (flat_map line (event_records w e)) s.grown grown;
+  text = s.text ∙ ap (λ es. s.done ++ text_of w es) here ∙ ap (λ t. s.done ++ t) (text_more w e rest) ∙ sym (append_assoc s.done (flat_map line (event_records w e)) (text_of (next w e) rest));
   state = s.state ∙ ap (after w) here ∙ state_more w e rest;
 }
 
@@ -66,7 +65,7 @@ at_end held now w0 w all left none s =
 
 -- a front of what one event writes, after all before it, is a front of the run and whatever follows it
 pub stopped : (held mid now : Option (List ℕ)) (w0 w : WorldState) (all left rest : List Event) (e : Event) (end : List ℕ) → left ≡ e ∷ rest
-    → GrowsByFront mid now (flat_map line (told w e)) → SoFar held mid w0 w all left → GrowsByFront held now (text_of w0 all ++ end)
+    → GrowsByFront mid now (flat_map line (event_records w e)) → SoFar held mid w0 w all left → GrowsByFront held now (text_of w0 all ++ end)
 stopped held mid now w0 w all left rest e end here g s =
     let (behind, is) = g.begins in
     let more = text_of (next w e) rest in
@@ -113,7 +112,7 @@ done_is false = refl
 
 pub go_on : (held mid now : Option (List ℕ)) (sc : Scenario) (w v : Shown) (s t : Stand) (last : Option Stepped) (a : Stepped) (e : Event)
     → to_come sc s w.at (is_done last) ≡ e ∷ to_come sc t (next w.at e) (enabled w.at e)
-    → v.at ≡ next w.at e → v.records ≡ [] → SameShape w.at.machine v.at.machine → a ≡ answer w.at e → Appends mid now (flat_map line (told w.at e)) → Goes held mid sc w s last → Goes held now sc v t (Some a)
+    → v.at ≡ next w.at e → v.records ≡ [] → SameShape w.at.machine v.at.machine → a ≡ answer w.at e → Appends mid now (flat_map line (event_records w.at e)) → Goes held mid sc w s last → Goes held now sc v t (Some a)
 go_on held mid now sc w v s t last a e here stepped none same answered grown g =
     let done : is_done (Some a) ≡ enabled w.at e = ap (λ b. is_done (Some b)) answered ∙ done_is (enabled w.at e) in
     let gone : SoFar held now (start sc) (next w.at e) (sched sc) (to_come sc t (next w.at e) (enabled w.at e)) =
@@ -128,7 +127,7 @@ go_on held mid now sc w v s t last a e here stepped none same answered grown g =
     }
 
 pub go_stopped : (held mid now : Option (List ℕ)) (sc : Scenario) (w : Shown) (s t : Stand) (last : Option Stepped) (e : Event) → to_come sc s w.at (is_done last) ≡ e ∷ to_come sc t (next w.at e) (enabled w.at e)
-    → GrowsByFront mid now (flat_map line (told w.at e)) → Goes held mid sc w s last → GrowsByFront held now (report sc (sched sc))
+    → GrowsByFront mid now (flat_map line (event_records w.at e)) → Goes held mid sc w s last → GrowsByFront held now (report sc (sched sc))
 unfolding report
 go_stopped held mid now sc w s t last e here grown g =
     stopped held mid now (start sc) w.at (sched sc) (to_come sc s w.at (is_done last)) (to_come sc t (next w.at e) (enabled w.at e)) e (tail sc (after (start sc) (sched sc))) here grown g.so_far

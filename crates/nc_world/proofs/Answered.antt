@@ -17,7 +17,9 @@ use Rattle.nc_model.specs.declared.touches.Touch.{Touch}
 use Rattle.nc_scen.specs.declared.events.Event.TheVariants as events
 use Rattle.nc_rules.specs.declared.records.Record.{Record}
 use Rattle.nc_rules.specs.declared.records.Record.TheVariants as records
-use Rattle.nc_rules.specs.Told.{touch_told, read_told, write_told, recorded, told}
+use Rattle.nc_rules.specs.Next.{event_records}
+use Rattle.nc_rules.specs.Outcomes.{outcome}
+use Rattle.nc_rules.specs.Records.{touch_records, read_records, write_records}
 use Rattle.nc_rules.specs.Events.{is_idle_step, enabled}
 use Rattle.nc_rules.specs.Watched.{transaction_touch}
 use Rattle.nc_rules.specs.World.{WorldState}
@@ -119,21 +121,21 @@ pub ruleset transaction_rules = (transaction_is)
 
 -- ---- what a transaction records
 
-pub told_read : (w : WorldState) (c : ChanNo) (t : ChanStep) → t ≡ chan_read_told w.machine c.0 → is_idle_step t ≡ false
-    → told w (events.ChanRead c) ≡ records.Event (events.ChanRead c) ∷ (touch_told (transaction_touch_in w.owners w.grants c Read t) ++ read_told c t)
-unfolding told enabled recorded
-told_read w c t e moved =
-    let all = λ (s : ChanStep). if not (is_idle_step s) then records.Event (events.ChanRead c) ∷ (touch_told (transaction_touch w c Read s) ++ read_told c s) else [] in
-    ap all (sym e) ∙ ap (λ (b : Bool). if not b then records.Event (events.ChanRead c) ∷ (touch_told (transaction_touch w c Read t) ++ read_told c t) else []) moved
-    ∙ ap (λ (touch : Option Touch). records.Event (events.ChanRead c) ∷ (touch_told touch ++ read_told c t)) (transaction_is w c Read t)
+pub records_read : (w : WorldState) (c : ChanNo) (t : ChanStep) → t ≡ chan_read_told w.machine c.0 → is_idle_step t ≡ false
+    → event_records w (events.ChanRead c) ≡ records.Event (events.ChanRead c) ∷ (touch_records (transaction_touch_in w.owners w.grants c Read t) ++ read_records c t)
+unfolding event_records enabled outcome
+records_read w c t e moved =
+    let all = λ (s : ChanStep). if not (is_idle_step s) then records.Event (events.ChanRead c) ∷ (touch_records (transaction_touch w c Read s) ++ read_records c s) else [] in
+    ap all (sym e) ∙ ap (λ (b : Bool). if not b then records.Event (events.ChanRead c) ∷ (touch_records (transaction_touch w c Read t) ++ read_records c t) else []) moved
+    ∙ ap (λ (touch : Option Touch). records.Event (events.ChanRead c) ∷ (touch_records touch ++ read_records c t)) (transaction_is w c Read t)
 
-pub told_write : (w : WorldState) (c : ChanNo) (t : ChanStep) → t ≡ chan_write_told w.machine c.0 → is_idle_step t ≡ false
-    → told w (events.ChanWrite c) ≡ records.Event (events.ChanWrite c) ∷ (touch_told (transaction_touch_in w.owners w.grants c Write t) ++ write_told c t)
-unfolding told enabled recorded
-told_write w c t e moved =
-    let all = λ (s : ChanStep). if not (is_idle_step s) then records.Event (events.ChanWrite c) ∷ (touch_told (transaction_touch w c Write s) ++ write_told c s) else [] in
-    ap all (sym e) ∙ ap (λ (b : Bool). if not b then records.Event (events.ChanWrite c) ∷ (touch_told (transaction_touch w c Write t) ++ write_told c t) else []) moved
-    ∙ ap (λ (touch : Option Touch). records.Event (events.ChanWrite c) ∷ (touch_told touch ++ write_told c t)) (transaction_is w c Write t)
+pub records_write : (w : WorldState) (c : ChanNo) (t : ChanStep) → t ≡ chan_write_told w.machine c.0 → is_idle_step t ≡ false
+    → event_records w (events.ChanWrite c) ≡ records.Event (events.ChanWrite c) ∷ (touch_records (transaction_touch_in w.owners w.grants c Write t) ++ write_records c t)
+unfolding event_records enabled outcome
+records_write w c t e moved =
+    let all = λ (s : ChanStep). if not (is_idle_step s) then records.Event (events.ChanWrite c) ∷ (touch_records (transaction_touch w c Write s) ++ write_records c s) else [] in
+    ap all (sym e) ∙ ap (λ (b : Bool). if not b then records.Event (events.ChanWrite c) ∷ (touch_records (transaction_touch w c Write t) ++ write_records c t) else []) moved
+    ∙ ap (λ (touch : Option Touch). records.Event (events.ChanWrite c) ∷ (touch_records touch ++ write_records c t)) (transaction_is w c Write t)
 
 -- records that were added one after another
 pub added : (start pushed touched all a b : List Record) (x : Record) → pushed ≡ start ++ x ∷ [] → touched ≡ pushed ++ a → all ≡ touched ++ b → all ≡ start ++ x ∷ (a ++ b)

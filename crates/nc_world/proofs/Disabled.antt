@@ -12,27 +12,22 @@ use Rattle.nc_pdma.specs.declared.channel.ChanStep.TheVariants.{Idle}
 use Rattle.nc_pdma.specs.Channel.{ChannelState, new_channel}
 use Rattle.nc_pdma.specs.Steps.{read_next, write_next, ram_after}
 use Rattle.nc_ops.specs.declared.ops.Op.{Op}
-use Rattle.nc_rules.specs.declared.answers.Refusal.{Refusal}
-use Rattle.nc_rules.specs.declared.steps.Act.{Act}
-use Rattle.nc_rules.specs.declared.steps.Act.TheVariants as acts
-use Rattle.nc_rules.specs.declared.steps.Next.TheVariants as nexts
-use Rattle.nc_rules.specs.declared.steps.Phase.{Phase}
-use Rattle.nc_rules.specs.declared.steps.Phase.TheVariants.{Steps, Work}
-use Rattle.nc_rules.specs.declared.steps.Step.{Step}
 use Rattle.nc_rules.specs.Calls.{leaving, drain_next, left_with, may_fill, fill_next, fill_answer, evict_next, evict_answer, chan_read_told, chan_read_next, chan_write_told, chan_write_next}
-use Rattle.nc_rules.specs.Driver.{DriverState, in_hand, next_act, next_step, next_rest, next_in, next_of_op, next_of, searched, searching}
+use Rattle.nc_scen.specs.Events.{IsThere}
+use Rattle.nc_rules.specs.Driver.{searching}
+use Rattle.nc_rules.specs.Outcomes.{outcome}
+use Rattle.nc_scripts.proofs.DriverLaws.{unsearched}
+use Rattle.nc_world.specs.State.{IsWorld}
 use Rattle.nc_num.specs.declared.names.HartNo.{HartNo}
 use Rattle.nc_scen.specs.declared.events.Event.{Event}
 use Rattle.nc_scen.specs.declared.events.Event.TheVariants as events
 use Rattle.nc_rules.specs.declared.records.Record.TheVariants as records
 use Rattle.nc_rules.specs.Events.{enabled}
-use Rattle.nc_rules.specs.Next.{next, counted, performed}
-use Rattle.nc_rules.specs.Told.{told, recorded}
+use Rattle.nc_rules.specs.Next.{next, counted, performed, event_records}
 use Rattle.nc_rules.specs.World.{WorldState, driver_of}
 use Rattle.nc_world.specs.Shown.{answer}
 use Rattle.nc_world.specs.declared.world.Stepped.TheVariants.{Done, Skipped}
 use Rattle.nc_rules.specs.Machine.{MachineState, channel_of, with_cache, with_channel, with_ram}
-use Rattle.nc_rules.specs.Operations.{has_start, step_at}
 
 -- ---- the machine's calls
 
@@ -96,56 +91,37 @@ write_idle m c e =
 
 -- ---- searches
 
-no_act : (a : Act) → searched (next_act a) ≡ None
-no_act (acts.Op op) = refl
-no_act (acts.Claim chan) = refl
-no_act (acts.Poll chan) = refl
-no_act (acts.Take buf) = refl
-
-no_step : (r : Result (Option Step) Refusal) → searched (next_step r) ≡ None
-no_step (Err r) = refl
-no_step (Ok None) = refl
-no_step (Ok (Some s)) = no_act s.act
-
-no_rest : (rest : List Step) → searched (next_rest rest) ≡ None
-no_rest [] = refl
-no_rest (s ∷ rest) = no_act s.act
-
-no_in : (d : DriverState) (o : Op) (p : Phase) → searched (next_in d o p) ≡ None
-no_in d o (Steps n) = elim (has_start o) as (λ t. searched (if t then nexts.Start else next_step (step_at d.fixed o n)) ≡ None) [ true ↦ refl | false ↦ no_step (step_at d.fixed o n) ]
-no_in d o Work = no_rest d.rest
-
-no_op : (d : DriverState) (o : Option Op) → searched (next_of_op d o) ≡ None
-no_op d None = refl
-no_op d (Some o) = no_in d o d.phase
-
 -- no operation that is built searches for a slot
-pub no_search : (d : DriverState) → searching d ≡ None
-unfolding searching next_of
-no_search d = no_op d (in_hand d)
+none_searched : (w : WorldState) (h : ℕ) → IsWorld w → h < length w.machine.harts → searching (driver_of w h) ≡ None
+none_searched w h is lt = unsearched (length w.machine.cache.ram) (length w.machine.harts) (driver_of w h) (is.each h lt).driver
 
-pub try_off : (w : WorldState) (h : HartNo) → enabled w (events.Try h) ≡ false
+try_off : (w : WorldState) (h : HartNo) → IsWorld w → h.0 < length w.machine.harts → enabled w (events.Try h) ≡ false
 unfolding enabled
-try_off w h = ap is_some (no_search (driver_of w h.0))
+try_off w h is lt = ap is_some (none_searched w h.0 is lt)
 
-pub told_off : (w : WorldState) (h : HartNo) (got : Bool) → enabled w (events.Told h got) ≡ false
+told_off : (w : WorldState) (h : HartNo) (got : Bool) → IsWorld w → h.0 < length w.machine.harts → enabled w (events.Told h got) ≡ false
 unfolding enabled
-told_off w h got = ap is_some (no_search (driver_of w h.0))
+told_off w h got is lt = ap is_some (none_searched w h.0 is lt)
 
 -- an event that may not happen
 pub record IsOff (w : WorldState) (e : Event) : Type 0 where
   pub answer : Skipped ≡ answer w e
   pub next : w ≡ next w e
-  pub told : told w e ≡ []
+  pub records : event_records w e ≡ []
 
 pub off : (w : WorldState) (e : Event) → enabled w e ≡ false → IsOff w e
-unfolding next told
+unfolding next event_records
 off w e is = record {
   answer = sym (ap (λ (t : Bool). if t then Done else Skipped) is);
   next = sym (ap (λ (t : Bool). if t then counted (performed w e) else w) is);
-  told = ap (λ (t : Bool). if t then records.Event e ∷ recorded w e else []) is;
+  records = ap (λ (t : Bool). if t then records.Event e ∷ (outcome w e).records else []) is;
 }
 
-pub search_off : (w : WorldState) (e : Event) → ((h : HartNo) × (e ≡ events.Try h)) ⊎ ((h : HartNo) × (got : Bool) × (e ≡ events.Told h got)) → IsOff w e
-search_off w e (inl p) = subst (IsOff w) (sym p.1) (off w (events.Try p.0) (try_off w p.0))
-search_off w e (inr p) = subst (IsOff w) (sym p.2) (off w (events.Told p.0 p.1) (told_off w p.0 p.1))
+pub search_off : (w : WorldState) (e : Event) → IsWorld w → IsThere (length w.machine.harts) w.machine.size (length w.machine.cache.ram) e
+    → ((h : HartNo) × (e ≡ events.Try h)) ⊎ ((h : HartNo) × (got : Bool) × (e ≡ events.Told h got)) → IsOff w e
+search_off w e is there (inl p) =
+    let lt : p.0.0 < length w.machine.harts = subst (λ (x : Event). IsThere (length w.machine.harts) w.machine.size (length w.machine.cache.ram) x) p.1 there in
+    subst (IsOff w) (sym p.1) (off w (events.Try p.0) (try_off w p.0 is lt))
+search_off w e is there (inr p) =
+    let lt : p.0.0 < length w.machine.harts = subst (λ (x : Event). IsThere (length w.machine.harts) w.machine.size (length w.machine.cache.ram) x) p.2 there in
+    subst (IsOff w) (sym p.2) (off w (events.Told p.0 p.1) (told_off w p.0 p.1 is lt))

@@ -21,75 +21,35 @@ use Rattle.nc_ops.specs.declared.ops.Op.{Op}
 use Rattle.nc_scen.specs.declared.scenario.BufferSpec.{BufferSpec}
 use Rattle.nc_scen.specs.declared.scenario.Scenario.{Scenario}
 use Rattle.nc_scen.specs.Accepted.{IsAccepted}
-use Rattle.nc_rules.specs.declared.answers.Refusal.{Refusal}
 use Rattle.nc_rules.specs.declared.steps.Next.{Next}
 use Rattle.nc_rules.specs.declared.steps.Next.TheVariants as nexts
-use Rattle.nc_rules.specs.declared.steps.Phase.{Phase}
-use Rattle.nc_rules.specs.declared.steps.Phase.TheVariants.{Steps, Work}
 use Rattle.nc_rules.specs.declared.steps.Seen.{Seen}
-use Rattle.nc_rules.specs.declared.steps.Step.{Step}
 use Rattle.nc_rules.specs.Built.{IsBuilt}
-use Rattle.nc_rules.specs.Driver.{DriverState, next_of, in_hand, went, opened, tested, started, started_of, stepped, done, done_of, done_unless, done_in, done_rest, busy}
-use Rattle.nc_rules.specs.Machine.{MachineState, hart_of, no_hart, fresh_hart, with_hart}
+use Rattle.nc_rules.specs.Driver.{DriverState, next_of}
+use Rattle.nc_coherent.specs.Pages.{PageMap}
+use Rattle.nc_rules.specs.Machine.{MachineState, fresh_hart}
 use Rattle.nc_calls.specs.MachineLaws.{SameShape}
-use Rattle.nc_rules.specs.Operations.{Fixed, plan_of, step_at}
-use Rattle.nc_scripts.specs.Scripts.{IsDriver, IsDriven, NextIsThere, AreThere, is_act}
-use Rattle.nc_rules.specs.Sound.{OpIsThere}
+use Rattle.nc_rules.specs.Lots.{Fixed}
+use Rattle.nc_scripts.specs.Scripts.{IsDriver, IsDriven, NextIsThere, AreThere, Keeps, is_act}
 use Rattle.nc_rules.specs.Start.{first_driver, first_machine, memory}
 use Rattle.nc_rules.specs.World.{WorldState, driver_of, no_driver, owned_by_harts, first_owners, hart, start}
-use Rattle.nc_scripts.proofs.DriverLaws.{first_drivers, started_is, done_is, none_there, start_moves_there, done_moves_there, next_there}
+use Rattle.nc_scripts.proofs.DriverLaws.{first_drivers, started_is, done_is, next_there}
 use Rattle.nc_calls.proofs.SoundStart.{length-memory}
 use Rattle.nc_calls.proofs.SoundWith.{shape_same}
 use Rattle.nc_scen.specs.Regions.{pool_of}
 use Rattle.nc_world.specs.State.{IsDriverOf, IsWorld, IsKept}
-use Rattle.nc_world.specs.Steps.{IsGivenPayload, IsGiven, NextFits, is_going, went_on, moves_on}
+use Rattle.nc_world.specs.Steps.{NextFits, is_going, went_on}
 
 -- ---- what a driver does next is there
 
--- a store is there in every machine of the size, so also where its hart has loaded nothing: it gives its bytes
-abbrev forgot : MachineState → ℕ → MachineState
-forgot m h = with_hart m h (record { queue = (hart_of m h).queue; last = [] })
-
-driven_forgot : (ram harts : ℕ) (f : Fixed) (m : MachineState) (h : ℕ) → IsDriven ram harts f m → IsDriven ram harts f (forgot m h)
-driven_forgot ram harts f m h is = record {
-  memory = is.memory;
-  block = is.block;
-  processors = length-set m.harts h _ ∙ is.processors;
-  boxes = is.boxes;
-}
-
-no_piece : (n : ℕ) → IsPieceLen n → n ≡ 0 → ⊥
-no_piece n (inl e) z = omega arith
-no_piece n (inr (inl e)) z = omega arith
-no_piece n (inr (inr (inl e))) z = omega arith
-no_piece n (inr (inr (inr e))) z = omega arith
-
-given_payload : (ram harts : ℕ) (f : Fixed) (m : MachineState) (h : ℕ) (span : Span) (kind : MemType) (bytes : Payload) → h < length m.harts → IsDriven ram harts f m
-    → ((n : MachineState) (g : ℕ) → IsDriven ram harts f n → OpIsThere n g (Store span kind bytes)) → IsGivenPayload bytes
-given_payload ram harts f m h span kind (Given bytes) lt is there = tt
-given_payload ram harts f m h span kind Last lt is there =
-    let fits = there (forgot m h) h (driven_forgot ram harts f m h is) in
-    let empty = ap (λ (s : HartState). length s.last) (get_or-set_same m.harts h (record { queue = (hart_of m h).queue; last = [] }) no_hart lt) in
-    no_piece span.len fits.piece.len (sym fits.whole ∙ empty)
-
-given_of : (ram harts : ℕ) (f : Fixed) (m : MachineState) (h : ℕ) (op : HartOp) → h < length m.harts → IsDriven ram harts f m
-    → ((n : MachineState) (g : ℕ) → IsDriven ram harts f n → OpIsThere n g op) → IsGiven op
-given_of ram harts f m h (Store span kind bytes) lt is there = given_payload ram harts f m h span kind bytes lt is there
-given_of ram harts f m h (Load span kind) lt is there = tt
-given_of ram harts f m h (Cbo op block) lt is there = tt
-given_of ram harts f m h (Fence pred succ) lt is there = tt
-given_of ram harts f m h (IoLoad chan off width) lt is there = tt
-given_of ram harts f m h (IoStore target) lt is there = tt
-given_of ram harts f m h (Mark pred succ) lt is there = tt
-
-fits_of : (ram harts : ℕ) (f : Fixed) (m : MachineState) (h : ℕ) (n : Next) → h < length m.harts → IsDriven ram harts f m → NextIsThere ram harts f n → NextFits m h n
-fits_of ram harts f m h nexts.End lt is there = tt
-fits_of ram harts f m h nexts.Start lt is there = tt
-fits_of ram harts f m h (nexts.Search k) lt is there = tt
-fits_of ram harts f m h (nexts.Op op) lt is there = record { there = there m h is; given = given_of ram harts f m h op lt is there }
-fits_of ram harts f m h (nexts.Claim chan) lt is there = there
-fits_of ram harts f m h (nexts.Poll chan) lt is there = there
-fits_of ram harts f m h (nexts.Take buf) lt is there = omega (arith, is.boxes, there)
+fits_of : (ram harts : ℕ) (f : Fixed) (m : MachineState) (h : ℕ) (n : Next) → IsDriven ram harts f m → NextIsThere ram harts f n → NextFits m h n
+fits_of ram harts f m h nexts.End is there = tt
+fits_of ram harts f m h nexts.Start is there = tt
+fits_of ram harts f m h (nexts.Search k) is there = tt
+fits_of ram harts f m h (nexts.Op op) is there = there m h is
+fits_of ram harts f m h (nexts.Claim chan) is there = there
+fits_of ram harts f m h (nexts.Poll chan) is there = there
+fits_of ram harts f m h (nexts.Take buf) is there = omega (arith, is.boxes, there)
 
 pub next_fits : (w : WorldState) (h : ℕ) → IsWorld w → h < length w.machine.harts → NextFits w.machine h (next_of (driver_of w h))
 next_fits w h is lt =
@@ -97,83 +57,28 @@ next_fits w h is lt =
     let of = is.each h lt in
     let ram = length w.machine.cache.ram in
     let harts = length w.machine.harts in
-    fits_of ram harts d.fixed w.machine h (next_of d) lt of.driven (next_there ram harts d of.driver)
+    fits_of ram harts d.fixed w.machine h (next_of d) of.driven (next_there ram harts d of.driver)
 
 -- ---- a driver's step
 
-went_is : (ram harts : ℕ) (d : DriverState) (owners : List Owner) (n : Next) (saw : Seen) → IsDriver ram harts d → next_of d ≡ n → is_going n ≡ true → IsDriver ram harts (went_on d owners n saw)
-went_is ram harts d owners nexts.End saw is e going = absurd (cc)
-went_is ram harts d owners nexts.Start saw is e going = started_is ram harts d owners is
-went_is ram harts d owners (nexts.Search k) saw is e going = absurd (cc)
-went_is ram harts d owners (nexts.Op op) saw is e going = done_is ram harts d saw is (ap is_act e)
-went_is ram harts d owners (nexts.Claim chan) saw is e going = done_is ram harts d saw is (ap is_act e)
-went_is ram harts d owners (nexts.Poll chan) saw is e going = done_is ram harts d saw is (ap is_act e)
-went_is ram harts d owners (nexts.Take buf) saw is e going = done_is ram harts d saw is (ap is_act e)
+went_is : (ram harts : ℕ) (d : DriverState) (owners : List Owner) (pages : PageMap) (n : Next) (saw : Seen) → IsDriver ram harts d → next_of d ≡ n → is_going n ≡ true → Keeps ram harts d (went_on d owners pages n saw)
+went_is ram harts d owners pages nexts.End saw is e going = absurd (cc)
+went_is ram harts d owners pages nexts.Start saw is e going = started_is ram harts d owners pages is
+went_is ram harts d owners pages (nexts.Search k) saw is e going = absurd (cc)
+went_is ram harts d owners pages (nexts.Op op) saw is e going = done_is ram harts d saw is (ap is_act e)
+went_is ram harts d owners pages (nexts.Claim chan) saw is e going = done_is ram harts d saw is (ap is_act e)
+went_is ram harts d owners pages (nexts.Poll chan) saw is e going = done_is ram harts d saw is (ap is_act e)
+went_is ram harts d owners pages (nexts.Take buf) saw is e going = done_is ram harts d saw is (ap is_act e)
 
-moves_there : (ram harts : ℕ) (d : DriverState) (owners : List Owner) (n : Next) (saw : Seen) → IsDriver ram harts d → AreThere ram (moves_on d owners n saw)
-moves_there ram harts d owners nexts.End saw is = none_there ram None
-moves_there ram harts d owners nexts.Start saw is = start_moves_there ram harts d owners is
-moves_there ram harts d owners (nexts.Search k) saw is = none_there ram None
-moves_there ram harts d owners (nexts.Op op) saw is = done_moves_there ram harts d saw is
-moves_there ram harts d owners (nexts.Claim chan) saw is = done_moves_there ram harts d saw is
-moves_there ram harts d owners (nexts.Poll chan) saw is = done_moves_there ram harts d saw is
-moves_there ram harts d owners (nexts.Take buf) saw is = done_moves_there ram harts d saw is
+-- what hart h's driver does and moves
+pub goes_on : (w : WorldState) (h : ℕ) (n : Next) (saw : Seen) → IsWorld w → h < length w.machine.harts → next_of (driver_of w h) ≡ n → is_going n ≡ true
+    → Keeps (length w.machine.cache.ram) (length w.machine.harts) (driver_of w h) (went_on (driver_of w h) w.owners w.pages n saw)
+goes_on w h n saw is lt e going = went_is (length w.machine.cache.ram) (length w.machine.harts) (driver_of w h) w.owners w.pages n saw (is.each h lt).driver e going
 
-pub moves_inside : (w : WorldState) (h : ℕ) (n : Next) (saw : Seen) → IsWorld w → h < length w.machine.harts → AreThere (length w.owners) (moves_on (driver_of w h) w.owners n saw)
-moves_inside w h n saw is lt =
-    subst (λ (ram : ℕ). AreThere ram (moves_on (driver_of w h) w.owners n saw)) (sym is.owners)
-    (moves_there (length w.machine.cache.ram) (length w.machine.harts) (driver_of w h) w.owners n saw (is.each h lt).driver)
-
--- no step changes what a driver knows from the start
-fixed_went : (d : DriverState) (rest : List Step) → (went d rest).fixed ≡ d.fixed
-fixed_went d [] = refl
-fixed_went d (s ∷ rest) = refl
-
-fixed_opened : (d : DriverState) (o : Op) (r : Result (Unit {0}) Refusal) → (opened d o r).fixed ≡ d.fixed
-fixed_opened d o (Err r) = refl
-fixed_opened d o (Ok u) = fixed_went d (plan_of d.fixed o)
-
-fixed_started_of : (d : DriverState) (owners : List Owner) (o : Option Op) → (started_of d owners o).fixed ≡ d.fixed
-fixed_started_of d owners None = refl
-fixed_started_of d owners (Some o) = fixed_opened d o (tested d owners o)
-
-fixed_started : (d : DriverState) (owners : List Owner) → (started d owners).fixed ≡ d.fixed
-unfolding started
-fixed_started d owners = fixed_started_of d owners (in_hand d)
-
-fixed_stepped : (d : DriverState) (n : ℕ) (r : Result (Option Step) Refusal) → (stepped d n r).fixed ≡ d.fixed
-fixed_stepped d n (Err r) = refl
-fixed_stepped d n (Ok None) = refl
-fixed_stepped d n (Ok (Some s)) = refl
-
-fixed_rest : (d : DriverState) (rest : List Step) → (done_rest d rest).fixed ≡ d.fixed
-fixed_rest d [] = refl
-fixed_rest d (s ∷ rest) = fixed_went d rest
-
-fixed_in : (d : DriverState) (o : Op) (p : Phase) → (done_in d o p).fixed ≡ d.fixed
-fixed_in d o (Steps n) = fixed_stepped d (n + 1) (step_at d.fixed o (n + 1))
-fixed_in d o Work = fixed_rest d d.rest
-
-fixed_unless : (d : DriverState) (o : Op) (r : Option Refusal) → (done_unless d o r).fixed ≡ d.fixed
-fixed_unless d o (Some r) = refl
-fixed_unless d o None = fixed_in d o d.phase
-
-fixed_done_of : (d : DriverState) (saw : Seen) (o : Option Op) → (done_of d saw o).fixed ≡ d.fixed
-fixed_done_of d saw None = refl
-fixed_done_of d saw (Some o) = fixed_unless d o (busy saw)
-
-fixed_done : (d : DriverState) (saw : Seen) → (done d saw).fixed ≡ d.fixed
-unfolding done
-fixed_done d saw = fixed_done_of d saw (in_hand d)
-
-fixed_on : (d : DriverState) (owners : List Owner) (n : Next) (saw : Seen) → (went_on d owners n saw).fixed ≡ d.fixed
-fixed_on d owners nexts.End saw = refl
-fixed_on d owners nexts.Start saw = fixed_started d owners
-fixed_on d owners (nexts.Search k) saw = refl
-fixed_on d owners (nexts.Op op) saw = fixed_done d saw
-fixed_on d owners (nexts.Claim chan) saw = fixed_done d saw
-fixed_on d owners (nexts.Poll chan) saw = fixed_done d saw
-fixed_on d owners (nexts.Take buf) saw = fixed_done d saw
+pub moves_inside : (w : WorldState) (h : ℕ) (n : Next) (saw : Seen) → IsWorld w → h < length w.machine.harts → next_of (driver_of w h) ≡ n → is_going n ≡ true
+    → AreThere (length w.owners) (went_on (driver_of w h) w.owners w.pages n saw).moves
+moves_inside w h n saw is lt e going =
+    subst (λ (ram : ℕ). AreThere ram (went_on (driver_of w h) w.owners w.pages n saw).moves) (sym is.owners) (goes_on w h n saw is lt e going).moves
 
 -- ---- the world after a step
 
@@ -184,13 +89,12 @@ driver_over w u d same of = record {
 }
 
 driver_on : (w : WorldState) (h : ℕ) (n : Next) (saw : Seen) → IsWorld w → h < length w.machine.harts → next_of (driver_of w h) ≡ n → is_going n ≡ true
-    → IsDriverOf w (went_on (driver_of w h) w.owners n saw)
+    → IsDriverOf w (went_on (driver_of w h) w.owners w.pages n saw).driver
 driver_on w h n saw is lt e going =
-    let d = driver_of w h in
-    let of = is.each h lt in
+    let keeps = goes_on w h n saw is lt e going in
     record {
-      driver = went_is (length w.machine.cache.ram) (length w.machine.harts) d w.owners n saw of.driver e going;
-      driven = subst (λ (f : Fixed). IsDriven (length w.machine.cache.ram) (length w.machine.harts) f w.machine) (sym (fixed_on d w.owners n saw)) of.driven;
+      driver = keeps.driver;
+      driven = subst (λ (f : Fixed). IsDriven (length w.machine.cache.ram) (length w.machine.harts) f w.machine) (sym keeps.fixed) (is.each h lt).driven;
     }
 
 -- a driver is changed, and the machine keeps its shape
@@ -207,9 +111,9 @@ each_on w u h k d is lt on of below =
     ]
 
 pub world_on : (w u : WorldState) (h : ℕ) (n : Next) (saw : Seen) → IsWorld w → h < length w.machine.harts → next_of (driver_of w h) ≡ n → is_going n ≡ true
-    → SameShape w.machine u.machine → u.drivers ≡ slice_set w.drivers h (went_on (driver_of w h) w.owners n saw) → length u.owners ≡ length w.owners → IsWorld u
+    → SameShape w.machine u.machine → u.drivers ≡ slice_set w.drivers h (went_on (driver_of w h) w.owners w.pages n saw).driver → length u.owners ≡ length w.owners → IsWorld u
 world_on w u h n saw is lt e going shape drivers owners =
-    let d = went_on (driver_of w h) w.owners n saw in
+    let d = (went_on (driver_of w h) w.owners w.pages n saw).driver in
     let on : GoesOn w u h d = record { shape = shape; drivers = drivers; owners = owners } in record {
       drivers = ap length on.drivers ∙ length-set w.drivers h d ∙ is.drivers ∙ sym on.shape.harts;
       each = λ k below. each_on w u h k d is lt on (driver_on w h n saw is lt e going) (omega (arith, on.shape.harts, below));

@@ -1,47 +1,33 @@
 -- The parts of a driver's step: what it names is there, what the machine answers to it, and what it moves. Each is a part
--- of nc_rules' definitions that speaks of the machine or of the driver alone.
+-- of nc_rules' outcomes that speaks of the machine or of the driver alone.
 use Rattle.std.specs.Prelude.{ℕ, ◌<◌, Bool, true, false, List, [], length, Option, Some, None, IsTrue}
 use Rattle.nc_num.specs.declared.names.HartNo.{HartNo}
 use Rattle.nc_model.specs.declared.owners.Owner.{Owner}
+use Rattle.nc_model.specs.declared.touches.Touch.{Touch}
 use Rattle.nc_plan.specs.declared.ops.HartOp.{HartOp}
-use Rattle.nc_plan.specs.declared.ops.HartOp.TheVariants.{Load, Store, Cbo, Fence, IoLoad, IoStore, Mark}
-use Rattle.nc_plan.specs.declared.ops.Payload.{Payload}
-use Rattle.nc_plan.specs.declared.ops.Payload.TheVariants.{Given, Last}
-use Rattle.nc_rules.specs.declared.answers.Issued.{Issued}
+use Rattle.nc_coherent.specs.Pages.{PageMap}
+use Rattle.nc_rules.specs.declared.records.Record.{Record}
 use Rattle.nc_rules.specs.declared.steps.Next.{Next}
 use Rattle.nc_rules.specs.declared.steps.Next.TheVariants as nexts
 use Rattle.nc_rules.specs.declared.steps.Seen.{Seen}
-use Rattle.nc_rules.specs.Calls.{may_issue, issue_answer}
-use Rattle.nc_rules.specs.Driver.{DriverState, Moved, moved, started, start_moves, done, done_moves}
-use Rattle.nc_rules.specs.Machine.{MachineState}
+use Rattle.nc_rules.specs.declared.steps.Seen.TheVariants as seen
+use Rattle.nc_rules.specs.Calls.{may_issue, issue_next, issue_answer, claim_next, take_next, control_of}
+use Rattle.nc_rules.specs.Driver.{DriverState, Went, stays, started, done, is_script}
+use Rattle.nc_rules.specs.Machine.{MachineState, grantee_of}
+use Rattle.nc_rules.specs.Outcomes.{seen_of, claim_seen}
+use Rattle.nc_rules.specs.Records.{op_records}
 use Rattle.nc_rules.specs.Sound.{OpIsThere}
+use Rattle.nc_rules.specs.Watched.{issue_touch, poll_touch}
+use Rattle.nc_rules.specs.World.{WorldState, driver_of}
 
 -- ---- the machine's part
-
-abbrev pub IsGivenPayload : Payload → Type 0
-IsGivenPayload (Given bytes) = Unit {0}
-IsGivenPayload Last = ⊥
-
--- a store gives its bytes; no plan that is built stores what its hart loaded last
-abbrev pub IsGiven : HartOp → Type 0
-IsGiven (Store span kind bytes) = IsGivenPayload bytes
-IsGiven (Load span kind) = Unit {0}
-IsGiven (Cbo op block) = Unit {0}
-IsGiven (Fence pred succ) = Unit {0}
-IsGiven (IoLoad chan off width) = Unit {0}
-IsGiven (IoStore target) = Unit {0}
-IsGiven (Mark pred succ) = Unit {0}
-
-pub record OpFits (m : MachineState) (h : ℕ) (op : HartOp) : Type 0 where
-  pub there : OpIsThere m h op
-  pub given : IsGiven op
 
 -- what a step names is there
 abbrev pub NextFits : MachineState → ℕ → Next → Type 0
 NextFits m h nexts.End = Unit {0}
 NextFits m h nexts.Start = Unit {0}
 NextFits m h (nexts.Search k) = Unit {0}
-NextFits m h (nexts.Op op) = OpFits m h op
+NextFits m h (nexts.Op op) = OpIsThere m h op
 NextFits m h (nexts.Claim chan) = chan.0 < 4
 NextFits m h (nexts.Poll chan) = chan.0 < 4
 NextFits m h (nexts.Take buf) = buf < length m.boxes
@@ -56,15 +42,45 @@ CanAct m h (nexts.Claim chan) = Unit {0}
 CanAct m h (nexts.Poll chan) = Unit {0}
 CanAct m h (nexts.Take buf) = Unit {0}
 
--- the machine's answer to an operation
-abbrev pub acted : MachineState → HartNo → Next → Option Issued
-acted m h (nexts.Op op) = Some (issue_answer m h.0 op)
-acted m h nexts.End = None
-acted m h nexts.Start = None
-acted m h (nexts.Search k) = None
-acted m h (nexts.Claim chan) = None
-acted m h (nexts.Poll chan) = None
-acted m h (nexts.Take buf) = None
+-- what hart h's next step sees
+abbrev pub step_seen : MachineState → HartNo → Next → Seen
+step_seen m h (nexts.Op op) = seen_of (issue_answer m h.0 op)
+step_seen m h (nexts.Claim chan) = claim_seen (grantee_of m chan.0)
+step_seen m h (nexts.Poll chan) = seen.Control (control_of m chan.0)
+step_seen m h (nexts.Take buf) = seen.Nothing
+step_seen m h nexts.End = seen.Nothing
+step_seen m h nexts.Start = seen.Nothing
+step_seen m h (nexts.Search k) = seen.Nothing
+
+-- the machine after it
+abbrev pub step_machine : MachineState → HartNo → Next → MachineState
+step_machine m h (nexts.Op op) = issue_next m h.0 op
+step_machine m h (nexts.Claim chan) = claim_next m h chan.0
+step_machine m h (nexts.Take buf) = take_next m h.0 buf
+step_machine m h (nexts.Poll chan) = m
+step_machine m h nexts.End = m
+step_machine m h nexts.Start = m
+step_machine m h (nexts.Search k) = m
+
+-- what is recorded of it
+abbrev pub act_records : MachineState → HartNo → Bool → Next → List Record
+act_records m h by_script (nexts.Op op) = op_records m h by_script op
+act_records m h by_script nexts.End = []
+act_records m h by_script nexts.Start = []
+act_records m h by_script (nexts.Search k) = []
+act_records m h by_script (nexts.Claim chan) = []
+act_records m h by_script (nexts.Poll chan) = []
+act_records m h by_script (nexts.Take buf) = []
+
+-- the touch that it is
+abbrev pub step_touch : WorldState → HartNo → Next → Option Touch
+step_touch w h (nexts.Op op) = issue_touch w h (is_script (driver_of w h.0).phase) op
+step_touch w h (nexts.Poll chan) = poll_touch w h chan
+step_touch w h (nexts.Claim chan) = None
+step_touch w h (nexts.Take buf) = None
+step_touch w h nexts.End = None
+step_touch w h nexts.Start = None
+step_touch w h (nexts.Search k) = None
 
 -- ---- the driver's part
 
@@ -79,20 +95,11 @@ is_going (nexts.Poll chan) = true
 is_going (nexts.Take buf) = true
 
 -- the driver after a step that saw this, and what it moves
-abbrev pub went_on : DriverState → List Owner → Next → Seen → DriverState
-went_on d owners nexts.Start saw = started d owners
-went_on d owners nexts.End saw = d
-went_on d owners (nexts.Search k) saw = d
-went_on d owners (nexts.Op op) saw = done d saw
-went_on d owners (nexts.Claim chan) saw = done d saw
-went_on d owners (nexts.Poll chan) saw = done d saw
-went_on d owners (nexts.Take buf) saw = done d saw
-
-abbrev pub moves_on : DriverState → List Owner → Next → Seen → Moved
-moves_on d owners nexts.Start saw = start_moves d owners
-moves_on d owners nexts.End saw = moved [] None
-moves_on d owners (nexts.Search k) saw = moved [] None
-moves_on d owners (nexts.Op op) saw = done_moves d saw
-moves_on d owners (nexts.Claim chan) saw = done_moves d saw
-moves_on d owners (nexts.Poll chan) saw = done_moves d saw
-moves_on d owners (nexts.Take buf) saw = done_moves d saw
+abbrev pub went_on : DriverState → List Owner → PageMap → Next → Seen → Went
+went_on d owners pages nexts.Start saw = started d owners pages
+went_on d owners pages nexts.End saw = stays d
+went_on d owners pages (nexts.Search k) saw = stays d
+went_on d owners pages (nexts.Op op) saw = done d saw
+went_on d owners pages (nexts.Claim chan) saw = done d saw
+went_on d owners pages (nexts.Poll chan) saw = done d saw
+went_on d owners pages (nexts.Take buf) saw = done d saw

@@ -1,32 +1,27 @@
 //! The machine's calls, with what holds of the machine before them and what they keep of its shape.
 
-ghost use Rattle.std.specs.Prelude.{◌≡◌, ◌≤◌, ◌<◌, ◌==◌, true, false, length, All, IsTrue, IfNone, IfSome, Some, None};
+ghost use Rattle.std.specs.Prelude.{◌≡◌, ◌≤◌, ◌<◌, ◌+◌, ◌==◌, ◌++◌, true, false, length, All, IsTrue, IfNone, IfSome, Some, None};
 ghost use Rattle.std.specs.List.{list_all};
 ghost use Rattle.nc_cache.specs.Cache.{line_at, held_by};
-ghost use Rattle.nc_rules.specs.Calls.{may_issue, issue_answer, leaving, drain_next, drain_transfers, may_fill, fill_next, fill_answer, evict_next, evict_answer, chan_read_next, chan_read_told, chan_write_next, chan_write_told};
+ghost use Rattle.nc_rules.specs.Calls.{may_issue, issue_next, issue_answer, leaving, drain_next, drain_transfers, may_fill, fill_next, fill_answer, evict_next, evict_answer, chan_read_next, chan_read_told, chan_write_next, chan_write_told};
 ghost use Rattle.nc_rules.specs.Events.{is_over, is_idle_step};
 ghost use Rattle.nc_calls.specs.MachineLaws.{SameShape};
-ghost use Rattle.nc_rules.specs.Next.{seen_of, step_seen, step_machine};
-ghost use Rattle.nc_rules.specs.Sound.{IsMachine, IsBlockIn, EntryIsThere};
-ghost use Rattle.nc_log.specs.Logs.{HasPlace, EntryHasPlace, ActedHasPlaces};
+ghost use Rattle.nc_rules.specs.Outcomes.{seen_of};
+ghost use Rattle.nc_rules.specs.Records.{op_records};
+ghost use Rattle.nc_rules.specs.Sound.{IsMachine, IsBlockIn, EntryIsThere, OpIsThere};
+ghost use Rattle.nc_log.specs.Logs.{HasPlace, EntryHasPlace};
 ghost use Rattle.nc_world.specs.Looks.{IsTransactionIn};
-ghost use Rattle.nc_world.specs.Steps.{OpFits, NextFits, CanAct, acted};
+ghost use Rattle.nc_world.specs.Steps.{NextFits, CanAct, act_records, step_seen, step_machine};
 
 use nc_cache::BusList;
 use nc_calls::calls_keep_shape;
-use nc_machine::{Issued, Machine};
+use nc_log::Log;
+use nc_machine::Machine;
 use nc_num::{Block, ChanNo, HartNo};
 use nc_pdma::ChanStep;
 use nc_plan::HartOp;
 use nc_queue::Entry;
 use nc_rules::{Next, Seen};
-
-/// What holds of every machine.
-pub(crate) fn sound(machine: &Machine)
-    ensures { IsMachine machine.now.machine }
-{
-    let _control = machine.control(ChanNo(0));
-}
 
 /// Whether a transfer is over, by the channel's Control: bit 30 (done) or bit 31 (error) is set.
 pub(crate) fn is_over(control: u32) -> bool
@@ -37,14 +32,11 @@ pub(crate) fn is_over(control: u32) -> bool
 
 // ---- a driver's step
 
-/// What hart h's next step sees: what a register holds, whom a channel is granted to, or Control. The machine stays as it
-/// is.
-pub(crate) fn seen(machine: &mut Machine, h: HartNo, next: &Next) -> Seen
-    requires hart { h.0 < length machine.old.machine.harts }
-    requires there { NextFits machine.old.machine h.0 next.now }
-    requires can { CanAct machine.old.machine h.0 next.now }
-    ensures saw { result ≡ step_seen machine.old.machine h next.now }
-    ensures same { machine.new.machine ≡ machine.old.machine }
+/// What hart h's next step sees: what a register holds, whom a channel is granted to, or Control.
+pub(crate) fn seen(machine: &Machine, h: HartNo, next: &Next) -> Seen
+    requires hart { h.0 < length machine.now.machine.harts }
+    requires there { NextFits machine.now.machine h.0 next.now }
+    ensures { result ≡ step_seen machine.now.machine h next.now }
 {
     match next {
         Next::Op(op) => seen_by(machine, h, op),
@@ -57,27 +49,14 @@ pub(crate) fn seen(machine: &mut Machine, h: HartNo, next: &Next) -> Seen
     }
 }
 
-/// What a hart's operation shows its driver.
-#[tactic(auto, unfolding(nc_rules::specs::Calls::issue_next))]
-fn seen_by(machine: &mut Machine, h: HartNo, op: &HartOp) -> Seen
-    requires hart { h.0 < length machine.old.machine.harts }
-    requires there { OpFits machine.old.machine h.0 op.now }
-    requires can { IsTrue (may_issue machine.old.machine h.0 op.now) }
-    ensures saw { result ≡ seen_of (issue_answer machine.old.machine h.0 op.now) }
-    ensures same { machine.new.machine ≡ machine.old.machine }
+/// What a hart's operation shows its driver: a load of a register its value.
+fn seen_by(machine: &Machine, h: HartNo, op: &HartOp) -> Seen
+    requires { OpIsThere machine.now.machine h.0 op.now }
+    ensures { result ≡ seen_of (issue_answer machine.now.machine h.0 op.now) }
 {
+    let _h = h;
     match op {
-        HartOp::IoLoad { chan, off, width } => {
-            let load = HartOp::IoLoad {
-                chan: *chan,
-                off: *off,
-                width: *width,
-            };
-            match machine.issue(h, load) {
-                Issued::Value(value) => Seen::Value(value),
-                _ => unreachable!(),
-            }
-        }
+        HartOp::IoLoad { chan, off, width } => Seen::Value(machine.register(*chan, *off, *width)),
         HartOp::Load { .. }
         | HartOp::Store { .. }
         | HartOp::Cbo { .. }
@@ -87,32 +66,56 @@ fn seen_by(machine: &mut Machine, h: HartNo, op: &HartOp) -> Seen
     }
 }
 
-/// The machine's part of a step that hart h's driver makes: an operation, a claim or a take, with the answer of an
-/// operation.
-pub(crate) fn act(machine: &mut Machine, h: HartNo, next: &Next) -> Option<Issued>
+/// The machine's part of a step that hart h's driver makes, and its records: an operation, a claim or a take.
+pub(crate) fn act(
+    machine: &mut Machine,
+    log: &mut Log,
+    size: u32,
+    h: HartNo,
+    by_script: bool,
+    next: &Next,
+)
+    requires size { size ≡ machine.old.machine.size }
     requires hart { h.0 < length machine.old.machine.harts }
     requires there { NextFits machine.old.machine h.0 next.now }
     requires can { CanAct machine.old.machine h.0 next.now }
     requires spare { 1 ≤ machine.old.spare }
+    requires room { 7 ≤ log.old.room }
     ensures state { machine.new.machine ≡ step_machine machine.old.machine h next.now }
-    ensures answer { result ≡ acted machine.old.machine h next.now }
-    ensures places { ActedHasPlaces machine.old.machine.size result }
     ensures shape { SameShape machine.old.machine machine.new.machine }
+    ensures records { log.new.records ≡ log.old.records ++ act_records machine.old.machine h by_script next.now }
+    ensures room { log.old.room ≤ log.new.room + 7 }
 {
     calls_keep_shape();
-    sound(machine);
+    machine.sound();
     match next {
-        Next::Op(op) => Some(machine.issue(h, *op)),
+        Next::Op(op) => issue(machine, log, size, h, by_script, op),
         Next::Claim(chan) => {
             let _ = machine.claim(h, *chan);
-            None
         }
         Next::Take(buf) => {
             machine.take(h, *buf);
-            None
         }
-        Next::End | Next::Start | Next::Search(_) | Next::Poll(_) => None,
+        Next::End | Next::Start | Next::Search(_) | Next::Poll(_) => {}
     }
+}
+
+/// Hart h issues an operation, which is recorded.
+fn issue(machine: &mut Machine, log: &mut Log, size: u32, h: HartNo, by_script: bool, op: &HartOp)
+    requires size { size ≡ machine.old.machine.size }
+    requires hart { h.0 < length machine.old.machine.harts }
+    requires there { OpIsThere machine.old.machine h.0 op.now }
+    requires can { IsTrue (may_issue machine.old.machine h.0 op.now) }
+    requires spare { 1 ≤ machine.old.spare }
+    requires room { 7 ≤ log.old.room }
+    ensures state { machine.new.machine ≡ issue_next machine.old.machine h.0 op.now }
+    ensures records { log.new.records ≡ log.old.records ++ op_records machine.old.machine h by_script op.now }
+    ensures room { log.old.room ≤ log.new.room + 7 }
+{
+    machine.sound();
+    let last = *machine.last(h);
+    let issued = machine.issue(h, *op);
+    log.issued(size, h, by_script, op, &last, &issued);
 }
 
 // ---- the other events
@@ -140,7 +143,7 @@ pub(crate) fn drain(machine: &mut Machine, h: HartNo, i: u8) -> Option<(Entry, B
     ensures shape { SameShape machine.old.machine machine.new.machine }
 {
     calls_keep_shape();
-    sound(machine);
+    machine.sound();
     machine.drain(h, i)
 }
 
@@ -158,7 +161,7 @@ pub(crate) fn fill(machine: &mut Machine, h: HartNo, b: Block) -> Option<BusList
     ensures shape { SameShape machine.old.machine machine.new.machine }
 {
     calls_keep_shape();
-    sound(machine);
+    machine.sound();
     machine.fill(h, b)
 }
 
@@ -175,7 +178,7 @@ pub(crate) fn evict(machine: &mut Machine, h: HartNo, b: Block) -> Option<BusLis
     ensures shape { SameShape machine.old.machine machine.new.machine }
 {
     calls_keep_shape();
-    sound(machine);
+    machine.sound();
     machine.evict(h, b)
 }
 
@@ -189,7 +192,7 @@ pub(crate) fn chan_read(machine: &mut Machine, c: ChanNo) -> ChanStep
     ensures shape { SameShape machine.old.machine machine.new.machine }
 {
     calls_keep_shape();
-    sound(machine);
+    machine.sound();
     machine.chan_read(c)
 }
 
@@ -203,7 +206,7 @@ pub(crate) fn chan_write(machine: &mut Machine, c: ChanNo) -> ChanStep
     ensures shape { SameShape machine.old.machine machine.new.machine }
 {
     calls_keep_shape();
-    sound(machine);
+    machine.sound();
     machine.chan_write(c)
 }
 

@@ -8,7 +8,7 @@ ghost use Rattle.nc_scripts.specs.Scripts.{is_act, IsRangeIn};
 ghost use Rattle.nc_rules.specs.World.{no_driver, owners_moved, one_more};
 ghost use Rattle.nc_moves.specs.Shown.{seen_as};
 ghost use Rattle.nc_world.specs.Looks.{touches_after, IsTransactionIn, transaction_touch_in};
-ghost use Rattle.nc_world.specs.Steps.{is_going, went_on, moves_on};
+ghost use Rattle.nc_world.specs.Steps.{is_going, went_on};
 
 use nc_coherent::PagePool;
 use nc_driver::Driver;
@@ -52,8 +52,8 @@ pub(crate) fn go_on(
     requires coming { due.next_of (slice_index_or drivers.old.items h.0 no_driver) ≡ next.now }
     requires going { is_going next.now ≡ true }
     requires book { All (λ b. b.at + b.len ≤ length book.now.owners) (slice_index_or drivers.old.items h.0 no_driver).fixed.buffers }
-    ensures driver { IfOk result (λ m. drivers.new.items ≡ slice_set drivers.old.items h.0 (went_on (slice_index_or drivers.old.items h.0 no_driver) book.now.owners next.now saw)) }
-    ensures moves { IfOk result (λ m. seen_as m ≡ moves_on (slice_index_or drivers.old.items h.0 no_driver) book.now.owners next.now saw) }
+    ensures driver { IfOk result (λ m. drivers.new.items ≡ slice_set drivers.old.items h.0 (went_on (slice_index_or drivers.old.items h.0 no_driver) book.now.owners pages.now next.now saw).driver) }
+    ensures moves { IfOk result (λ m. seen_as m ≡ (went_on (slice_index_or drivers.old.items h.0 no_driver) book.now.owners pages.now next.now saw).moves) }
     ensures err { OnErr result (drivers.new.items ≡ drivers.old.items) }
 {
     match next {
@@ -73,8 +73,8 @@ fn start(
     requires hart { h.0 < length drivers.old.items }
     requires next { due.next_of (slice_index_or drivers.old.items h.0 no_driver) ≡ nexts.Start }
     requires book { All (λ b. b.at + b.len ≤ length book.now.owners) (slice_index_or drivers.old.items h.0 no_driver).fixed.buffers }
-    ensures driver { IfOk result (λ m. drivers.new.items ≡ slice_set drivers.old.items h.0 (due.started (slice_index_or drivers.old.items h.0 no_driver) book.now.owners)) }
-    ensures moves { IfOk result (λ m. seen_as m ≡ due.start_moves (slice_index_or drivers.old.items h.0 no_driver) book.now.owners) }
+    ensures driver { IfOk result (λ m. drivers.new.items ≡ slice_set drivers.old.items h.0 (due.started (slice_index_or drivers.old.items h.0 no_driver) book.now.owners pages.now).driver) }
+    ensures moves { IfOk result (λ m. seen_as m ≡ (due.started (slice_index_or drivers.old.items h.0 no_driver) book.now.owners pages.now).moves) }
     ensures err { OnErr result (drivers.new.items ≡ drivers.old.items) }
 {
     let driver = &mut drivers[usize::from(h.0)];
@@ -85,8 +85,8 @@ fn start(
 fn done(drivers: &mut Vec<Driver>, h: HartNo, saw: Seen) -> Result<Moves, NoMemory>
     requires hart { h.0 < length drivers.old.items }
     requires next { is_act (due.next_of (slice_index_or drivers.old.items h.0 no_driver)) ≡ true }
-    ensures driver { IfOk result (λ m. drivers.new.items ≡ slice_set drivers.old.items h.0 (due.done (slice_index_or drivers.old.items h.0 no_driver) saw)) }
-    ensures moves { IfOk result (λ m. seen_as m ≡ due.done_moves (slice_index_or drivers.old.items h.0 no_driver) saw) }
+    ensures driver { IfOk result (λ m. drivers.new.items ≡ slice_set drivers.old.items h.0 (due.done (slice_index_or drivers.old.items h.0 no_driver) saw).driver) }
+    ensures moves { IfOk result (λ m. seen_as m ≡ (due.done (slice_index_or drivers.old.items h.0 no_driver) saw).moves) }
     ensures err { OnErr result (drivers.new.items ≡ drivers.old.items) }
 {
     let driver = &mut drivers[usize::from(h.0)];

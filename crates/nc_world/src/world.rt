@@ -9,19 +9,18 @@ ghost use Rattle.nc_scen.specs.Events.{IsThere};
 ghost use Rattle.nc_rules.specs.Built.{IsBuilt};
 ghost use Rattle.nc_rules.specs.Calls.{leaving};
 ghost use Rattle.nc_rules.specs.Driver.{next_of, left_op, searching, is_script};
-ghost use Rattle.nc_rules.specs.Events.{may_go_on};
+ghost use Rattle.nc_rules.specs.Events.{may_go_on, may_issue_step};
 ghost use Rattle.nc_rules.specs.Lines.{at_end};
 ghost use Rattle.nc_calls.specs.MachineLaws.{SameShape};
-ghost use Rattle.nc_rules.specs.Next.{next, step_touch};
+ghost use Rattle.nc_rules.specs.Next.{next, event_records};
 ghost use Rattle.nc_rules.specs.Sound.{IsMachine, OpIsThere, IsBlockIn, IsPieceIn};
-ghost use Rattle.nc_rules.specs.Told.{told};
 ghost use Rattle.nc_rules.specs.View.{bytes_of};
 ghost use Rattle.nc_rules.specs.Watched.{owner_of, issue_touch, op_touch, cbo_touch};
 ghost use Rattle.nc_rules.specs.World.{start, driver_of};
 ghost use Rattle.nc_world.specs.Looks.{is_ended, leaving_touch};
 ghost use Rattle.nc_world.specs.Shown.{answer};
 ghost use Rattle.nc_world.specs.State.{IsWorld};
-ghost use Rattle.nc_world.specs.Steps.{NextFits};
+ghost use Rattle.nc_world.specs.Steps.{NextFits, step_touch};
 
 use crate::{acts, setup, steps};
 use nc_coherent::PagePool;
@@ -89,7 +88,7 @@ impl Model for World {
     ghost invariant = { IsSound };
 }
 
-#[tactic(auto, unfolding(nc_rules::specs::Events::enabled, nc_rules::specs::Next::next, nc_rules::specs::Next::performed, nc_rules::specs::Next::step_next, nc_rules::specs::Told::told, nc_rules::specs::Told::recorded, nc_rules::specs::Told::step_told))]
+#[tactic(auto, unfolding(nc_rules::specs::Events::enabled, nc_rules::specs::Next::next, nc_rules::specs::Next::performed, nc_rules::specs::Next::event_records, nc_rules::specs::Outcomes::outcome))]
 impl World {
     // ---- the start
 
@@ -130,7 +129,7 @@ impl World {
         requires there { IsThere (length self.old.at.machine.harts) self.old.at.machine.size (length self.old.at.machine.cache.ram) e }
         ensures answer { IfOk result (λ s. s ≡ answer self.old.at e) }
         ensures next { OnOk result (self.new.at ≡ next self.old.at e) }
-        ensures told { OnOk result (self.new.records ≡ self.old.records ++ told self.old.at e) }
+        ensures records { OnOk result (self.new.records ≡ self.old.records ++ event_records self.old.at e) }
         ensures shape { OnOk result (SameShape self.old.at.machine self.new.at.machine) }
         ensures err { OnErr result (self.new ≡ self.old) }
     {
@@ -186,7 +185,12 @@ impl World {
     {
         match self.coming(h) {
             Next::Search(k) => Some(k),
-            _ => None,
+            Next::End
+            | Next::Start
+            | Next::Op(_)
+            | Next::Claim(_)
+            | Next::Poll(_)
+            | Next::Take(_) => None,
         }
     }
 
@@ -229,7 +233,7 @@ impl World {
         ensures some { 1 ≤ result }
         ensures few { result ≤ 4 }
     {
-        acts::sound(&self.machine);
+        self.machine.sound();
         self.drivers.len() as u8
     }
 
@@ -254,7 +258,7 @@ impl World {
         ensures machine { IsMachine self.now.at.machine }
         ensures world { IsWorld self.now.at }
     {
-        acts::sound(&self.machine);
+        self.machine.sound();
     }
 
     /// What the driver of hart h does next.
@@ -353,16 +357,21 @@ impl World {
         requires { h.0 < length self.now.at.machine.harts }
         ensures { result ≡ leaving_touch self.now.at h (leaving self.now.at.machine h.0 i) }
     {
-        match acts::peek(&self.machine, h, i) {
-            Some(
-                Entry::Reg {
-                    chan,
-                    off,
-                    width,
-                    ..
-                },
-            ) => register_touch(h, chan, off, width, self.machine.grantee(chan)),
-            _ => None,
+        let Some(entry) = acts::peek(&self.machine, h, i) else {
+            return None;
+        };
+        match entry {
+            Entry::Reg {
+                chan,
+                off,
+                width,
+                ..
+            } => register_touch(h, chan, off, width, self.machine.grantee(chan)),
+            Entry::Store { .. }
+            | Entry::Cbo { .. }
+            | Entry::Mail { .. }
+            | Entry::Lend { .. }
+            | Entry::Mark { .. } => None,
         }
     }
 
@@ -385,6 +394,20 @@ impl World {
         }
     }
 
+    /// Whether the next step of hart h's driver, this one, may be made: no token that it waits for is in the hart's queue.
+    fn may_issue(&self, h: HartNo, next: &Next) -> bool
+        requires hart { h.0 < length self.now.at.machine.harts }
+        requires there { NextFits self.now.at.machine h.0 next.now }
+        requires next { next.now ≡ next_of (driver_of self.now.at h.0) }
+        ensures { result ≡ may_issue_step self.now.at h }
+    {
+        let out = match self.drivers[usize::from(h.0)].waits_for() {
+            Some(label) => !self.machine.lends(h, label),
+            None => true,
+        };
+        out && self.may_go_on(h, next)
+    }
+
     /// The touch that the next step of hart h's driver is.
     fn step_touch(&self, h: HartNo, next: &Next) -> Option<Touch>
         requires hart { h.0 < length self.now.at.machine.harts }
@@ -394,16 +417,17 @@ impl World {
         match next {
             Next::Op(op) => self.issue_touch(h, op),
             Next::Poll(c) => register_touch(h, *c, CONTROL, 4, self.machine.grantee(*c)),
-            _ => None,
+            Next::End | Next::Start | Next::Search(_) | Next::Claim(_) | Next::Take(_) => None,
         }
     }
 
     /// The event by its kind.
     fn make(&mut self, e: Event) -> Result<Stepped, NoMemory>
+        requires world { IsWorld self.old.at }
         requires there { IsThere (length self.old.at.machine.harts) self.old.at.machine.size (length self.old.at.machine.cache.ram) e }
         ensures answer { IfOk result (λ s. s ≡ answer self.old.at e) }
         ensures next { OnOk result (self.new.at ≡ next self.old.at e) }
-        ensures told { OnOk result (self.new.records ≡ self.old.records ++ told self.old.at e) }
+        ensures records { OnOk result (self.new.records ≡ self.old.records ++ event_records self.old.at e) }
         ensures err { OnErr result (self.new ≡ self.old) }
     {
         match e {
@@ -422,23 +446,29 @@ impl World {
         requires { h.0 < length self.old.at.machine.harts }
         ensures answer { IfOk result (λ s. s ≡ answer self.old.at (Event.Issue h)) }
         ensures next { OnOk result (self.new.at ≡ next self.old.at (Event.Issue h)) }
-        ensures told { OnOk result (self.new.records ≡ self.old.records ++ told self.old.at (Event.Issue h)) }
+        ensures records { OnOk result (self.new.records ≡ self.old.records ++ event_records self.old.at (Event.Issue h)) }
         ensures err { OnErr result (self.new ≡ self.old) }
     {
         let next = self.coming(h);
-        if !self.may_go_on(h, &next) {
+        if !self.may_issue(h, &next) {
             return Ok(Stepped::Skipped);
         }
         let touch = self.step_touch(h, &next);
         let n = self.number(h);
         let by_script = self.is_script(h);
-        let saw = acts::seen(&mut self.machine, h, &next);
+        let saw = acts::seen(&self.machine, h, &next);
         steps::reserve(&mut self.machine, &mut self.book, &mut self.log)?;
         let moves = steps::go_on(&mut self.drivers, h, &next, saw, &self.book, &self.pages)?;
-        let acted = acts::act(&mut self.machine, h, &next);
         self.log.push(&Record::Event(Event::Issue(h)));
         self.log.touch(touch);
-        self.log.acted(self.size, h, by_script, &next, &acted);
+        acts::act(
+            &mut self.machine,
+            &mut self.log,
+            self.size,
+            h,
+            by_script,
+            &next,
+        );
         steps::turn(&mut self.book, moves.transfers.as_slice());
         self.log.moves(h, n, &moves);
         self.touches = steps::touches_after(self.touches, touch);
@@ -453,7 +483,7 @@ impl World {
         requires { h.0 < length self.old.at.machine.harts }
         ensures answer { IfOk result (λ s. s ≡ answer self.old.at (Event.Drain h i)) }
         ensures next { OnOk result (self.new.at ≡ next self.old.at (Event.Drain h i)) }
-        ensures told { OnOk result (self.new.records ≡ self.old.records ++ told self.old.at (Event.Drain h i)) }
+        ensures records { OnOk result (self.new.records ≡ self.old.records ++ event_records self.old.at (Event.Drain h i)) }
         ensures err { OnErr result (self.new ≡ self.old) }
     {
         let touch = self.leaving_touch(h, i);
@@ -476,7 +506,7 @@ impl World {
         requires block { IsBlockIn self.old.at.machine.size (length self.old.at.machine.cache.ram) b.0 }
         ensures answer { IfOk result (λ s. s ≡ answer self.old.at (Event.Fill h b)) }
         ensures next { OnOk result (self.new.at ≡ next self.old.at (Event.Fill h b)) }
-        ensures told { OnOk result (self.new.records ≡ self.old.records ++ told self.old.at (Event.Fill h b)) }
+        ensures records { OnOk result (self.new.records ≡ self.old.records ++ event_records self.old.at (Event.Fill h b)) }
         ensures err { OnErr result (self.new ≡ self.old) }
     {
         steps::reserve(&mut self.machine, &mut self.book, &mut self.log)?;
@@ -495,7 +525,7 @@ impl World {
         requires block { IsBlockIn self.old.at.machine.size (length self.old.at.machine.cache.ram) b.0 }
         ensures answer { IfOk result (λ s. s ≡ answer self.old.at (Event.Evict h b)) }
         ensures next { OnOk result (self.new.at ≡ next self.old.at (Event.Evict h b)) }
-        ensures told { OnOk result (self.new.records ≡ self.old.records ++ told self.old.at (Event.Evict h b)) }
+        ensures records { OnOk result (self.new.records ≡ self.old.records ++ event_records self.old.at (Event.Evict h b)) }
         ensures err { OnErr result (self.new ≡ self.old) }
     {
         self.log.reserve()?;
@@ -509,12 +539,12 @@ impl World {
     }
 
     /// A channel reads memory, where it may.
-    #[tactic(auto, using(crate::proofs::Answered::transaction_rules), unfolding(nc_rules::specs::Events::enabled, nc_rules::specs::Next::next, nc_rules::specs::Next::performed, nc_rules::specs::Told::told, nc_rules::specs::Told::recorded))]
+    #[tactic(auto, using(crate::proofs::Answered::transaction_rules), unfolding(nc_rules::specs::Events::enabled, nc_rules::specs::Next::next, nc_rules::specs::Next::performed, nc_rules::specs::Next::event_records, nc_rules::specs::Outcomes::outcome))]
     fn chan_read(&mut self, c: ChanNo) -> Result<Stepped, NoMemory>
         requires { c.0 < 4 }
         ensures answer { IfOk result (λ s. s ≡ answer self.old.at (Event.ChanRead c)) }
         ensures next { OnOk result (self.new.at ≡ next self.old.at (Event.ChanRead c)) }
-        ensures told { OnOk result (self.new.records ≡ self.old.records ++ told self.old.at (Event.ChanRead c)) }
+        ensures records { OnOk result (self.new.records ≡ self.old.records ++ event_records self.old.at (Event.ChanRead c)) }
         ensures err { OnErr result (self.new ≡ self.old) }
     {
         self.log.reserve()?;
@@ -532,12 +562,12 @@ impl World {
     }
 
     /// A channel writes memory, where it may.
-    #[tactic(auto, using(crate::proofs::Answered::transaction_rules), unfolding(nc_rules::specs::Events::enabled, nc_rules::specs::Next::next, nc_rules::specs::Next::performed, nc_rules::specs::Told::told, nc_rules::specs::Told::recorded))]
+    #[tactic(auto, using(crate::proofs::Answered::transaction_rules), unfolding(nc_rules::specs::Events::enabled, nc_rules::specs::Next::next, nc_rules::specs::Next::performed, nc_rules::specs::Next::event_records, nc_rules::specs::Outcomes::outcome))]
     fn chan_write(&mut self, c: ChanNo) -> Result<Stepped, NoMemory>
         requires { c.0 < 4 }
         ensures answer { IfOk result (λ s. s ≡ answer self.old.at (Event.ChanWrite c)) }
         ensures next { OnOk result (self.new.at ≡ next self.old.at (Event.ChanWrite c)) }
-        ensures told { OnOk result (self.new.records ≡ self.old.records ++ told self.old.at (Event.ChanWrite c)) }
+        ensures records { OnOk result (self.new.records ≡ self.old.records ++ event_records self.old.at (Event.ChanWrite c)) }
         ensures err { OnErr result (self.new ≡ self.old) }
     {
         self.log.reserve()?;

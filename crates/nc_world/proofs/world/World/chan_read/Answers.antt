@@ -3,20 +3,21 @@ use Rattle.nc_scen.specs.declared.events.Event.TheVariants.{ChanRead}
 use Rattle.nc_rules.specs.declared.records.Record.{Record}
 use Rattle.nc_rules.specs.declared.records.Record.TheVariants as records
 use Rattle.nc_rules.specs.Events.{is_idle_step}
-use Rattle.nc_rules.specs.Told.{touch_told, told}
+use Rattle.nc_rules.specs.Next.{event_records}
+use Rattle.nc_rules.specs.Records.{touch_records}
 use Rattle.nc_world.specs.Inside.{state_of}
 use Rattle.nc_world.specs.Shown.{Shown}
-use Rattle.nc_world.proofs.Answered.{told_read, added}
+use Rattle.nc_world.proofs.Answered.{records_read, added}
 use Rattle.nc_world.proofs.world.World.chan_read.Goals as goal
 
-pub returns-clause-told : goal.returns-clause-told
-returns-clause-told c =
+pub returns-clause-records : goal.returns-clause-records
+returns-clause-records c =
     let w = state_of c.self.inside in
     let t = c.chan_read-moved.result in
     let start = c.self.inside.log.records in
     let x = records.Event (ChanRead c.args.c) in
     let moved : is_idle_step t ≡ false = sym c.is_idle.ensures ∙ c.if-is_idle.false in
     let pushed = c.push.ensures.records ∙ ap (λ (l : List Record). l ++ x ∷ []) c.in_ok-reserve.ensures.records in
-    let touched = c.touch.ensures.records ∙ ap (λ (l : List Record). c.push.new.self.records ++ l) (ap touch_told c.transaction_touch-touch.ensures) in
-    let sum = added start _ _ _ _ _ x pushed touched c.chan_read.ensures.records ∙ ap (λ (l : List Record). start ++ l) (sym (told_read w c.args.c t c.chan_read-moved.ensures.told moved)) in
-    subst (λ (v : Shown). c.chan_read.new.self.records ≡ v.records ++ told v.at (ChanRead c.args.c)) c.self.view_is sum
+    let touched = c.touch.ensures.records ∙ ap (λ (l : List Record). c.push.new.self.records ++ l) (ap touch_records c.transaction_touch-touch.ensures) in
+    let sum = added start _ _ _ _ _ x pushed touched c.chan_read.ensures.records ∙ ap (λ (l : List Record). start ++ l) (sym (records_read w c.args.c t c.chan_read-moved.ensures.told moved)) in
+    subst (λ (v : Shown). c.chan_read.new.self.records ≡ v.records ++ event_records v.at (ChanRead c.args.c)) c.self.view_is sum
