@@ -1,6 +1,7 @@
 -- What a driver goes on to keeps what every driver keeps, and is what nc_rules says: no driver that is built has a lot.
-use Rattle.std.proofs.Common.{◌≡◌, ℕ, ◌<◌, ◌+◌, true, false, List, [], ◌∷◌, ◌++◌, length, refl, sym, ap, subst, ◌∙◌, Option, Some, None, Ok, Err, Result}
-use Rattle.std.specs.Prelude.{drop, if◌then◌else◌, Bool}
+use Rattle.std.proofs.Common.{arith, ◌≡◌, ℕ, ◌<◌, ◌+◌, true, false, List, [], ◌∷◌, ◌++◌, length, refl, sym, ap, subst, ◌∙◌, Option, Some, None, Ok, Err, Result}
+use Rattle.std.specs.Prelude.{drop, if◌then◌else◌, Bool, All, slice_index_or}
+use Rattle.std.proofs.lemmas.List.Elements.{All-tail}
 use Rattle.std.proofs.lemmas.Option.{slice_get_within}
 use Rattle.nc_num.specs.declared.names.HartNo.{HartNo}
 use Rattle.nc_model.specs.declared.owners.Owner.{Owner}
@@ -23,10 +24,10 @@ use Rattle.nc_rules.specs.Turns.{Moved, moved, lots_after, lots_after_both, turn
 use Rattle.nc_rules.specs.Operations.{has_start, begin, plan_of, opening, step_at, good_answer, bad_answer}
 use Rattle.nc_rules.specs.Driver.{DriverState, Went, in_hand, next_of, next_of_op, next_in, over, stands, stays, kept, give_up, went_to, answered, opened, placed, with_lots, begun, refused_step, steps_done, started, started_op, started_of, busy, stepped_to, step_answer, stepped, worked, done, done_of, done_unless, done_in}
 use Rattle.nc_rules.specs.Start.{first_driver}
-use Rattle.nc_scripts.specs.Scripts.{IsDriver, IsPhase, is_act}
+use Rattle.nc_scripts.specs.Scripts.{IsDriver, IsPhase, StepIsThere, is_act}
 use Rattle.nc_scripts.proofs.DriverLaws.{IsInHand, first_drivers, in_hand_is, went_is, plan_there, few_steps, next_step_is}
 use Rattle.nc_checks.specs.Due.{step_of, step_due}
-use Rattle.nc_driver.specs.Kept.{IsKept, due_of}
+use Rattle.nc_driver.specs.Kept.{IsKept, IsReady, due_of}
 use Rattle.nc_driver.specs.Rests.{is_more, is_nil, made_first, made_last}
 
 pub first_kept : (sc : Scenario) (me : HartNo) → IsAccepted sc → IsBuilt sc → me.0 < length sc.harts → IsKept (first_driver sc me)
@@ -114,7 +115,7 @@ opened_none : (d : DriverState) (o : Op) → opened (with_lots d []) o ≡ recor
 }
 opened_none d o =
     ap (λ (ls : List Lot). record { driver = went_to (with_lots d []) ls d.saw (plan_of d.fixed [] o); moves = turned d.fixed [] (opening d.fixed [] o) turns.Stay (answered (with_lots d []) o d.saw (plan_of d.fixed [] o)) })
-      (none_after (opening d.fixed [] o))
+    (none_after (opening d.fixed [] o))
     ∙ ap (λ (x : DriverState). record { driver = x; moves = turned d.fixed [] (opening d.fixed [] o) turns.Stay (answered (with_lots d []) o d.saw (plan_of d.fixed [] o)) }) (went_bare d d.saw (plan_of d.fixed [] o))
 
 pub begun_opened : (d : DriverState) (ws : List Owner) (pages : PageMap) (o : Op) → d.lots ≡ [] → in_hand d ≡ Some o → has_start o ≡ true → begin d.fixed [] ws pages o ≡ Ok []
@@ -128,9 +129,9 @@ begun_opened d ws pages o none e start is =
     ∙ ap (λ (x : DriverState). record { driver = went_to d [] d.saw (plan_of d.fixed [] o); moves = turned d.fixed [] (opening d.fixed [] o) turns.Stay (answered x o d.saw (plan_of d.fixed [] o)) }) (sym (bare d none))
 
 -- a refusal of a step
-pub start_refused : (d : DriverState) (ws : List Owner) (pages : PageMap) (o : Op) (n : ℕ) (r : Refusal) → d.lots ≡ [] → in_hand d ≡ Some o → has_start o ≡ false → due_of d ≡ Err r → started d ws pages ≡ give_up d o r
+pub start_refused : (d : DriverState) (ws : List Owner) (pages : PageMap) (o : Op) (r : Refusal) → d.lots ≡ [] → in_hand d ≡ Some o → has_start o ≡ false → due_of d ≡ Err r → started d ws pages ≡ give_up d o r
 unfolding started
-start_refused d ws pages o n r none e start is =
+start_refused d ws pages o r none e start is =
     ap (λ (x : Option Op). started_of d ws pages x) e
     ∙ ap (λ (t : Bool). if t then begun d o (begin d.fixed d.lots ws pages o) else refused_step d o (step_at d.fixed d.lots o (steps_done d.phase))) start
     ∙ ap (λ (ls : List Lot). refused_step d o (step_at d.fixed ls o (steps_done d.phase))) none
@@ -230,3 +231,51 @@ done_busy d saw o r e b = ap (λ (x : Option Op). done_of d saw x) e ∙ ap (λ 
 pub done_made : (d : DriverState) (saw : Seen) (o : Op) (p : Phase) → in_hand d ≡ Some o → busy saw ≡ None → d.phase ≡ p → done d saw ≡ done_in d o (kept d.saw saw) p
 unfolding done
 done_made d saw o p e b at = ap (λ (x : Option Op). done_of d saw x) e ∙ ap (λ (x : Option Refusal). done_unless d o saw x) b ∙ ap (λ (q : Phase). done_in d o (kept d.saw saw) q) at
+
+-- ---- the rest behind the first step
+
+some_rest : (rest : List Step) → is_nil rest ≡ false → 0 < length rest
+some_rest [] e = absurd (cc)
+some_rest (s ∷ rest) e = omega arith
+
+rest_there : (P : Step → Type 0) (rest : List Step) → All P rest → All P (drop 1 rest)
+rest_there P [] all = all
+rest_there P (s ∷ rest) all = All-tail P s rest all
+
+pub drop_ready : (d : DriverState) (step : Result (Option Step) Refusal) (saw : Seen) → IsReady d step → d.phase ≡ Work → is_nil (drop 1 d.rest) ≡ false
+    → IsReady (record { fixed = d.fixed; op = d.op; phase = d.phase; rest = drop 1 d.rest; lots = []; saw = saw }) step
+drop_ready d step saw r p more = record {
+  kept = record {
+    ram = r.kept.ram;
+    harts = r.kept.harts;
+    driver = record {
+      fixed = r.kept.driver.fixed;
+      op = r.kept.driver.op;
+      phase = subst (λ (q : Phase). IsPhase q (drop 1 d.rest)) (sym p) (some_rest (drop 1 d.rest) more);
+      rest = rest_there (StepIsThere r.kept.ram r.kept.harts d.fixed) d.rest r.kept.driver.rest;
+      lots = refl;
+    };
+  };
+  due = r.due;
+}
+
+first_is : (rest : List Step) (s : Step) → 0 < length rest → s ≡ slice_index_or rest 0 s → rest ≡ s ∷ drop 1 rest
+first_is [] s lt e = absurd (omega (arith, lt))
+first_is (t ∷ rest) s lt e = ap (λ (x : Step). x ∷ rest) (sym e)
+
+-- a plan that is at work has a first step
+pub front_rest : (d : DriverState) (s : Step) → IsKept d → d.phase ≡ Work → s ≡ slice_index_or d.rest 0 s → d.rest ≡ s ∷ drop 1 d.rest
+front_rest d s k p e = first_is d.rest s (subst (λ (q : Phase). IsPhase q d.rest) p k.driver.phase) e
+
+-- a step that is due and not refused is no start
+pub start_stays : (d : DriverState) (ws : List Owner) (pages : PageMap) (o : Op) (s : Option Step) → d.lots ≡ [] → in_hand d ≡ Some o → has_start o ≡ false → due_of d ≡ Ok s → started d ws pages ≡ stays d
+unfolding started
+start_stays d ws pages o s none e start is =
+    ap (λ (x : Option Op). started_of d ws pages x) e
+    ∙ ap (λ (t : Bool). if t then begun d o (begin d.fixed d.lots ws pages o) else refused_step d o (step_at d.fixed d.lots o (steps_done d.phase))) start
+    ∙ ap (λ (ls : List Lot). refused_step d o (step_at d.fixed ls o (steps_done d.phase))) none
+    ∙ ap (refused_step d o) (sym (ap (λ (x : Option Op). step_of d.fixed (steps_done d.phase) x) e) ∙ is)
+
+pub start_ends : (d : DriverState) (ws : List Owner) (pages : PageMap) → in_hand d ≡ None → started d ws pages ≡ stays d
+unfolding started
+start_ends d ws pages e = ap (λ (x : Option Op). started_of d ws pages x) e

@@ -2,9 +2,9 @@
 
 ghost use Rattle.std.specs.Prelude.{◌≡◌};
 ghost use Rattle.nc_rules.specs.Driver as due;
-ghost use Rattle.nc_driver.specs.Rests.{is_more};
+ghost use Rattle.nc_driver.specs.Rests.{is_more, made_first, made_last};
 
-use nc_rules::{Act, Next, Phase, Refusal, Step};
+use nc_rules::{Act, Next, Refusal, Step, Turn};
 use std::collections::VecDeque;
 
 fn next_act(act: &Act) -> Next
@@ -48,12 +48,22 @@ pub(crate) fn is_more(step: &Result<Option<Step>, Refusal>) -> bool
     }
 }
 
-/// How many steps of the operation in hand are done.
-pub(crate) fn steps_done(phase: Phase) -> u32
-    ensures { result ≡ due.steps_done phase }
+/// The turn before a step, where there is one.
+pub(crate) fn first_turn(step: &Result<Option<Step>, Refusal>) -> Turn
+    ensures { result ≡ made_first step.now }
 {
-    match phase {
-        Phase::Steps(n) => n,
-        Phase::Search(_) | Phase::Work => 0,
+    match step {
+        Ok(Some(step)) => step.first,
+        Ok(None) | Err(_) => Turn::Stay,
+    }
+}
+
+/// The turn behind a step, where there is one.
+pub(crate) fn last_turn(step: &Result<Option<Step>, Refusal>) -> Turn
+    ensures { result ≡ made_last step.now }
+{
+    match step {
+        Ok(Some(step)) => step.last,
+        Ok(None) | Err(_) => Turn::Stay,
     }
 }

@@ -20,7 +20,7 @@ ghost use Rattle.nc_driver.specs.Rests.{is_nil, made_first, made_last};
 ghost use Rattle.nc_moves.specs.Shown.{seen_as};
 
 use crate::answers::{bad_answer, busy, good_answer, kept, waited_label};
-use crate::coming::{is_more, next_rest, next_step};
+use crate::coming::{first_turn, is_more, last_turn, next_rest, next_step};
 use nc_checks::{Setup, has_start};
 use nc_coherent::PagePool;
 use nc_moves::Moves;
@@ -144,14 +144,15 @@ impl Driver {
         ensures err { OnErr result (self.new ≡ self.old) }
     {
         let _pages = pages;
+        let alloc = self.alloc;
         let Some(op) = self.in_hand() else {
-            return Ok(Moves::answer(self.alloc, None));
+            return Ok(Moves::answer(alloc, None));
         };
         if has_start(op) {
             return self.begin(book);
         }
         match self.due {
-            Ok(_) => Ok(Moves::answer(self.alloc, None)),
+            Ok(_) => Ok(Moves::answer(alloc, None)),
             Err(refusal) => Ok(self.give_up(refusal)),
         }
     }
@@ -192,17 +193,19 @@ impl Driver {
     fn begin(&mut self, book: &Book) -> Result<Moves, NoMemory>
         requires start { (o : Op) → due.in_hand self.old ≡ Some o → rules.has_start o ≡ true }
         requires book { All (λ b. b.at + b.len ≤ length book.now.owners) self.old.fixed.buffers }
-        ensures driver { (pages : PageMap) → IfOk result (λ m. self.new ≡ (due.started self.old book.now.owners pages).driver) }
-        ensures moves { (pages : PageMap) → IfOk result (λ m. seen_as m ≡ (due.started self.old book.now.owners pages).moves) }
+        ensures driver { (o : Op) (pages : PageMap) → due.in_hand self.old ≡ Some o → IfOk result (λ m. self.new ≡ (due.started self.old book.now.owners pages).driver) }
+        ensures moves { (o : Op) (pages : PageMap) → due.in_hand self.old ≡ Some o → IfOk result (λ m. seen_as m ≡ (due.started self.old book.now.owners pages).moves) }
+        ensures fixed { self.new.fixed ≡ self.old.fixed }
         ensures err { OnErr result (self.new ≡ self.old) }
     {
+        let alloc = self.alloc;
         let Some(op) = self.in_hand() else {
-            return Ok(Moves::answer(self.alloc, None));
+            return Ok(Moves::answer(alloc, None));
         };
         if let Err(refusal) = self.setup().begin(book, op) {
             return Ok(self.give_up(refusal));
         }
-        let plan = plan_of(self.alloc, op)?;
+        let plan = plan_of(alloc, op)?;
         let moves = self.opened(op, &plan)?;
         self.go(plan);
         Ok(moves)
@@ -228,13 +231,22 @@ impl Driver {
         requires { self.old.op < length self.old.fixed.script }
         ensures driver { (o : Op) → due.in_hand self.old ≡ Some o → self.new ≡ (due.give_up self.old o refusal).driver }
         ensures moves { (o : Op) → due.in_hand self.old ≡ Some o → seen_as result ≡ (due.give_up self.old o refusal).moves }
+        ensures fixed { self.new.fixed ≡ self.old.fixed }
     {
-        let answer = match self.in_hand() {
+        let alloc = self.alloc;
+        let answer = self.refused(refusal);
+        self.close();
+        Moves::answer(alloc, answer)
+    }
+
+    /// The answer of the operation in hand, where it is refused.
+    fn refused(&self, refusal: Refusal) -> Option<Answer>
+        ensures { (o : Op) → due.in_hand self.now ≡ Some o → result ≡ Some (rules.bad_answer self.now.fixed [] o refusal) }
+    {
+        match self.in_hand() {
             Some(op) => Some(bad_answer(op, refusal)),
             None => None,
-        };
-        self.close();
-        Moves::answer(self.alloc, answer)
+        }
     }
 
     /// Step n of the operation in hand, which is due, is made.
@@ -243,15 +255,12 @@ impl Driver {
         requires next { is_act (due.next_of self.old) ≡ true }
         ensures driver { (o : Op) → due.in_hand self.old ≡ Some o → IfOk result (λ m. self.new ≡ (due.done_in self.old o saw (Steps n)).driver) }
         ensures moves { (o : Op) → due.in_hand self.old ≡ Some o → IfOk result (λ m. seen_as m ≡ (due.done_in self.old o saw (Steps n)).moves) }
+        ensures fixed { self.new.fixed ≡ self.old.fixed }
         ensures err { OnErr result (self.new ≡ self.old) }
     {
         let after = self.setup().step_due(self.op, n + 1);
         let moves = self.stepped(&after, saw)?;
-        if is_more(&after) {
-            self.count(n + 1, after, saw);
-        } else {
-            self.close();
-        }
+        self.advance(n, after, saw);
         Ok(moves)
     }
 
@@ -259,15 +268,37 @@ impl Driver {
     fn stepped(&self, after: &Result<Option<Step>, Refusal>, saw: Seen) -> Result<Moves, NoMemory>
         ensures { (o : Op) → due.in_hand self.now ≡ Some o → IfOk result (λ m. seen_as m ≡ turned self.now.fixed [] (made_first (due_of self.now)) (made_last (due_of self.now)) (due.step_answer self.now o saw after.now)) }
     {
-        let answer = match (self.in_hand(), after) {
-            (Some(op), Ok(None)) => good_answer(op, saw),
-            (None, _) | (_, Ok(Some(_)) | Err(_)) => None,
-        };
-        let (first, last) = match self.due {
-            Ok(Some(step)) => (step.first, step.last),
-            Ok(None) | Err(_) => (Turn::Stay, Turn::Stay),
-        };
+        let answer = self.step_answer(after, saw);
+        let (first, last) = (first_turn(&self.due), last_turn(&self.due));
         Moves::turn(self.alloc, self.setup.me(), first, last, answer)
+    }
+
+    /// The answer of the operation in hand, where this step is behind the one that is due.
+    fn step_answer(&self, after: &Result<Option<Step>, Refusal>, saw: Seen) -> Option<Answer>
+        ensures { (o : Op) → due.in_hand self.now ≡ Some o → result ≡ due.step_answer self.now o saw after.now }
+    {
+        let Some(op) = self.in_hand() else {
+            return None;
+        };
+        match after {
+            Ok(None) => good_answer(op, saw),
+            Ok(Some(_)) | Err(_) => None,
+        }
+    }
+
+    /// Step n of the operation in hand is done, and this one is behind it; the operation is over where there is none.
+    fn advance(&mut self, n: u32, after: Result<Option<Step>, Refusal>, saw: Seen)
+        requires here { self.old.op < length self.old.fixed.script }
+        requires few { n < 4096 }
+        requires after { after ≡ step_due self.old.fixed self.old.op (n + 1) }
+        ensures driver { self.new ≡ due.stepped_to self.old (n + 1) [] saw after }
+        ensures fixed { self.new.fixed ≡ self.old.fixed }
+    {
+        if is_more(&after) {
+            self.count(n + 1, after, saw);
+            return;
+        }
+        self.close();
     }
 
     /// The first step of the rest is made.
@@ -276,6 +307,7 @@ impl Driver {
         requires next { is_act (due.next_of self.old) ≡ true }
         ensures driver { (o : Op) → due.in_hand self.old ≡ Some o → IfOk result (λ m. self.new ≡ (due.worked self.old o saw self.old.rest).driver) }
         ensures moves { (o : Op) → due.in_hand self.old ≡ Some o → IfOk result (λ m. seen_as m ≡ (due.worked self.old o saw self.old.rest).moves) }
+        ensures fixed { self.new.fixed ≡ self.old.fixed }
         ensures err { OnErr result (self.new ≡ self.old) }
     {
         let Some(step) = self.rest.front() else {
@@ -303,6 +335,7 @@ impl Driver {
         ensures op { MatchOption result (due.in_hand self.now ≡ None) (λ o. due.in_hand self.now ≡ Some o.now) }
         ensures here { OnSome result (self.now.op < length self.now.fixed.script) }
         ensures built { IfSome result (λ o. is_built_op o.now ≡ true) }
+        ensures bare { self.now.lots ≡ [] }
     {
         self.setup.op(self.op)
     }
@@ -349,7 +382,8 @@ impl Driver {
     /// The operation in hand is over.
     fn close(&mut self)
         requires { self.old.op < length self.old.fixed.script }
-        ensures { self.new ≡ due.over self.old [] }
+        ensures driver { self.new ≡ due.over self.old [] }
+        ensures fixed { self.new.fixed ≡ self.old.fixed }
     {
         let due = self.setup().step_due(self.op + 1, 0);
         self.op += 1;
@@ -363,7 +397,8 @@ impl Driver {
     fn count(&mut self, n: u32, step: Result<Option<Step>, Refusal>, saw: Seen)
         requires few { n ≤ 4096 }
         requires step { step ≡ step_due self.old.fixed self.old.op n }
-        ensures { self.new ≡ due.stands self.old (Steps n) [] [] saw }
+        ensures driver { self.new ≡ due.stands self.old (Steps n) [] [] saw }
+        ensures fixed { self.new.fixed ≡ self.old.fixed }
     {
         self.phase = Phase::Steps(n);
         self.rest.clear();
@@ -375,7 +410,8 @@ impl Driver {
     fn go(&mut self, rest: VecDeque<Step>)
         requires here { self.old.op < length self.old.fixed.script }
         requires kept { IsKept (due.went_to self.old [] self.old.saw rest.items) }
-        ensures { self.new ≡ due.went_to self.old [] self.old.saw rest.items }
+        ensures driver { self.new ≡ due.went_to self.old [] self.old.saw rest.items }
+        ensures fixed { self.new.fixed ≡ self.old.fixed }
     {
         if rest.is_empty() {
             self.close();
@@ -391,7 +427,8 @@ impl Driver {
         requires here { self.old.op < length self.old.fixed.script }
         requires work { self.old.phase ≡ Work }
         requires some { is_nil self.old.rest ≡ false }
-        ensures { self.new ≡ due.went_to self.old [] saw (drop 1 self.old.rest) }
+        ensures driver { self.new ≡ due.went_to self.old [] saw (drop 1 self.old.rest) }
+        ensures fixed { self.new.fixed ≡ self.old.fixed }
     {
         if self.is_last() {
             self.close();
