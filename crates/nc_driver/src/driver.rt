@@ -11,7 +11,7 @@ ghost use Rattle.nc_rules.specs.Built.{IsBuilt, is_built_op};
 ghost use Rattle.nc_rules.specs.Driver as due;
 ghost use Rattle.nc_rules.specs.Operations as rules;
 ghost use Rattle.nc_rules.specs.Start.{first_driver};
-ghost use Rattle.nc_rules.specs.Turns.{moved, turned, given_up};
+ghost use Rattle.nc_rules.specs.Turns.{turned};
 ghost use Rattle.nc_scripts.specs.Scripts.{is_act};
 ghost use Rattle.nc_checks.specs.Due.{step_due};
 ghost use Rattle.nc_checks.specs.Safe.{IsSafe};
