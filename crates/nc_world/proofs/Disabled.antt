@@ -1,5 +1,5 @@
 -- A call of the machine that answers nothing has changed nothing, and no driver is at a search.
-use Rattle.std.proofs.Common.{◌≡◌, ◌⊎◌, inl, inr, ℕ, Bool, true, false, List, [], ◌∷◌, refl, sym, ap, ◌∙◌, subst}
+use Rattle.std.proofs.Common.{◌≡◌, ◌⊎◌, inl, inr, ℕ, Bool, true, false, List, [], ◌∷◌, refl, sym, ap, ◌∙◌, subst, ◌<◌, length}
 use Rattle.std.specs.Prelude.{Option, Some, None, Result, Ok, Err, if◌then◌else◌, slice_index_or, slice_set, is_some}
 use Rattle.std.proofs.lemmas.List.{set-get_or}
 use Rattle.nc_cache.specs.declared.line.Line.{Line}

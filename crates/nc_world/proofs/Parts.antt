@@ -76,6 +76,19 @@ op_place m h (IoLoad chan off width) is there = tt
 op_place m h (IoStore target) is there = tt
 op_place m h (Mark pred succ) is there = tt
 
+-- ---- worlds are the same that have the same parts
+
+pub same_world : (u v : WorldState) → u.machine ≡ v.machine → u.drivers ≡ v.drivers → u.owners ≡ v.owners → u.grants ≡ v.grants → u.events ≡ v.events → u.touches ≡ v.touches → u.slots ≡ v.slots → u.pages ≡ v.pages → u ≡ v
+same_world u v machine drivers owners grants events touches slots pages =
+    ap (λ x. record u { machine = x }) machine
+    ∙ ap (λ x. record u { machine = v.machine; drivers = x }) drivers
+    ∙ ap (λ x. record u { machine = v.machine; drivers = v.drivers; owners = x }) owners
+    ∙ ap (λ x. record u { machine = v.machine; drivers = v.drivers; owners = v.owners; grants = x }) grants
+    ∙ ap (λ x. record u { machine = v.machine; drivers = v.drivers; owners = v.owners; grants = v.grants; events = x }) events
+    ∙ ap (λ x. record u { machine = v.machine; drivers = v.drivers; owners = v.owners; grants = v.grants; events = v.events; touches = x }) touches
+    ∙ ap (λ x. record u { machine = v.machine; drivers = v.drivers; owners = v.owners; grants = v.grants; events = v.events; touches = v.touches; slots = x }) slots
+    ∙ ap (λ x. record u { machine = v.machine; drivers = v.drivers; owners = v.owners; grants = v.grants; events = v.events; touches = v.touches; slots = v.slots; pages = x }) pages
+
 -- ---- a step that may be made
 
 pub going : (w : WorldState) (h : HartNo) (n : Next) → may_go_on w h n ≡ true → is_going n ≡ true
@@ -179,7 +192,7 @@ pub leaves_is : (w : WorldState) (h : HartNo) (m : MachineState) (t : Option Tou
 leaves_is w h m t rs (entries.Lend label first count) is lt =
     ap (λ (went : Went). goes w h m went w.slots t rs) (lent_none (driver_of w h.0) label first (is.each h.0 lt).driver.lots)
     ∙ ap (λ (ds : List DriverState). record { machine = m; drivers = ds; slots = w.slots; moves = moved [] None; touch = t; records = touch_records t ++ rs ++ [] }) (driver_set w h.0)
-    ∙ ap (λ (l : List Record). record { machine = m; drivers = w.drivers; slots = w.slots; moves = moved [] None; touch = t; records = touch_records t ++ l }) (append-nil rs)
+    ∙ ap (λ (l : List Record). record { machine = m; drivers = w.drivers; slots = w.slots; moves = moved [] None; touch = t; records = l }) (append-nil (touch_records t ++ rs))
 leaves_is w h m t rs (entries.Store span bytes kind) is lt = refl
 leaves_is w h m t rs (entries.Cbo block op) is lt = refl
 leaves_is w h m t rs (entries.Reg chan off width value) is lt = refl

@@ -1,5 +1,5 @@
 -- No event changes the machine's sizes.
-use Rattle.std.proofs.Common.{◌≡◌, ℕ, Bool, true, false, length, ◌<◌, Option, Some, None, refl, sym, subst}
+use Rattle.std.proofs.Common.{◌≡◌, ℕ, Bool, true, false, length, ◌<◌, Option, Some, None, refl, sym, subst, List}
 use Rattle.std.specs.Prelude.{if◌then◌else◌, Result, Ok, Err, OnOk}
 use Rattle.nc_num.specs.declared.names.HartNo.{HartNo}
 use Rattle.nc_model.specs.declared.owners.Access.TheVariants.{Read, Write}

@@ -25,7 +25,7 @@ returns-clause-records c =
     let op = c.args.op.now in
     let old = c.args.log.now.records in
     let last = (hart_of m h.0).last in
-    c.issued.ensures.records ∙ ap (λ (size : ℕ). old ++ issued_records size h b op c.last.result c.issue-issued.result) c.requires.size
+    c.issued.ensures.records ∙ ap (λ (size : ℕ). old ++ issued_records size h b op c.last.result.now c.issue-issued.result) c.requires.size
     ∙ ap (λ (l : List ℕ). old ++ issued_records m.size h b op l c.issue-issued.result) c.last.ensures.value
     ∙ ap (λ (i : Issued). old ++ issued_records m.size h b op last i) c.issue-issued.ensures.answer
     ∙ ap (λ (l : List Record). old ++ l) (sym (op_records_is m h b op))
