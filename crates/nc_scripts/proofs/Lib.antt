@@ -1,3 +1,4 @@
 pub mod BuiltLaws
 pub mod DriverSteps
 pub mod DriverLaws
+pub mod EveryDriver
