@@ -1,4 +1,7 @@
 pub mod BuiltLaws
 pub mod DriverSteps
 pub mod DriverLaws
+pub mod Lists
+pub mod LotLaws
+pub mod LotMoves
 pub mod EveryDriver
