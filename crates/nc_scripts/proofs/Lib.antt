@@ -4,4 +4,5 @@ pub mod DriverLaws
 pub mod Lists
 pub mod LotLaws
 pub mod LotMoves
+pub mod PlanSteps
 pub mod EveryDriver
