@@ -69,11 +69,11 @@ pub record Passed {A B : Type 0} (r : Result A Refusal) (g : A → Result B Refu
   pub first : r ≡ Ok value
   pub rest : g value ≡ Ok y
 
-passed : {A B : Type 0} (r : Result A Refusal) (g : A → Result B Refusal) (y : B) → r >>= g ≡ Ok y → Passed r g y
+pub passed : {A B : Type 0} (r : Result A Refusal) (g : A → Result B Refusal) (y : B) → r >>= g ≡ Ok y → Passed r g y
 passed (Ok x) g y e = record { value = x; first = refl; rest = e }
 passed (Err r) g y e = absurd (cc)
 
-wanted_is : (r : Refusal) (t : Bool) (u : Unit {0}) → wanted r t ≡ Ok u → t ≡ true
+pub wanted_is : (r : Refusal) (t : Bool) (u : Unit {0}) → wanted r t ≡ Ok u → t ≡ true
 wanted_is r true u e = refl
 wanted_is r false u e = absurd (cc)
 
@@ -123,7 +123,7 @@ part_by : (t : Bool) (range : Span) (off len : ℕ) (part : Span) → nat_le (of
 part_by true range off len part t e = (cc, leb-true (off + len) range.len t)
 part_by false range off len part t e = absurd (cc)
 
-part_is : (range : Span) (off len : ℕ) (part : Span) → part_of range off len ≡ Ok part → (part ≡ record { at = range.at + off; len = len }) × (off + len ≤ range.len)
+pub part_is : (range : Span) (off len : ℕ) (part : Span) → part_of range off len ≡ Ok part → (part ≡ record { at = range.at + off; len = len }) × (off + len ≤ range.len)
 part_is range off len part e = part_by (nat_le (off + len) range.len) range off len part refl e
 
 -- where an access lies that passed

@@ -5,4 +5,5 @@ pub mod Lists
 pub mod LotLaws
 pub mod LotMoves
 pub mod PlanSteps
+pub mod NewLots
 pub mod EveryDriver
