@@ -6,4 +6,5 @@ pub mod LotLaws
 pub mod LotMoves
 pub mod PlanSteps
 pub mod NewLots
+pub mod Openings
 pub mod EveryDriver
