@@ -127,7 +127,7 @@ went_is : (ram harts : ℕ) (d : DriverState) (lots : List Lot) (saw : Seen) (re
 went_is ram harts d lots saw [] h lt none all = over_is ram harts d lots h lt none
 went_is ram harts d lots saw (s ∷ rest) h lt none all = record { fixed = h.fixed; op = h.op; phase = omega arith; rest = all; lots = none }
 
-went_fixed : (d : DriverState) (lots : List Lot) (saw : Seen) (rest : List Step) → (went_to d lots saw rest).fixed ≡ d.fixed
+pub went_fixed : (d : DriverState) (lots : List Lot) (saw : Seen) (rest : List Step) → (went_to d lots saw rest).fixed ≡ d.fixed
 went_fixed d lots saw [] = refl
 went_fixed d lots saw (s ∷ rest) = refl
 
@@ -194,7 +194,7 @@ lots_stay ram lots (turns.Sync id) h = absurd h
 lots_stay ram lots (turns.Settle id) h = absurd h
 lots_stay ram lots (turns.End id) h = absurd h
 
-both_stay : (ram : ℕ) (lots : List Lot) (t u : Turn) → TurnIsThere ram t → TurnIsThere ram u → lots_after_both t u lots ≡ lots
+pub both_stay : (ram : ℕ) (lots : List Lot) (t u : Turn) → TurnIsThere ram t → TurnIsThere ram u → lots_after_both t u lots ≡ lots
 both_stay ram lots t u h k = lots_stay ram (lots_after t lots) u k ∙ lots_stay ram lots t h
 
 -- ---- giving up, and staying
@@ -303,7 +303,7 @@ stepped_to_is ram harts d n lots saw (Err r) h lt le none = counted_is ram harts
 stepped_to_is ram harts d n lots saw (Ok (Some s)) h lt le none = counted_is ram harts d n lots saw h le none
 stepped_to_is ram harts d n lots saw (Ok None) h lt le none = over_is ram harts d lots h lt none
 
-stepped_to_fixed : (d : DriverState) (n : ℕ) (lots : List Lot) (saw : Seen) (r : Result (Option Step) Refusal) → (stepped_to d n lots saw r).fixed ≡ d.fixed
+pub stepped_to_fixed : (d : DriverState) (n : ℕ) (lots : List Lot) (saw : Seen) (r : Result (Option Step) Refusal) → (stepped_to d n lots saw r).fixed ≡ d.fixed
 stepped_to_fixed d n lots saw (Err r) = refl
 stepped_to_fixed d n lots saw (Ok (Some s)) = refl
 stepped_to_fixed d n lots saw (Ok None) = refl

@@ -7,4 +7,5 @@ pub mod LotMoves
 pub mod PlanSteps
 pub mod NewLots
 pub mod Openings
+pub mod SlotLaws
 pub mod EveryDriver

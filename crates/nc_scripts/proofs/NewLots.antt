@@ -84,7 +84,7 @@ other_false : (a b : Bool) → (a && b) ≡ false → a ≡ true → b ≡ false
 other_false true b e h = e
 other_false false b e h = absurd (false≢true h)
 
-some_is : {A : Type 0} (r : Refusal) (o : Option A) (x : A) → some_or r o ≡ Ok x → o ≡ Some x
+pub some_is : {A : Type 0} (r : Refusal) (o : Option A) (x : A) → some_or r o ≡ Ok x → o ≡ Some x
 some_is r None x e = absurd (cc)
 some_is r (Some y) x e = cc
 
@@ -95,7 +95,7 @@ some_len len u e =
 
 -- ---- names apart
 
-length-filter-join : {X : Type 0} (p : X → Bool) (xs ys : List X) → length (filter p (xs ++ ys)) ≡ length (filter p xs) + length (filter p ys)
+pub length-filter-join : {X : Type 0} (p : X → Bool) (xs ys : List X) → length (filter p (xs ++ ys)) ≡ length (filter p xs) + length (filter p ys)
 length-filter-join p [] ys = omega arith
 length-filter-join p (x ∷ xs) ys = join_by (p x) x (filter p (xs ++ ys)) (filter p xs) (filter p ys) (length-filter-join p xs ys)
   where
@@ -103,7 +103,7 @@ length-filter-join p (x ∷ xs) ys = join_by (p x) x (filter p (xs ++ ys)) (filt
   join_by true x zs xs ys e = omega arith
   join_by false x zs xs ys e = e
 
-none_passes : {X : Type 0} (p : X → Bool) (xs : List X) → All (λ x. p x ≡ false) xs → length (filter p xs) ≡ 0
+pub none_passes : {X : Type 0} (p : X → Bool) (xs : List X) → All (λ x. p x ≡ false) xs → length (filter p xs) ≡ 0
 none_passes p [] all = refl
 none_passes p (x ∷ xs) all = passes_by (p x) x (filter p xs) (All-head (λ x. p x ≡ false) x xs all) (none_passes p xs (All-tail (λ x. p x ≡ false) x xs all))
   where

@@ -3,8 +3,14 @@
 ghost use Rattle.nc_scripts.specs.Drivers.{EachStaysDriver, FirstDrivers};
 
 /// The driver of each hart of an accepted scenario knows what fits that scenario.
-#[tactic(auto, using(crate::proofs::EveryDriver::first_drivers))]
 pub fn every_driver_begins()
     ensures { FirstDrivers }
 {}
 
+/// A driver stays one through `start`, `told`, `done` and `lent`, and knows what it knew. What it does next is there in
+/// every machine of its scenario's size. What it changes is there too, and is at most 32 of each: owners of some bytes of
+/// RAM, grants of ranges of RAM to a channel, mappings that end, slots that are given back, and pages of the pool. A store
+/// of the last load's bytes comes behind a load of as many.
+pub fn every_driver_stays()
+    ensures { EachStaysDriver }
+{}
