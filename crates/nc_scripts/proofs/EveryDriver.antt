@@ -1,12 +1,11 @@
 -- Every driver of an accepted scenario stays one, and what it does next and changes is there.
-use Rattle.std.proofs.Common.{◌≡◌, ℕ, zero, suc, ◌+◌, ◌*◌, ◌%◌, ◌<◌, ◌≤◌, Bool, true, false, List, [], ◌∷◌, ◌++◌, length, map, refl, sym, ap, ◌∙◌, subst, arith, inl, inr, cond, Option, Some, None, Result, Ok, Err}
+use Rattle.std.proofs.Common.{◌≡◌, ℕ, ◌+◌, ◌<◌, ◌≤◌, Bool, true, false, List, [], ◌∷◌, ◌++◌, length, map, refl, sym, ap, ◌∙◌, subst, arith, cond, Option, Some, None, Result, Ok, Err}
 use Rattle.std.specs.Prelude.{All, EachIndex, slice_index, filter, nat_lt, ◌||◌, not, if◌then◌else◌}
-use Rattle.std.specs.List.{list_any}
 use Rattle.std.proofs.lemmas.Bool.{false≢true}
 use Rattle.std.proofs.lemmas.Bool.Decides.{nat_tests}
 use Rattle.std.proofs.lemmas.List.{length-map, map-append}
 use Rattle.std.proofs.lemmas.List.Folds.{list_any-append, list_any_none}
-use Rattle.std.proofs.lemmas.List.Elements.{All-nil, All-cons, All-head, All-tail, All-map, All-append}
+use Rattle.std.proofs.lemmas.List.Elements.{All-nil, All-head, All-tail, All-map, All-append}
 use Rattle.std.proofs.lemmas.Option.{slice_get_within, get_or_from_slice_get}
 use Rattle.nc_num.specs.declared.names.HartNo.{HartNo}
 use Rattle.nc_num.specs.declared.names.Label.{Label}
@@ -18,7 +17,7 @@ use Rattle.nc_coherent.specs.Pages.{PageMap}
 use Rattle.nc_ops.specs.Fits.{FitsOp}
 use Rattle.nc_ops.specs.declared.ops.Op.{Op}
 use Rattle.nc_ops.specs.declared.ops.Op.TheVariants as ops
-use Rattle.nc_scen.specs.Accepted.{FitsHart, IsAccepted}
+use Rattle.nc_scen.specs.Accepted.{IsAccepted}
 use Rattle.nc_scen.specs.declared.scenario.Scenario.{Scenario}
 use Rattle.nc_rules.specs.declared.answers.Refusal.{Refusal}
 use Rattle.nc_rules.specs.declared.answers.Refusal.TheVariants as refusals
@@ -38,22 +37,21 @@ use Rattle.nc_rules.specs.declared.steps.Seen.TheVariants as seen
 use Rattle.nc_rules.specs.declared.steps.Step.{Step}
 use Rattle.nc_rules.specs.declared.steps.Turn.{Turn}
 use Rattle.nc_rules.specs.declared.steps.Turn.TheVariants as turns
-use Rattle.nc_rules.specs.Lots.{Fixed, lot_id, is_lot, is_named, is_wanted, lot_waits, some_lot_waits, slot_given, lot_named, only_entry}
-use Rattle.nc_rules.specs.Refusals.{named}
-use Rattle.nc_rules.specs.Turns.{those, with_side, set_side, lots_after, lots_after_both, turned, given_up, without_wanted}
+use Rattle.nc_rules.specs.Lots.{Fixed, lot_id, is_lot, is_named, is_wanted, lot_waits, some_lot_waits, slot_given, lot_named}
+use Rattle.nc_rules.specs.Turns.{with_side, set_side, lots_after, lots_after_both, without_wanted}
 use Rattle.nc_rules.specs.Operations.{step_at, has_start, begin, opening, plan_of}
-use Rattle.nc_rules.specs.Driver.{DriverState, Went, in_hand, next_of, next_of_op, next_in, next_step, next_rest, next_act, over, stands, stays, kept, give_up, went_to, opened, searches, placed, with_lots, begun, refused_step, steps_done, started_op, started, started_of, told, told_of, told_in, told_word, missed, busy, stepped_to, stepped, worked, done, done_of, done_unless, done_in, lent}
+use Rattle.nc_rules.specs.Driver.{DriverState, in_hand, next_of, next_of_op, next_in, next_step, next_rest, next_act, over, stands, stays, kept, give_up, went_to, opened, searches, placed, with_lots, begun, refused_step, started, started_of, told, told_of, told_in, told_word, busy, stepped_to, stepped, worked, done, done_of, done_unless, done_in, lent}
 use Rattle.nc_rules.specs.Start.{fixed_of, first_driver, hart_spec, no_hart_spec}
 use Rattle.nc_scripts.specs.Scripts.{IsRangeIn, is_act}
 use Rattle.nc_scripts.specs.Scripts as plain
-use Rattle.nc_scripts.specs.Drivers.{IsFixed, ArePagesOf, FitsKind, IsLotIn, AreApart, IsNamed, IsEndName, IsSettled, AreMade, made_names, ActFitsLast, LoadsFit, loaded_by, ActIsThere, TurnIsThere, StepIsThere, IsOwed, is_claim, ClaimsNothing, ClaimsFirst, NoEndIsLent, turns_of, wanted_lots, IsAtSteps, IsSearching, IsAtWork, IsPhase, IsDriver, NextIsThere, NextFitsLast, loaded_next, IsSeenAt, AreThere, Keeps, IsLentAt, StaysDriver, EachStaysDriver, FirstDrivers}
-use Rattle.nc_scripts.proofs.Lists.{Found, found, all_to, all_both, all_filtered, all_right, none_any}
+use Rattle.nc_scripts.specs.Drivers.{IsFixed, ArePagesOf, FitsKind, IsLotIn, AreApart, IsNamed, IsEndName, IsSettled, AreMade, made_names, ActFitsLast, LoadsFit, loaded_by, ActIsThere, TurnIsThere, StepIsThere, IsOwed, is_claim, ClaimsNothing, ClaimsFirst, NoEndIsLent, turns_of, wanted_lots, IsSearching, IsAtWork, IsPhase, IsDriver, NextIsThere, NextFitsLast, loaded_next, IsSeenAt, Keeps, IsLentAt, EachStaysDriver, FirstDrivers}
+use Rattle.nc_scripts.proofs.Lists.{found, all_to, all_both, all_filtered, all_right, none_any}
 use Rattle.nc_scripts.proofs.LotLaws.{IsPlaced, Becomes, thins_all, thinned, lots_stay, apart_stay, placed_stay, wanted_stay, owed_stay}
 use Rattle.nc_scripts.proofs.LotMoves.{turned_there, lent_there, nothing_there, given_up_there}
 use Rattle.nc_scripts.proofs.DriverSteps.{AreasLie, IsStep, step_is}
 use Rattle.nc_scripts.proofs.DriverLaws.{both_stay, next_step_is, stepped_to_fixed, went_fixed}
 use Rattle.nc_scripts.proofs.NewLots.{AreNew, laid, new_is, some_is, length-filter-join, none_passes}
-use Rattle.nc_scripts.proofs.Openings.{Opens, IsReady, ready, area_range, opens}
+use Rattle.nc_scripts.proofs.Openings.{IsReady, ready, area_range, opens}
 use Rattle.nc_scripts.proofs.SlotLaws.{lots_given, apart_given, made_given}
 
 -- ---- the first one
@@ -211,11 +209,11 @@ filter_twice : {X : Type 0} (p q : X → Bool) (xs : List X) → length (filter 
 filter_twice p q [] = omega arith
 filter_twice p q (x ∷ xs) = twice_by (q x) (p x) p x (filter q xs) (filter p xs) refl (filter_twice p q xs)
   where
-  twice_by : {X : Type 0} (b c : Bool) (p : X → Bool) (x : X) (ys zs : List X) → p x ≡ c → length (filter p ys) ≤ length zs → length (filter p (cond b (x ∷ ys) ys)) ≤ length (cond c (x ∷ zs) zs)
-  twice_by true true p x ys zs e le = rw e (omega arith)
-  twice_by true false p x ys zs e le = rw e le
-  twice_by false true p x ys zs e le = omega arith
-  twice_by false false p x ys zs e le = le
+    twice_by : {X : Type 0} (b c : Bool) (p : X → Bool) (x : X) (ys zs : List X) → p x ≡ c → length (filter p ys) ≤ length zs → length (filter p (cond b (x ∷ ys) ys)) ≤ length (cond c (x ∷ zs) zs)
+    twice_by true true p x ys zs e le = rw e (omega arith)
+    twice_by true false p x ys zs e le = rw e le
+    twice_by false true p x ys zs e le = omega arith
+    twice_by false false p x ys zs e le = le
 
 -- the lots that stay when a driver gives up are settled
 abbrev LeavesSettled : List Lot → Type 0
@@ -256,9 +254,9 @@ fewer : {X : Type 0} (p : X → Bool) (xs : List X) → length (filter p xs) ≤
 fewer p [] = omega arith
 fewer p (x ∷ xs) = fewer_by (p x) x (filter p xs) xs (fewer p xs)
   where
-  fewer_by : {X : Type 0} (t : Bool) (x : X) (ys xs : List X) → length ys ≤ length xs → length (cond t (x ∷ ys) ys) ≤ length (x ∷ xs)
-  fewer_by true x ys xs h = omega arith
-  fewer_by false x ys xs h = omega arith
+    fewer_by : {X : Type 0} (t : Bool) (x : X) (ys xs : List X) → length ys ≤ length xs → length (cond t (x ∷ ys) ys) ≤ length (x ∷ xs)
+    fewer_by true x ys xs h = omega arith
+    fewer_by false x ys xs h = omega arith
 
 made_few : (o : Op) (lots : List Lot) → AreMade o lots → length (wanted_lots lots) ≤ 2
 made_few o lots h =
@@ -535,9 +533,9 @@ settled_kept t lot now b h = record {
   lent = not_wanted (is_wanted now.side) (λ w. absurd (false≢true (sym h.lent ∙ b.wanted w)));
 }
   where
-  not_wanted : (w : Bool) → (w ≡ true → ⊥) → w ≡ false
-  not_wanted true h = absurd (h refl)
-  not_wanted false h = refl
+    not_wanted : (w : Bool) → (w ≡ true → ⊥) → w ≡ false
+    not_wanted true h = absurd (h refl)
+    not_wanted false h = refl
 
 owed_kept : (t : Turn) (ts : List Turn) (lot now : Lot) → Becomes t lot now → IsOwed ts lot → IsOwed ts now
 owed_kept t ts lot now b h = record { lends = λ w. rw b.id (h.lends (b.wanted w)); ends = λ e. rw b.id (h.ends (rw b.id at e)) }
@@ -668,8 +666,8 @@ rest_next ram harts d (s ∷ rest) e all = record {
   fits = λ n h. act_fits n s.act (first_fits n d.rest s rest e h);
 }
   where
-  first_fits : (n : ℕ) (all : List Step) (s : Step) (rest : List Step) → all ≡ s ∷ rest → LoadsFit n all → ActFitsLast n s.act
-  first_fits n all s rest e h = (subst (λ (r : List Step). LoadsFit n r) e h).0
+    first_fits : (n : ℕ) (all : List Step) (s : Step) (rest : List Step) → all ≡ s ∷ rest → LoadsFit n all → ActFitsLast n s.act
+    first_fits n all s rest e h = (subst (λ (r : List Step). LoadsFit n r) e h).0
 
 next_in_is : (ram harts : ℕ) (d : DriverState) (o : Op) (p : Phase) → IsDriver ram harts d → IsInHand harts d o → IsPhase d p → IsNext ram harts d (next_in d o p)
 next_in_is ram harts d o (Steps n) h k phase = unless_next ram harts d (has_start o) (next_step (step_at d.fixed d.lots o n)) (step_next ram harts d o n (step_at d.fixed d.lots o n) h k refl)

@@ -1,5 +1,5 @@
 -- Lists: what holds of each element behind a filter, a join or a search.
-use Rattle.std.proofs.Common.{◌≡◌, ℕ, zero, suc, ◌+◌, ◌*◌, ◌<◌, ◌≤◌, Bool, true, false, List, [], ◌∷◌, ◌++◌, length, map, flat_map, refl, sym, ap, ◌∙◌, subst, arith, cond, inl, inr, Option, Some, None}
+use Rattle.std.proofs.Common.{◌≡◌, ℕ, ◌*◌, ◌≤◌, Bool, true, false, List, [], ◌∷◌, ◌++◌, length, flat_map, refl, ◌∙◌, subst, arith, cond, inl, inr, Option, Some, None}
 use Rattle.std.specs.Prelude.{All, filter, filter_map, find, position, is_some, nat_lt}
 use Rattle.std.specs.List.{list_any, position_or_len, cons_option}
 use Rattle.std.proofs.lemmas.Bool.Decides.{nat_tests}

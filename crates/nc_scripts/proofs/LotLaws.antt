@@ -1,22 +1,19 @@
 -- What a turn leaves of the lots of a hart.
-use Rattle.std.proofs.Common.{◌≡◌, ℕ, zero, suc, ◌+◌, ◌*◌, ◌<◌, ◌≤◌, Bool, true, false, List, [], ◌∷◌, ◌++◌, length, map, refl, sym, ap, ◌∙◌, subst, arith, cond, inl, inr, ◌⊎◌, Option, Some, None}
+use Rattle.std.proofs.Common.{◌≡◌, ℕ, ◌≤◌, Bool, true, false, List, [], ◌∷◌, length, refl, sym, ◌∙◌, subst, arith, cond, inl, inr}
 use Rattle.std.specs.Prelude.{All, filter, not, ◌&&◌, ◌==◌, if◌then◌else◌}
 use Rattle.std.proofs.lemmas.Bool.{and_parts, false≢true}
 use Rattle.std.proofs.lemmas.Bool.Decides.{nat_tests}
 use Rattle.std.proofs.lemmas.List.Elements.{All-nil, All-cons, All-head, All-tail}
 use Rattle.nc_plan.specs.Plans.{In}
-use Rattle.nc_sg.specs.Lists.{SgView}
-use Rattle.nc_rules.specs.declared.lots.Kind.{Kind}
 use Rattle.nc_rules.specs.declared.lots.Lot.{Lot}
 use Rattle.nc_rules.specs.declared.lots.LotId.{LotId}
 use Rattle.nc_rules.specs.declared.lots.Side.{Side}
 use Rattle.nc_rules.specs.declared.lots.Side.TheVariants as sides
 use Rattle.nc_rules.specs.declared.steps.Turn.{Turn}
 use Rattle.nc_rules.specs.declared.steps.Turn.TheVariants as turns
-use Rattle.nc_num.specs.declared.names.ChanNo.{ChanNo}
 use Rattle.nc_rules.specs.Lots.{Fixed, is_lot, is_wanted, lot_waits}
-use Rattle.nc_rules.specs.Turns.{those, with_side, set_side, lots_after, lots_after_both}
-use Rattle.nc_scripts.specs.Drivers.{IsLotIn, FitsKind, AreApart, IsOwed, IsEndName, wanted_lots}
+use Rattle.nc_rules.specs.Turns.{set_side, lots_after}
+use Rattle.nc_scripts.specs.Drivers.{IsLotIn, AreApart, IsOwed, wanted_lots}
 
 -- ---- one lot
 

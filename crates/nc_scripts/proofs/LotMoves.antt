@@ -1,7 +1,6 @@
 -- What a turn over lots moves is there, and is little.
-use Rattle.std.proofs.Common.{◌≡◌, ℕ, zero, suc, ◌+◌, ◌*◌, ◌%◌, ◌<◌, ◌≤◌, Bool, true, false, List, [], ◌∷◌, ◌++◌, length, map, flat_map, refl, sym, ap, ◌∙◌, subst, arith, Option, Some, None}
-use Rattle.std.specs.Prelude.{All, filter, is_none, unwrap_or, ◌&&◌, if◌then◌else◌, slice_index_or}
-use Rattle.std.specs.List.{list_any}
+use Rattle.std.proofs.Common.{◌≡◌, ℕ, suc, ◌+◌, ◌*◌, ◌%◌, ◌<◌, ◌≤◌, Bool, true, false, List, [], ◌∷◌, length, refl, sym, ap, ◌∙◌, arith, Option, Some, None}
+use Rattle.std.specs.Prelude.{All, is_none, unwrap_or, ◌&&◌, if◌then◌else◌}
 use Rattle.std.proofs.lemmas.Bool.{false≢true}
 use Rattle.std.proofs.lemmas.List.{length-append, length-map}
 use Rattle.std.proofs.lemmas.List.Elements.{All-nil, All-cons, All-head, All-tail, All-append, All-map}
@@ -16,7 +15,7 @@ use Rattle.nc_plan.specs.Parts.{in_slot, slot_len}
 use Rattle.nc_plan.specs.declared.parts.Part.{Part}
 use Rattle.nc_plan.proofs.PlanLaws.{in_its_slot}
 use Rattle.nc_sg.specs.declared.list.Entry.{Entry}
-use Rattle.nc_sg.specs.Lists.{waits, held, part_of, next_waiting}
+use Rattle.nc_sg.specs.Lists.{waits, part_of}
 use Rattle.nc_rules.specs.declared.answers.Answer.{Answer}
 use Rattle.nc_rules.specs.declared.lots.Kind.{Kind}
 use Rattle.nc_rules.specs.declared.lots.Kind.TheVariants as kinds
@@ -28,8 +27,8 @@ use Rattle.nc_rules.specs.declared.steps.PageMove.{PageMove}
 use Rattle.nc_rules.specs.declared.steps.PageMove.TheVariants as pages
 use Rattle.nc_rules.specs.declared.steps.Turn.{Turn}
 use Rattle.nc_rules.specs.declared.steps.Turn.TheVariants as turns
-use Rattle.nc_rules.specs.Lots.{Fixed, is_lot, is_wanted, lot_waits, each_from, each_entry, grant_of, map_id, only_entry, no_entry, owner_of_side, slots_held}
-use Rattle.nc_rules.specs.Turns.{Moved, moved, those, of_those, to_side, to_end, granted, ids, is_area, last_owner, pages_taken, pages_given, page_move, page_moves, lots_after, transfers_of, grants_of, ended_of, backs_of, pages_of, turned, given_up, slots_wanted}
+use Rattle.nc_rules.specs.Lots.{Fixed, is_lot, is_wanted, each_from, each_entry, grant_of, map_id, only_entry, no_entry, owner_of_side, slots_held}
+use Rattle.nc_rules.specs.Turns.{moved, those, of_those, to_side, to_end, granted, ids, is_area, last_owner, pages_taken, pages_given, page_move, page_moves, lots_after, transfers_of, grants_of, ended_of, backs_of, pages_of, turned, given_up}
 use Rattle.nc_scripts.specs.Scripts.{IsRangeIn}
 use Rattle.nc_scripts.specs.Drivers.{IsFixed, IsEntryIn, IsLotIn, IsInPool, FitsKind, AreApart, GrantIsIn, PageMoveIsIn, AreThere, TurnIsThere, wanted_lots}
 use Rattle.nc_scripts.proofs.Lists.{all_to, all_both, all_filtered, all_joined, few_joined, none_any, position_any, few_mapped, all_mapped}
@@ -166,9 +165,10 @@ no_grants ram me = (All-nil (GrantIsIn ram me), omega arith)
 granted_by : (ram harts : ℕ) (f : Fixed) (lot : Lot) (t : Bool) → IsFixed ram harts f → IsPlacedIn ram f lot → Grants ram f.me (if t then each_entry f lot (grant_of f lot) else [])
 granted_by ram harts f lot false h k = no_grants ram f.me
 granted_by ram harts f lot true h k =
-    let seen = all_both (IsEntryIn ram f.slots) (λ e. waits e ≡ false) (IsSeen ram f.slots) lot.list.entries k.is.entries (placed_entries lot k.placed) (λ e is off. record { is = is; placed = off }) in
-    (all_each (IsSeen ram f.slots) (GrantIsIn ram f.me) f.me lot.id 0 (grant_of f lot) lot.list.entries seen (λ j e s. grant_there ram harts f lot j e h k.is.channel s.is s.placed),
-    omega (arith, length-each f.me lot.id 0 (grant_of f lot) lot.list.entries, k.is.few))
+    let seen = all_both (IsEntryIn ram f.slots) (λ e. waits e ≡ false) (IsSeen ram f.slots) lot.list.entries k.is.entries (placed_entries lot k.placed) (λ e is off. record { is = is; placed = off }) in (
+      all_each (IsSeen ram f.slots) (GrantIsIn ram f.me) f.me lot.id 0 (grant_of f lot) lot.list.entries seen (λ j e s. grant_there ram harts f lot j e h k.is.channel s.is s.placed),
+      omega (arith, length-each f.me lot.id 0 (grant_of f lot) lot.list.entries, k.is.few),
+    )
 
 both_in : (ram : ℕ) (f : Fixed) (lots : List Lot) → All (IsLotIn ram f) lots → All IsPlaced lots → All (IsPlacedIn ram f) lots
 both_in ram f lots all placed = all_both (IsLotIn ram f) IsPlaced (IsPlacedIn ram f) lots all placed (λ lot is p. record { is = is; placed = p })
@@ -177,9 +177,10 @@ grants_there : (ram harts : ℕ) (f : Fixed) (lots : List Lot) (t : Turn) → Is
 grants_there ram harts f lots turns.Stay h all apart placed = no_grants ram f.me
 grants_there ram harts f lots (turns.Pass range to) h all apart placed = no_grants ram f.me
 grants_there ram harts f lots (turns.Own range) h all apart placed = no_grants ram f.me
-grants_there ram harts f lots (turns.Lend id) h all apart placed =
-    (those_all (IsPlacedIn ram f) (GrantIsIn ram f.me) (granted f) id lots (both_in ram f lots all placed) (λ lot k. (granted_by ram harts f lot (is_wanted lot.side) h k).0),
-    those_few (IsPlacedIn ram f) (granted f) id lots (both_in ram f lots all placed) apart (λ lot k. (granted_by ram harts f lot (is_wanted lot.side) h k).1))
+grants_there ram harts f lots (turns.Lend id) h all apart placed = (
+  those_all (IsPlacedIn ram f) (GrantIsIn ram f.me) (granted f) id lots (both_in ram f lots all placed) (λ lot k. (granted_by ram harts f lot (is_wanted lot.side) h k).0),
+  those_few (IsPlacedIn ram f) (granted f) id lots (both_in ram f lots all placed) apart (λ lot k. (granted_by ram harts f lot (is_wanted lot.side) h k).1),
+)
 grants_there ram harts f lots (turns.Give id) h all apart placed = no_grants ram f.me
 grants_there ram harts f lots (turns.Return id) h all apart placed = no_grants ram f.me
 grants_there ram harts f lots (turns.Sync id) h all apart placed = no_grants ram f.me

@@ -1,5 +1,5 @@
 -- The lots that a start step makes.
-use Rattle.std.proofs.Common.{◌≡◌, ℕ, zero, suc, ◌+◌, ◌-◌, ◌*◌, ◌%◌, ◌<◌, ◌≤◌, Bool, true, false, List, [], ◌∷◌, ◌++◌, length, map, refl, sym, ap, ◌∙◌, subst, arith, cond, append_assoc, Option, Some, None, Result, Ok, Err}
+use Rattle.std.proofs.Common.{◌≡◌, ℕ, suc, ◌+◌, ◌*◌, ◌<◌, ◌≤◌, Bool, true, false, List, [], ◌∷◌, ◌++◌, length, map, refl, sym, ap, ◌∙◌, subst, arith, cond, append_assoc, Option, Some, None, Result, Ok}
 use Rattle.std.specs.Prelude.{All, filter, not, nat_le, ◌&&◌, ◌==◌, slice_index_or}
 use Rattle.std.specs.List.{list_any}
 use Rattle.std.proofs.lemmas.Bool.{and_parts, false≢true, leb-true}
@@ -8,7 +8,7 @@ use Rattle.std.proofs.lemmas.List.{length-map, append-nil}
 use Rattle.std.proofs.lemmas.List.Elements.{All-nil, All-cons, All-head, All-tail}
 use Rattle.nc_num.specs.declared.names.ChanNo.{ChanNo}
 use Rattle.nc_num.specs.declared.names.Dir.{Dir}
-use Rattle.nc_num.specs.declared.names.Dir.TheVariants.{Both, ToDev, FromDev}
+use Rattle.nc_num.specs.declared.names.Dir.TheVariants.{ToDev, FromDev}
 use Rattle.nc_num.specs.declared.names.Label.{Label}
 use Rattle.nc_num.specs.declared.places.Span.{Span}
 use Rattle.nc_values.specs.Values.{FitsLabel}
@@ -16,10 +16,10 @@ use Rattle.nc_model.specs.declared.owners.Owner.{Owner}
 use Rattle.nc_plan.specs.Effects.{both}
 use Rattle.nc_plan.specs.Effects as effects
 use Rattle.nc_plan.specs.Parts.{is_too_big, bounces}
-use Rattle.nc_coherent.specs.Pages.{PageMap, is_run, lowest_run, lowest_span, run_span, span_of_run, IsLowest, IsLowestRun}
+use Rattle.nc_coherent.specs.Pages.{PageMap, lowest_run, lowest_span, run_span, span_of_run, IsLowest}
 use Rattle.nc_coherent.proofs.Runs.{lowest_is_lowest}
 use Rattle.nc_sg.specs.declared.list.Entry.{Entry}
-use Rattle.nc_sg.specs.Lists.{SgView, fresh, list_of}
+use Rattle.nc_sg.specs.Lists.{fresh}
 use Rattle.nc_ops.specs.Fits.{FitsOp, FitsEntry}
 use Rattle.nc_ops.specs.declared.ops.Op.{Op}
 use Rattle.nc_ops.specs.declared.ops.Op.TheVariants as ops
@@ -30,7 +30,7 @@ use Rattle.nc_rules.specs.declared.lots.Kind.{Kind}
 use Rattle.nc_rules.specs.declared.lots.Kind.TheVariants as kinds
 use Rattle.nc_rules.specs.declared.lots.Lot.{Lot}
 use Rattle.nc_rules.specs.declared.lots.LotId.{LotId}
-use Rattle.nc_rules.specs.Lots.{Fixed, lot_id, is_lot, is_labelled, is_wanted, lot_waits, some_lot_waits, reach_of, ranges_lot, area_lot, only_entry}
+use Rattle.nc_rules.specs.Lots.{Fixed, lot_id, is_lot, is_labelled, is_wanted, some_lot_waits, reach_of, ranges_lot, area_lot, only_entry}
 use Rattle.nc_rules.specs.Refusals.{◌>>=◌, wanted, some_or, some_bytes, buffer_of, part_of, all_some, ranges_of, unused, named, owned, owned_from, planned, lendable, is_big, has_big, small_enough, slots_there, placeable}
 use Rattle.nc_rules.specs.Turns.{those}
 use Rattle.nc_rules.specs.Mappings as mappings
@@ -47,10 +47,10 @@ use Rattle.nc_rules.specs.CacheOps as cache_ops
 use Rattle.nc_rules.specs.Channels as channels
 use Rattle.nc_rules.specs.Operations.{meaning, begin}
 use Rattle.nc_scripts.specs.Scripts.{IsRangeIn}
-use Rattle.nc_scripts.specs.Drivers.{IsFixed, ArePagesOf, IsEntryIn, IsSlotOf, IsInPool, IsAreaIn, IsNamed, IsEnd, FitsKind, IsLotIn, AreApart, IsSettled, made_names}
+use Rattle.nc_scripts.specs.Drivers.{IsFixed, ArePagesOf, IsEntryIn, IsInPool, IsAreaIn, FitsKind, IsLotIn, AreApart, IsSettled, made_names}
 use Rattle.nc_scripts.proofs.Lists.{all_to, none_any}
-use Rattle.nc_scripts.proofs.LotLaws.{named_so, its_name}
-use Rattle.nc_scripts.proofs.DriverSteps.{Passed, passed, wanted_is, part_is, buffer_is, IsLaid}
+use Rattle.nc_scripts.proofs.LotLaws.{named_so}
+use Rattle.nc_scripts.proofs.DriverSteps.{passed, wanted_is, part_is, buffer_is, IsLaid}
 
 -- what an operation makes beside the lots that the hart has
 pub record AreNew (ram : ℕ) (f : Fixed) (o : Op) (lots new : List Lot) : Type 0 where
@@ -99,17 +99,17 @@ pub length-filter-join : {X : Type 0} (p : X → Bool) (xs ys : List X) → leng
 length-filter-join p [] ys = omega arith
 length-filter-join p (x ∷ xs) ys = join_by (p x) x (filter p (xs ++ ys)) (filter p xs) (filter p ys) (length-filter-join p xs ys)
   where
-  join_by : {X : Type 0} (t : Bool) (x : X) (zs xs ys : List X) → length zs ≡ length xs + length ys → length (cond t (x ∷ zs) zs) ≡ length (cond t (x ∷ xs) xs) + length ys
-  join_by true x zs xs ys e = omega arith
-  join_by false x zs xs ys e = e
+    join_by : {X : Type 0} (t : Bool) (x : X) (zs xs ys : List X) → length zs ≡ length xs + length ys → length (cond t (x ∷ zs) zs) ≡ length (cond t (x ∷ xs) xs) + length ys
+    join_by true x zs xs ys e = omega arith
+    join_by false x zs xs ys e = e
 
 pub none_passes : {X : Type 0} (p : X → Bool) (xs : List X) → All (λ x. p x ≡ false) xs → length (filter p xs) ≡ 0
 none_passes p [] all = refl
 none_passes p (x ∷ xs) all = passes_by (p x) x (filter p xs) (All-head (λ x. p x ≡ false) x xs all) (none_passes p xs (All-tail (λ x. p x ≡ false) x xs all))
   where
-  passes_by : {X : Type 0} (t : Bool) (x : X) (ys : List X) → t ≡ false → length ys ≡ 0 → length (cond t (x ∷ ys) ys) ≡ 0
-  passes_by true x ys e h = absurd (false≢true (sym e))
-  passes_by false x ys e h = h
+    passes_by : {X : Type 0} (t : Bool) (x : X) (ys : List X) → t ≡ false → length ys ≡ 0 → length (cond t (x ∷ ys) ys) ≡ 0
+    passes_by true x ys e h = absurd (false≢true (sym e))
+    passes_by false x ys e h = h
 
 abbrev HasNo : LotId → Lot → Type 0
 HasNo id lot = is_lot id lot ≡ false
@@ -304,9 +304,9 @@ two_apart lots s t es et apart settled =
     subst (λ (ls : List Lot). AreApart ls) (append_assoc lots (s ∷ []) (t ∷ []))
     (apart_more (lots ++ s ∷ []) t first (subst (λ (i : LotId). All (HasNo i) (lots ++ s ∷ [])) (sym et) none))
   where
-  joined_none : (lots : List Lot) (s : Lot) → All (HasNo target) lots → HasNo target s → All (HasNo target) (lots ++ s ∷ [])
-  joined_none [] s all h = All-cons (HasNo target) s [] h (All-nil (HasNo target))
-  joined_none (x ∷ lots) s all h = All-cons (HasNo target) x (lots ++ s ∷ []) (All-head (HasNo target) x lots all) (joined_none lots s (All-tail (HasNo target) x lots all) h)
+    joined_none : (lots : List Lot) (s : Lot) → All (HasNo target) lots → HasNo target s → All (HasNo target) (lots ++ s ∷ [])
+    joined_none [] s all h = All-cons (HasNo target) s [] h (All-nil (HasNo target))
+    joined_none (x ∷ lots) s all h = All-cons (HasNo target) x (lots ++ s ∷ []) (All-head (HasNo target) x lots all) (joined_none lots s (All-tail (HasNo target) x lots all) h)
 
 end_in : (ram : ℕ) (f : Fixed) (first : ℕ) (dir : Dir) (chan : ChanNo) (range : Span) → first < 2 → IsRangeIn ram range → chan.0 < 4
     → has_big (ranges_lot f (lot_id (record { 0 = 1000 }) first) kinds.Copy dir chan (range ∷ [])) ≡ false → IsLotIn ram f (ranges_lot f (lot_id (record { 0 = 1000 }) first) kinds.Copy dir chan (range ∷ []))

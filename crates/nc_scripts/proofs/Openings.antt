@@ -1,12 +1,11 @@
 -- What comes with the last slot that was wanted: the opening turn and the plan.
-use Rattle.std.proofs.Common.{◌≡◌, ℕ, zero, suc, ◌+◌, ◌<◌, ◌≤◌, Bool, true, false, List, [], ◌∷◌, ◌++◌, length, map, refl, sym, ap, ◌∙◌, subst, arith, cond, inl, inr, Option, Some, None}
+use Rattle.std.proofs.Common.{◌≡◌, ℕ, ◌<◌, ◌≤◌, Bool, true, false, List, [], ◌∷◌, ◌++◌, length, map, refl, sym, ap, ◌∙◌, subst, arith, cond, inl, inr, Option, Some, None}
 use Rattle.std.specs.Prelude.{All, find, is_some, if◌then◌else◌}
 use Rattle.std.proofs.lemmas.Bool.{and_parts, false≢true}
 use Rattle.std.proofs.lemmas.List.Elements.{All-nil, All-cons, All-head, All-tail, All-append}
 use Rattle.nc_num.specs.declared.names.ChanNo.{ChanNo}
 use Rattle.nc_num.specs.declared.names.HartNo.{HartNo}
 use Rattle.nc_num.specs.declared.names.Label.{Label}
-use Rattle.nc_num.specs.declared.places.Span.{Span}
 use Rattle.nc_values.specs.Values.{FitsLabel}
 use Rattle.nc_plan.specs.Plans.{In, full}
 use Rattle.nc_plan.specs.declared.ops.HartOp.TheVariants as hart
@@ -30,7 +29,7 @@ use Rattle.nc_rules.specs.declared.steps.Turn.TheVariants as turns
 use Rattle.nc_rules.specs.Lots.{Fixed, lot_id, is_lot, is_named, is_labelled, same_kind, is_wanted, is_synced, is_own, lot_named, only_entry}
 use Rattle.nc_rules.specs.Refusals.{buffer_of}
 use Rattle.nc_rules.specs.Turns.{lots_after}
-use Rattle.nc_rules.specs.Plans.{step, hart_step, op_steps, turning, ending, beginning, lending_end, lend_steps, return_steps}
+use Rattle.nc_rules.specs.Plans.{step, hart_step, op_steps, ending, lending_end, lend_steps, return_steps}
 use Rattle.nc_rules.specs.Mappings as mappings
 use Rattle.nc_rules.specs.Mappings.{with_lot, unmap_turn, unmap_steps, to_cpu_turn, to_cpu_steps, to_dev_turn, to_dev_steps}
 use Rattle.nc_rules.specs.ScatterLists as lists
@@ -41,13 +40,10 @@ use Rattle.nc_rules.specs.Copies as copies
 use Rattle.nc_rules.specs.Copies.{source, target, copy_step, claim_step, back_steps, end_part, copy_steps, copy_steps_of}
 use Rattle.nc_rules.specs.Handing as handing
 use Rattle.nc_rules.specs.Handing.{hand_steps}
-use Rattle.nc_rules.specs.Accesses as accesses
-use Rattle.nc_rules.specs.CacheOps as cache_ops
-use Rattle.nc_rules.specs.Channels as channels
 use Rattle.nc_rules.specs.Operations.{meaning, has_start, opening, plan_of}
 use Rattle.nc_scripts.specs.Scripts.{IsRangeIn}
-use Rattle.nc_scripts.specs.Drivers.{IsFixed, IsLotIn, FitsKind, IsEndName, IsSettled, AreMade, made_names, LoadsFit, StepIsThere, TurnIsThere, IsOwed, ClaimsFirst, ClaimsNothing, NoEndIsLent, is_claim, turns_of}
-use Rattle.nc_scripts.proofs.Lists.{Found, found, all_to, all_both, all_left, all_right}
+use Rattle.nc_scripts.specs.Drivers.{IsFixed, IsLotIn, FitsKind, IsEndName, IsSettled, AreMade, made_names, LoadsFit, StepIsThere, TurnIsThere, IsOwed, ClaimsFirst, NoEndIsLent, is_claim, turns_of}
+use Rattle.nc_scripts.proofs.Lists.{Found, found, all_to, all_both}
 use Rattle.nc_scripts.proofs.LotLaws.{IsPlaced, named_so, its_name}
 use Rattle.nc_scripts.proofs.LotMoves.{only_in}
 use Rattle.nc_scripts.proofs.PlanSteps.{IsPlan, no_plan, plan_join, op_plan, turn_plan, lend_plan, lending_end_plan, return_plan, allocating_plan, ending_plan, beginning_plan, back_turn, in_turns_left, in_turns_right, claims_none}

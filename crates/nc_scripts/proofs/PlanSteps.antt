@@ -1,14 +1,10 @@
 -- The steps of plans are there, fit the loads before them, and claim no channel.
-use Rattle.std.proofs.Common.{◌≡◌, ℕ, zero, suc, ◌+◌, ◌-◌, ◌*◌, ◌/◌, ◌%◌, ◌<◌, ◌≤◌, Bool, true, false, List, [], ◌∷◌, ◌++◌, length, map, flat_map, refl, sym, ap, ◌∙◌, subst, arith, inl, inr, Option, Some, None}
-use Rattle.std.specs.Prelude.{All, ◌==◌, ◌&&◌, if◌then◌else◌}
+use Rattle.std.proofs.Common.{◌≡◌, ℕ, ◌+◌, ◌-◌, ◌%◌, ◌<◌, ◌≤◌, Bool, true, false, List, [], ◌∷◌, ◌++◌, length, map, flat_map, refl, sym, ◌∙◌, subst, arith, inl, inr}
+use Rattle.std.specs.Prelude.{All, ◌&&◌, if◌then◌else◌}
 use Rattle.std.proofs.lemmas.Bool.{false≢true}
 use Rattle.std.proofs.lemmas.List.{length-append, length-map, map-append}
 use Rattle.std.proofs.lemmas.List.Elements.{All-nil, All-cons, All-head, All-tail, All-append, All-map}
 use Rattle.nc_num.specs.Places.{pieces, Tiles}
-use Rattle.nc_num.specs.Sizes.{IsBlockSize}
-use Rattle.nc_num.specs.declared.names.ChanNo.{ChanNo}
-use Rattle.nc_num.specs.declared.names.Dir.{Dir}
-use Rattle.nc_num.specs.declared.names.HartNo.{HartNo}
 use Rattle.nc_num.specs.declared.places.Span.{Span}
 use Rattle.nc_num.specs.declared.names.MemType.TheVariants.{Pma}
 use Rattle.nc_num.proofs.Blocks.{whole_block, page_whole}
@@ -18,7 +14,6 @@ use Rattle.nc_env.specs.declared.CboOp.TheVariants as cbo_ops
 use Rattle.std.specs.Result.{result_unwrap_or}
 use Rattle.nc_plan.specs.Parts.{is_bounced, comes_back}
 use Rattle.nc_plan.specs.Plans.{In, blocks, cbo, cbos, full, moved, copy_piece, copies, lend_op, return_op, copied_in, written_back, dropped, copied_back, returning}
-use Rattle.nc_plan.specs.declared.effects.Effects.{Effects}
 use Rattle.nc_plan.specs.declared.ops.HartOp.{HartOp}
 use Rattle.nc_plan.specs.declared.ops.HartOp.TheVariants as hart
 use Rattle.nc_plan.specs.declared.ops.IoTarget.TheVariants as io
@@ -26,20 +21,16 @@ use Rattle.nc_plan.specs.declared.ops.Payload.TheVariants.{Last}
 use Rattle.nc_plan.specs.declared.parts.Part.{Part}
 use Rattle.nc_plan.proofs.PlanLaws.{pieces_move, blocks_are_met}
 use Rattle.nc_coherent.specs.Areas.{allocating}
-use Rattle.nc_sg.specs.declared.list.Entry.{Entry}
 use Rattle.nc_sg.specs.Lists.{waits, part_of}
 use Rattle.nc_rules.specs.declared.lots.Lot.{Lot}
-use Rattle.nc_rules.specs.declared.steps.Act.{Act}
-use Rattle.nc_rules.specs.declared.steps.Act.TheVariants as acts
 use Rattle.nc_rules.specs.declared.steps.Step.{Step}
 use Rattle.nc_rules.specs.declared.steps.Turn.{Turn}
 use Rattle.nc_rules.specs.declared.steps.Turn.TheVariants as turns
-use Rattle.nc_rules.specs.Machine.{MachineState}
-use Rattle.nc_rules.specs.Lots.{Fixed, parts, only_entry}
-use Rattle.nc_rules.specs.Plans.{step, hart_step, op_steps, turning, ending, beginning, carried, token_steps, lending_end, lend_steps, return_steps}
+use Rattle.nc_rules.specs.Lots.{Fixed, parts}
+use Rattle.nc_rules.specs.Plans.{hart_step, op_steps, turning, ending, beginning, carried, token_steps, lending_end, lend_steps, return_steps}
 use Rattle.nc_rules.specs.Sound.{IsBlockIn, IsPieceIn}
-use Rattle.nc_scripts.specs.Scripts.{IsRangeIn, IsDriven}
-use Rattle.nc_scripts.specs.Drivers.{IsFixed, IsEntryIn, IsLotIn, FitsLast, ActFitsLast, LoadsFit, loaded_by, HartOpIsThere, ActIsThere, TurnIsThere, StepIsThere, ClaimsNothing, ClaimsFirst, is_claim, turns_of}
+use Rattle.nc_scripts.specs.Scripts.{IsRangeIn}
+use Rattle.nc_scripts.specs.Drivers.{IsFixed, IsEntryIn, IsLotIn, FitsLast, LoadsFit, loaded_by, HartOpIsThere, TurnIsThere, StepIsThere, ClaimsNothing, ClaimsFirst, is_claim, turns_of}
 use Rattle.nc_scripts.proofs.Lists.{all_in, all_both}
 use Rattle.nc_scripts.proofs.LotLaws.{IsPlaced}
 use Rattle.nc_scripts.proofs.LotMoves.{IsPartIn, entry_part, placed_entries}
@@ -121,9 +112,9 @@ pieces_in ram span h = tiles_in ram span.at span.len (pieces span) (tiles span) 
 load_plan : (ram harts : ℕ) (f : Fixed) (from to : ℕ) (p : Span) → IsPieceIn ram p → IsPieceIn ram (moved from to p) → IsPlan ram harts f (op_steps (copy_piece from to p))
 load_plan ram harts f from to p h k = record {
   there =
-    All-cons (StepIsThere ram harts f) (hart_step (hart.Load p Pma)) (hart_step (hart.Store (moved from to p) Pma Last) ∷ []) (record { act = λ m me d fits. rw d.memory h; first = tt; last = tt })
-    (All-cons (StepIsThere ram harts f) (hart_step (hart.Store (moved from to p) Pma Last)) [] (record { act = λ m me d fits. record { piece = rw d.memory k; whole = fits }; first = tt; last = tt })
-    (All-nil (StepIsThere ram harts f)));
+      All-cons (StepIsThere ram harts f) (hart_step (hart.Load p Pma)) (hart_step (hart.Store (moved from to p) Pma Last) ∷ []) (record { act = λ m me d fits. rw d.memory h; first = tt; last = tt })
+      (All-cons (StepIsThere ram harts f) (hart_step (hart.Store (moved from to p) Pma Last)) [] (record { act = λ m me d fits. record { piece = rw d.memory k; whole = fits }; first = tt; last = tt })
+      (All-nil (StepIsThere ram harts f)));
   fits = λ n. (tt, (refl, tt));
   free = All-cons IsFree (hart_step (hart.Load p Pma)) (hart_step (hart.Store (moved from to p) Pma Last) ∷ []) refl (All-cons IsFree (hart_step (hart.Store (moved from to p) Pma Last)) [] refl (All-nil IsFree));
 }

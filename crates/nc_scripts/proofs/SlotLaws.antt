@@ -1,8 +1,8 @@
 -- A slot that is given to the first entry that waits.
-use Rattle.std.proofs.Common.{◌≡◌, ℕ, zero, suc, ◌+◌, ◌<◌, ◌≤◌, Bool, true, false, List, [], ◌∷◌, ◌++◌, length, map, refl, sym, ap, ◌∙◌, subst, arith, cond, Option, Some, None}
-use Rattle.std.specs.Prelude.{All, filter, is_none, ◌&&◌, if◌then◌else◌}
+use Rattle.std.proofs.Common.{◌≡◌, ℕ, suc, ◌<◌, Bool, true, false, List, [], ◌∷◌, ◌++◌, length, map, refl, sym, ap, ◌∙◌, arith, cond, Option, Some}
+use Rattle.std.specs.Prelude.{All, is_none, if◌then◌else◌}
 use Rattle.std.proofs.lemmas.Bool.{and_parts, false≢true}
-use Rattle.std.proofs.lemmas.List.Elements.{All-nil, All-cons, All-head, All-tail}
+use Rattle.std.proofs.lemmas.List.Elements.{All-cons, All-head, All-tail}
 use Rattle.nc_sg.specs.declared.list.Entry.{Entry}
 use Rattle.nc_sg.specs.Lists.{waits, give_slot}
 use Rattle.nc_sg.proofs.ListLaws.{length-give_slot}
@@ -77,14 +77,14 @@ count_by_name : (id : LotId) (k : ℕ) (lot : Lot) (lots : List Lot) (t : Bool) 
     → length (those id (if t then with_slot k lot ∷ lots else lot ∷ slot_given k lots)) ≡ length (those id (lot ∷ lots))
 count_by_name id k lot lots true e = same_by (is_lot id lot) lot (with_slot k lot) (those id lots) (those id lots) refl
   where
-  same_by : (t : Bool) (l m : Lot) (xs ys : List Lot) → length xs ≡ length ys → length (cond t (m ∷ xs) xs) ≡ length (cond t (l ∷ ys) ys)
-  same_by true l m xs ys e = ap suc e
-  same_by false l m xs ys e = e
+    same_by : (t : Bool) (l m : Lot) (xs ys : List Lot) → length xs ≡ length ys → length (cond t (m ∷ xs) xs) ≡ length (cond t (l ∷ ys) ys)
+    same_by true l m xs ys e = ap suc e
+    same_by false l m xs ys e = e
 count_by_name id k lot lots false e = same_by (is_lot id lot) lot lot (those id (slot_given k lots)) (those id lots) e
   where
-  same_by : (t : Bool) (l m : Lot) (xs ys : List Lot) → length xs ≡ length ys → length (cond t (m ∷ xs) xs) ≡ length (cond t (l ∷ ys) ys)
-  same_by true l m xs ys e = ap suc e
-  same_by false l m xs ys e = e
+    same_by : (t : Bool) (l m : Lot) (xs ys : List Lot) → length xs ≡ length ys → length (cond t (m ∷ xs) xs) ≡ length (cond t (l ∷ ys) ys)
+    same_by true l m xs ys e = ap suc e
+    same_by false l m xs ys e = e
 
 count_given : (id : LotId) (k : ℕ) (lots : List Lot) → length (those id (slot_given k lots)) ≡ length (those id lots)
 count_given id k [] = refl
@@ -98,9 +98,9 @@ passed_over k [] new all = refl
 passed_over k (lot ∷ old) new all =
     passes_by (lot_waits lot) k lot (old ++ new) (old ++ slot_given k new) (All-head IsSettled lot old all).placed (passed_over k old new (All-tail IsSettled lot old all))
   where
-  passes_by : (t : Bool) (k : ℕ) (lot : Lot) (lots nows : List Lot) → t ≡ false → slot_given k lots ≡ nows → (if t then with_slot k lot ∷ lots else lot ∷ slot_given k lots) ≡ lot ∷ nows
-  passes_by true k lot lots nows e h = absurd (false≢true (sym e))
-  passes_by false k lot lots nows e h = ap (λ (ls : List Lot). lot ∷ ls) h
+    passes_by : (t : Bool) (k : ℕ) (lot : Lot) (lots nows : List Lot) → t ≡ false → slot_given k lots ≡ nows → (if t then with_slot k lot ∷ lots else lot ∷ slot_given k lots) ≡ lot ∷ nows
+    passes_by true k lot lots nows e h = absurd (false≢true (sym e))
+    passes_by false k lot lots nows e h = ap (λ (ls : List Lot). lot ∷ ls) h
 
 pub made_given : (k : ℕ) (o : Op) (lots : List Lot) → AreMade o lots → AreMade o (slot_given k lots)
 made_given k o lots h = record {

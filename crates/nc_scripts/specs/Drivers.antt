@@ -1,10 +1,9 @@
 -- What holds of every driver of an accepted scenario, whatever its script: what it knows, the lots that it has, where it
 -- stands and what is left of its plan; and what it does next and changes is there. This project's own.
-use Rattle.std.specs.Prelude.{ℕ, ◌≡◌, ◌+◌, ◌-◌, ◌*◌, ◌%◌, ◌<◌, ◌≤◌, Bool, true, false, List, [], ◌∷◌, ◌++◌, length, map, filter, Option, Some, All, EachIndex, slice_index}
+use Rattle.std.specs.Prelude.{ℕ, ◌≡◌, ◌+◌, ◌-◌, ◌*◌, ◌%◌, ◌<◌, ◌≤◌, Bool, true, false, List, [], ◌∷◌, ◌++◌, length, map, filter, Some, All, EachIndex, slice_index}
 use Rattle.nc_num.specs.Sizes.{IsBlockSize}
 use Rattle.nc_num.specs.declared.names.HartNo.{HartNo}
 use Rattle.nc_num.specs.declared.names.Label.{Label}
-use Rattle.nc_num.specs.declared.names.MapId.{MapId}
 use Rattle.nc_num.specs.declared.places.Span.{Span}
 use Rattle.nc_pte.specs.Words.{IsPteWord}
 use Rattle.nc_values.specs.Values.{FitsLabel}
@@ -14,7 +13,6 @@ use Rattle.nc_plan.specs.Parts.{is_too_big}
 use Rattle.nc_plan.specs.Plans.{In}
 use Rattle.nc_plan.specs.declared.ops.HartOp.{HartOp}
 use Rattle.nc_plan.specs.declared.ops.HartOp.TheVariants as hart
-use Rattle.nc_plan.specs.declared.ops.Payload.{Payload}
 use Rattle.nc_plan.specs.declared.ops.Payload.TheVariants as payloads
 use Rattle.nc_coherent.specs.Pages.{PageMap}
 use Rattle.nc_sg.specs.declared.list.Entry.{Entry}
