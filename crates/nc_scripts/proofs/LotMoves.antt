@@ -28,7 +28,7 @@ use Rattle.nc_rules.specs.declared.steps.PageMove.TheVariants as pages
 use Rattle.nc_rules.specs.declared.steps.Turn.{Turn}
 use Rattle.nc_rules.specs.declared.steps.Turn.TheVariants as turns
 use Rattle.nc_rules.specs.Lots.{Fixed, is_lot, is_wanted, each_from, each_entry, grant_of, map_id, only_entry, no_entry, owner_of_side, slots_held}
-use Rattle.nc_rules.specs.Turns.{moved, those, of_those, to_side, to_end, granted, ids, is_area, last_owner, pages_taken, pages_given, page_move, page_moves, lots_after, transfers_of, grants_of, ended_of, backs_of, pages_of, turned, given_up}
+use Rattle.nc_rules.specs.Turns.{moved, those, of_those, to_side, to_end, granted, ids, is_area, last_owner, pages_taken, pages_given, page_move, page_moves, lots_after, transfers_of, grants_of, ended_of, backs_of, pages_of, turned, turned_by, turned_by, given_up}
 use Rattle.nc_scripts.specs.Scripts.{IsRangeIn}
 use Rattle.nc_scripts.specs.Drivers.{IsFixed, IsEntryIn, IsLotIn, IsInPool, FitsKind, AreApart, GrantIsIn, PageMoveIsIn, AreThere, TurnIsThere, wanted_lots}
 use Rattle.nc_scripts.proofs.Lists.{all_to, all_both, all_filtered, all_joined, few_joined, none_any, position_any, few_mapped, all_mapped}
@@ -95,19 +95,19 @@ those_few P h id lots all apart f =
 abbrev InRam : ℕ → Span × Owner → Type 0
 InRam ram t = IsRangeIn ram t.0
 
-sided_all : (ram : ℕ) (f : Fixed) (side : Side) (lot : Lot) → IsLotIn ram f lot → All (InRam ram) (to_side f side lot)
+sided_all : (ram : ℕ) (f : Fixed) (side : Side) (lot : Lot) → IsLotIn ram f lot → All (InRam ram) (to_side f.me side lot)
 sided_all ram f side lot h = all_each (IsEntryIn ram f.slots) (InRam ram) f.me lot.id 0 (λ id e. (e.span, owner_of_side id side)) lot.list.entries h.entries (λ j e k. k.range)
 
-sided_few : (ram : ℕ) (f : Fixed) (side : Side) (lot : Lot) → IsLotIn ram f lot → length (to_side f side lot) ≤ 16
+sided_few : (ram : ℕ) (f : Fixed) (side : Side) (lot : Lot) → IsLotIn ram f lot → length (to_side f.me side lot) ≤ 16
 sided_few ram f side lot h = omega (arith, length-each {A = Span × Owner} f.me lot.id 0 (λ id e. (e.span, owner_of_side id side)) lot.list.entries, h.few)
 
-ended_all : (ram : ℕ) (f : Fixed) (lot : Lot) → IsLotIn ram f lot → All (InRam ram) (to_end f lot)
+ended_all : (ram : ℕ) (f : Fixed) (lot : Lot) → IsLotIn ram f lot → All (InRam ram) (to_end f.me lot)
 ended_all ram f lot h = All-map (InRam ram) (λ (e : Entry). (e.span, last_owner f.me lot)) lot.list.entries (all_to (IsEntryIn ram f.slots) (λ e. IsRangeIn ram e.span) lot.list.entries h.entries (λ e k. k.range))
 
-ended_few : (ram : ℕ) (f : Fixed) (lot : Lot) → IsLotIn ram f lot → length (to_end f lot) ≤ 16
+ended_few : (ram : ℕ) (f : Fixed) (lot : Lot) → IsLotIn ram f lot → length (to_end f.me lot) ≤ 16
 ended_few ram f lot h = omega (arith, length-map {B = Span × Owner} lot.list.entries (λ (e : Entry). (e.span, last_owner f.me lot)), h.few)
 
-ids_few : (ram : ℕ) (f : Fixed) (lot : Lot) → IsLotIn ram f lot → length (ids f lot) ≤ 16
+ids_few : (ram : ℕ) (f : Fixed) (lot : Lot) → IsLotIn ram f lot → length (ids f.me lot) ≤ 16
 ids_few ram f lot h = omega (arith, length-each f.me lot.id 0 (λ id e. id) lot.list.entries, h.few)
 
 held_few : (ram : ℕ) (f : Fixed) (lot : Lot) → IsLotIn ram f lot → length (slots_held lot) ≤ 16
@@ -120,9 +120,9 @@ held_all ram f lot h = all_mapped (IsEntryIn ram f.slots) (λ k. k < f.slots) (�
 abbrev Transfers : ℕ → List (Span × Owner) → Type 0
 Transfers ram ts = All (InRam ram) ts × (length ts ≤ 16)
 
-sides_there : (ram : ℕ) (f : Fixed) (side : Side) (id : LotId) (lots : List Lot) → All (IsLotIn ram f) lots → AreApart lots → Transfers ram (of_those (to_side f side) id lots)
+sides_there : (ram : ℕ) (f : Fixed) (side : Side) (id : LotId) (lots : List Lot) → All (IsLotIn ram f) lots → AreApart lots → Transfers ram (of_those (to_side f.me side) id lots)
 sides_there ram f side id lots all apart =
-    (those_all (IsLotIn ram f) (InRam ram) (to_side f side) id lots all (sided_all ram f side), those_few (IsLotIn ram f) (to_side f side) id lots all apart (sided_few ram f side))
+    (those_all (IsLotIn ram f) (InRam ram) (to_side f.me side) id lots all (sided_all ram f side), those_few (IsLotIn ram f) (to_side f.me side) id lots all apart (sided_few ram f side))
 
 one_there : (ram : ℕ) (range : Span) (o : Owner) → IsRangeIn ram range → Transfers ram ((range, o) ∷ [])
 one_there ram range o h = (All-cons (InRam ram) (range, o) [] h (All-nil (InRam ram)), omega arith)
@@ -130,7 +130,7 @@ one_there ram range o h = (All-cons (InRam ram) (range, o) [] h (All-nil (InRam 
 none_there : (ram : ℕ) → Transfers ram []
 none_there ram = (All-nil (InRam ram), omega arith)
 
-transfers_there : (ram : ℕ) (f : Fixed) (lots : List Lot) (t : Turn) → All (IsLotIn ram f) lots → AreApart lots → TurnIsThere ram t → Transfers ram (transfers_of f lots t)
+transfers_there : (ram : ℕ) (f : Fixed) (lots : List Lot) (t : Turn) → All (IsLotIn ram f) lots → AreApart lots → TurnIsThere ram t → Transfers ram (transfers_of f.me lots t)
 transfers_there ram f lots turns.Stay all apart h = none_there ram
 transfers_there ram f lots (turns.Pass range to) all apart h = one_there ram range (owners.Passing f.me to) h
 transfers_there ram f lots (turns.Own range) all apart h = one_there ram range (owners.Thread f.me) h
@@ -140,14 +140,14 @@ transfers_there ram f lots (turns.Return id) all apart h = sides_there ram f sid
 transfers_there ram f lots (turns.Sync id) all apart h = sides_there ram f sides.Synced id lots all apart
 transfers_there ram f lots (turns.Settle id) all apart h = sides_there ram f sides.Own id lots all apart
 transfers_there ram f lots (turns.End id) all apart h =
-    (those_all (IsLotIn ram f) (InRam ram) (to_end f) id lots all (ended_all ram f), those_few (IsLotIn ram f) (to_end f) id lots all apart (ended_few ram f))
+    (those_all (IsLotIn ram f) (InRam ram) (to_end f.me) id lots all (ended_all ram f), those_few (IsLotIn ram f) (to_end f.me) id lots all apart (ended_few ram f))
 
 -- a turn's new grants
 record IsPlacedIn (ram : ℕ) (f : Fixed) (lot : Lot) : Type 0 where
   is : IsLotIn ram f lot
   placed : IsPlaced lot
 
-grant_there : (ram harts : ℕ) (f : Fixed) (lot : Lot) (j : ℕ) (e : Entry) → IsFixed ram harts f → lot.chan.0 < 4 → IsEntryIn ram f.slots e → waits e ≡ false → GrantIsIn ram f.me (grant_of f lot (map_id f.me lot.id j) e)
+grant_there : (ram harts : ℕ) (f : Fixed) (lot : Lot) (j : ℕ) (e : Entry) → IsFixed ram harts f → lot.chan.0 < 4 → IsEntryIn ram f.slots e → waits e ≡ false → GrantIsIn ram f.me (grant_of f.slots_at lot (map_id f.me lot.id j) e)
 grant_there ram harts f lot j e h chan k off =
     let p = entry_part ram harts f lot.list.dir e h k off in
     record { buffer = p.buffer; device = p.device; lengths = p.lengths; channel = chan; hart = refl }
@@ -162,24 +162,24 @@ Grants ram me gs = All (GrantIsIn ram me) gs × (length gs ≤ 16)
 no_grants : (ram : ℕ) (me : HartNo) → Grants ram me []
 no_grants ram me = (All-nil (GrantIsIn ram me), omega arith)
 
-granted_by : (ram harts : ℕ) (f : Fixed) (lot : Lot) (t : Bool) → IsFixed ram harts f → IsPlacedIn ram f lot → Grants ram f.me (if t then each_entry f lot (grant_of f lot) else [])
+granted_by : (ram harts : ℕ) (f : Fixed) (lot : Lot) (t : Bool) → IsFixed ram harts f → IsPlacedIn ram f lot → Grants ram f.me (if t then each_entry f.me lot (grant_of f.slots_at lot) else [])
 granted_by ram harts f lot false h k = no_grants ram f.me
 granted_by ram harts f lot true h k =
     let seen = all_both (IsEntryIn ram f.slots) (λ e. waits e ≡ false) (IsSeen ram f.slots) lot.list.entries k.is.entries (placed_entries lot k.placed) (λ e is off. record { is = is; placed = off }) in (
-      all_each (IsSeen ram f.slots) (GrantIsIn ram f.me) f.me lot.id 0 (grant_of f lot) lot.list.entries seen (λ j e s. grant_there ram harts f lot j e h k.is.channel s.is s.placed),
-      omega (arith, length-each f.me lot.id 0 (grant_of f lot) lot.list.entries, k.is.few),
+      all_each (IsSeen ram f.slots) (GrantIsIn ram f.me) f.me lot.id 0 (grant_of f.slots_at lot) lot.list.entries seen (λ j e s. grant_there ram harts f lot j e h k.is.channel s.is s.placed),
+      omega (arith, length-each f.me lot.id 0 (grant_of f.slots_at lot) lot.list.entries, k.is.few),
     )
 
 both_in : (ram : ℕ) (f : Fixed) (lots : List Lot) → All (IsLotIn ram f) lots → All IsPlaced lots → All (IsPlacedIn ram f) lots
 both_in ram f lots all placed = all_both (IsLotIn ram f) IsPlaced (IsPlacedIn ram f) lots all placed (λ lot is p. record { is = is; placed = p })
 
-grants_there : (ram harts : ℕ) (f : Fixed) (lots : List Lot) (t : Turn) → IsFixed ram harts f → All (IsLotIn ram f) lots → AreApart lots → All IsPlaced lots → Grants ram f.me (grants_of f lots t)
+grants_there : (ram harts : ℕ) (f : Fixed) (lots : List Lot) (t : Turn) → IsFixed ram harts f → All (IsLotIn ram f) lots → AreApart lots → All IsPlaced lots → Grants ram f.me (grants_of f.me f.slots_at lots t)
 grants_there ram harts f lots turns.Stay h all apart placed = no_grants ram f.me
 grants_there ram harts f lots (turns.Pass range to) h all apart placed = no_grants ram f.me
 grants_there ram harts f lots (turns.Own range) h all apart placed = no_grants ram f.me
 grants_there ram harts f lots (turns.Lend id) h all apart placed = (
-  those_all (IsPlacedIn ram f) (GrantIsIn ram f.me) (granted f) id lots (both_in ram f lots all placed) (λ lot k. (granted_by ram harts f lot (is_wanted lot.side) h k).0),
-  those_few (IsPlacedIn ram f) (granted f) id lots (both_in ram f lots all placed) apart (λ lot k. (granted_by ram harts f lot (is_wanted lot.side) h k).1),
+  those_all (IsPlacedIn ram f) (GrantIsIn ram f.me) (granted f.me f.slots_at) id lots (both_in ram f lots all placed) (λ lot k. (granted_by ram harts f lot (is_wanted lot.side) h k).0),
+  those_few (IsPlacedIn ram f) (granted f.me f.slots_at) id lots (both_in ram f lots all placed) apart (λ lot k. (granted_by ram harts f lot (is_wanted lot.side) h k).1),
 )
 grants_there ram harts f lots (turns.Give id) h all apart placed = no_grants ram f.me
 grants_there ram harts f lots (turns.Return id) h all apart placed = no_grants ram f.me
@@ -188,7 +188,7 @@ grants_there ram harts f lots (turns.Settle id) h all apart placed = no_grants r
 grants_there ram harts f lots (turns.End id) h all apart placed = no_grants ram f.me
 
 -- a turn's ends of grants, and its slots
-ended_there : (ram : ℕ) (f : Fixed) (lots : List Lot) (t : Turn) → All (IsLotIn ram f) lots → AreApart lots → length (ended_of f lots t) ≤ 16
+ended_there : (ram : ℕ) (f : Fixed) (lots : List Lot) (t : Turn) → All (IsLotIn ram f) lots → AreApart lots → length (ended_of f.me lots t) ≤ 16
 ended_there ram f lots turns.Stay all apart = omega arith
 ended_there ram f lots (turns.Pass range to) all apart = omega arith
 ended_there ram f lots (turns.Own range) all apart = omega arith
@@ -197,7 +197,7 @@ ended_there ram f lots (turns.Give id) all apart = omega arith
 ended_there ram f lots (turns.Return id) all apart = omega arith
 ended_there ram f lots (turns.Sync id) all apart = omega arith
 ended_there ram f lots (turns.Settle id) all apart = omega arith
-ended_there ram f lots (turns.End id) all apart = those_few (IsLotIn ram f) (ids f) id lots all apart (ids_few ram f)
+ended_there ram f lots (turns.End id) all apart = those_few (IsLotIn ram f) (ids f.me) id lots all apart (ids_few ram f)
 
 abbrev Backs : ℕ → List ℕ → Type 0
 Backs slots ks = All (λ k. k < slots) ks × (length ks ≤ 16)
@@ -267,7 +267,7 @@ pages_there ram f lots (turns.End id) all = moves_there ram f pages_given (those
 -- the changes of two turns, one after the other
 pub turned_there : (ram harts : ℕ) (f : Fixed) (lots : List Lot) (t u : Turn) (a : Option Answer) → IsFixed ram harts f → All (IsLotIn ram f) lots → AreApart lots → All IsPlaced lots
     → TurnIsThere ram t → TurnIsThere ram u → AreThere ram f (turned f lots t u a)
-unfolding turned
+unfolding turned_by
 turned_there ram harts f lots t u a h all apart placed th uh =
     let now = lots_after t lots in
     let all2 = lots_stay ram f t lots all in
@@ -280,11 +280,11 @@ turned_there ram harts f lots t u a h all apart placed th uh =
     let bs = backs_there ram f lots t all apart in
     let cs = backs_there ram f now u all2 apart2 in
     record {
-      transfers = All-append (InRam ram) (transfers_of f lots t) (transfers_of f now u) ts.0 us.0;
-      transfers_few = omega (arith, length-append (transfers_of f lots t) (transfers_of f now u), ts.1, us.1);
-      grants = All-append (GrantIsIn ram f.me) (grants_of f lots t) (grants_of f now u) gs.0 hs.0;
-      grants_few = omega (arith, length-append (grants_of f lots t) (grants_of f now u), gs.1, hs.1);
-      ended_few = omega (arith, length-append (ended_of f lots t) (ended_of f now u), ended_there ram f lots t all apart, ended_there ram f now u all2 apart2);
+      transfers = All-append (InRam ram) (transfers_of f.me lots t) (transfers_of f.me now u) ts.0 us.0;
+      transfers_few = omega (arith, length-append (transfers_of f.me lots t) (transfers_of f.me now u), ts.1, us.1);
+      grants = All-append (GrantIsIn ram f.me) (grants_of f.me f.slots_at lots t) (grants_of f.me f.slots_at now u) gs.0 hs.0;
+      grants_few = omega (arith, length-append (grants_of f.me f.slots_at lots t) (grants_of f.me f.slots_at now u), gs.1, hs.1);
+      ended_few = omega (arith, length-append (ended_of f.me lots t) (ended_of f.me now u), ended_there ram f lots t all apart, ended_there ram f now u all2 apart2);
       backs = All-append (λ k. k < f.slots) (backs_of lots t) (backs_of now u) bs.0 cs.0;
       backs_few = omega (arith, length-append (backs_of lots t) (backs_of now u), bs.1, cs.1);
       pages = move_there f.pool (pages_of lots t) (pages_of now u) (pages_there ram f lots t all) (pages_there ram f now u all2);
@@ -292,12 +292,12 @@ turned_there ram harts f lots t u a h all apart placed th uh =
 
 -- a lot that becomes the device's
 pub lent_there : (ram : ℕ) (f : Fixed) (lots : List Lot) (id : LotId) → All (IsLotIn ram f) lots → AreApart lots → AreThere ram f (turned f lots (turns.Give id) turns.Stay None)
-unfolding turned
+unfolding turned_by
 lent_there ram f lots id all apart =
     let ts = sides_there ram f sides.Device id lots all apart in
     record {
-      transfers = All-append (InRam ram) (of_those (to_side f sides.Device) id lots) [] ts.0 (All-nil (InRam ram));
-      transfers_few = omega (arith, length-append (of_those (to_side f sides.Device) id lots) [], ts.1);
+      transfers = All-append (InRam ram) (of_those (to_side f.me sides.Device) id lots) [] ts.0 (All-nil (InRam ram));
+      transfers_few = omega (arith, length-append (of_those (to_side f.me sides.Device) id lots) [], ts.1);
       grants = All-nil (GrantIsIn ram f.me);
       grants_few = omega arith;
       ended_few = omega arith;
