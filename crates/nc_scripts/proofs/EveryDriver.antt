@@ -44,7 +44,7 @@ use Rattle.nc_rules.specs.Driver.{DriverState, in_hand, next_of, next_of_op, nex
 use Rattle.nc_rules.specs.Start.{fixed_of, first_driver, hart_spec, no_hart_spec}
 use Rattle.nc_scripts.specs.Scripts.{IsRangeIn, is_act}
 use Rattle.nc_scripts.specs.Scripts as plain
-use Rattle.nc_scripts.specs.Drivers.{IsFixed, ArePagesOf, FitsKind, IsLotIn, AreApart, IsNamed, IsEndName, IsSettled, AreMade, made_names, ActFitsLast, LoadsFit, loaded_by, ActIsThere, TurnIsThere, StepIsThere, IsOwed, is_claim, ClaimsNothing, ClaimsFirst, NoEndIsLent, turns_of, wanted_lots, IsSearching, IsAtWork, IsPhase, IsDriver, NextIsThere, NextFitsLast, loaded_next, IsSeenAt, Keeps, IsLentAt, EachStaysDriver, FirstDrivers}
+use Rattle.nc_scripts.specs.Drivers.{LendsFirst, IsFixed, ArePagesOf, FitsKind, IsLotIn, AreApart, IsNamed, IsEndName, IsSettled, AreMade, made_names, ActFitsLast, LoadsFit, loaded_by, ActIsThere, TurnIsThere, StepIsThere, IsOwed, is_claim, ClaimsNothing, ClaimsFirst, NoEndIsLent, turns_of, wanted_lots, IsSearching, IsAtWork, IsPhase, IsDriver, NextIsThere, NextFitsLast, loaded_next, IsSeenAt, Keeps, IsLentAt, EachStaysDriver, FirstDrivers}
 use Rattle.nc_scripts.proofs.Lists.{found, all_to, all_both, all_filtered, all_right, none_any}
 use Rattle.nc_scripts.proofs.LotLaws.{IsPlaced, Becomes, thins_all, thinned, lots_stay, apart_stay, placed_stay, wanted_stay, owed_stay}
 use Rattle.nc_scripts.proofs.LotMoves.{turned_there, lent_there, nothing_there, given_up_there}
@@ -171,11 +171,14 @@ settled_by : (ram : ℕ) (f : Fixed) (lot : Lot) (t : Bool) → is_wanted lot.si
 settled_by ram f lot true e h lent no_end = absurd (lent refl)
 settled_by ram f lot false e h lent no_end = record { named = named_by f.pool lot.kind lot h.is.kind no_end; placed = h.placed; lent = e }
 
+none_first : (id : LotId) → LendsFirst id [] → ⊥
+none_first id k = k
+
 none_owed : (t : Turn) → In t [] → ⊥
 none_owed t k = k
 
 paid : (ram : ℕ) (f : Fixed) (lot : Lot) → IsReady ram f lot → IsOwed [] lot → IsSettled lot
-paid ram f lot h k = settled_by ram f lot (is_wanted lot.side) refl h (λ w. none_owed (turns.Lend lot.id) (k.lends w)) (λ e. none_owed (turns.End lot.id) (k.ends e))
+paid ram f lot h k = settled_by ram f lot (is_wanted lot.side) refl h (λ w. none_first lot.id (k.lends w)) (λ e. none_owed (turns.End lot.id) (k.ends e))
 
 -- what a plan that goes on needs
 record IsUnderWay (ram harts : ℕ) (f : Fixed) (lots : List Lot) (rest : List Step) : Type 0 where

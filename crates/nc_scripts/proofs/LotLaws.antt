@@ -13,7 +13,7 @@ use Rattle.nc_rules.specs.declared.steps.Turn.{Turn}
 use Rattle.nc_rules.specs.declared.steps.Turn.TheVariants as turns
 use Rattle.nc_rules.specs.Lots.{Fixed, is_lot, is_wanted, lot_waits}
 use Rattle.nc_rules.specs.Turns.{set_side, lots_after}
-use Rattle.nc_scripts.specs.Drivers.{IsLotIn, AreApart, IsOwed, wanted_lots}
+use Rattle.nc_scripts.specs.Drivers.{LendsFirst, IsLotIn, AreApart, IsOwed, wanted_lots}
 
 -- ---- one lot
 
@@ -115,6 +115,7 @@ lot_stays : (ram : ℕ) (f : Fixed) (t : Turn) (lot now : Lot) → Becomes t lot
 lot_stays ram f t lot now b h = record {
   few = rw b.list h.few;
   entries = rw b.list h.entries;
+  bounce = rw (b.kind, b.chan, b.list) h.bounce;
   channel = rw b.chan h.channel;
   kind = rw (b.kind, b.id, b.list) h.kind;
 }
@@ -142,9 +143,9 @@ wanted_stay t lots n h =
     omega (arith, le, h)
 
 -- the turn is made, and what was owed behind it is owed
-owed_lend : (t : Turn) (ts : List Turn) (lot now : Lot) → Becomes t lot now → is_wanted now.side ≡ true → In (turns.Lend lot.id) (t ∷ ts) → In (turns.Lend now.id) ts
+owed_lend : (t : Turn) (ts : List Turn) (lot now : Lot) → Becomes t lot now → is_wanted now.side ≡ true → LendsFirst lot.id (t ∷ ts) → LendsFirst now.id ts
 owed_lend t ts lot now b w (inl e) = absurd (false≢true (sym (b.lends e) ∙ w))
-owed_lend t ts lot now b w (inr k) = rw b.id k
+owed_lend t ts lot now b w (inr k) = rw b.id k.1
 
 owed_end : (t : Turn) (ts : List Turn) (lot now : Lot) → Becomes t lot now → In (turns.End lot.id) (t ∷ ts) → In (turns.End now.id) ts
 owed_end t ts lot now b (inl e) = absurd (b.ends e)

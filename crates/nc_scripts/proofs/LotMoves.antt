@@ -227,7 +227,7 @@ only_in ram f lot h one = only_is (IsEntryIn ram f.slots) lot h.entries one
 area_by : (ram : ℕ) (f : Fixed) (lot : Lot) (k : Kind) → IsLotIn ram f lot → FitsKind f.pool k lot.id lot.list.entries → is_area k ≡ true → IsInPool f.pool (only_entry lot).span × (0 < (only_entry lot).span.len)
 area_by ram f lot kinds.Single h fits e = absurd (false≢true e)
 area_by ram f lot kinds.List h fits e = absurd (false≢true e)
-area_by ram f lot kinds.Area h fits e = ((fits.2 0 no_entry (omega (arith, fits.1))).pages, (only_in ram f lot h fits.1).range.some)
+area_by ram f lot kinds.Area h fits e = (fits.2 0 no_entry (omega (arith, fits.1)), (only_in ram f lot h fits.1).range.some)
 area_by ram f lot kinds.Copy h fits e = absurd (false≢true e)
 
 taken_by : (ram : ℕ) (f : Fixed) (lot : Lot) (a w : Bool) → is_area lot.kind ≡ a → IsLotIn ram f lot → PageMoveIsIn f.pool (if a && w then pages.Take (only_entry lot).span else pages.Stay)

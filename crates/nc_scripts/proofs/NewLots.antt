@@ -5,10 +5,10 @@ use Rattle.std.specs.List.{list_any}
 use Rattle.std.proofs.lemmas.Bool.{and_parts, false≢true, leb-true}
 use Rattle.std.proofs.lemmas.Bool.Decides.{nat_tests}
 use Rattle.std.proofs.lemmas.List.{length-map, append-nil}
-use Rattle.std.proofs.lemmas.List.Elements.{All-nil, All-cons, All-head, All-tail}
+use Rattle.std.proofs.lemmas.List.Elements.{All-nil, All-cons, All-head, All-tail, All-map}
 use Rattle.nc_num.specs.declared.names.ChanNo.{ChanNo}
 use Rattle.nc_num.specs.declared.names.Dir.{Dir}
-use Rattle.nc_num.specs.declared.names.Dir.TheVariants.{ToDev, FromDev}
+use Rattle.nc_num.specs.declared.names.Dir.TheVariants.{Both, ToDev, FromDev}
 use Rattle.nc_num.specs.declared.names.Label.{Label}
 use Rattle.nc_num.specs.declared.places.Span.{Span}
 use Rattle.nc_values.specs.Values.{FitsLabel}
@@ -32,7 +32,7 @@ use Rattle.nc_rules.specs.declared.lots.Lot.{Lot}
 use Rattle.nc_rules.specs.declared.lots.LotId.{LotId}
 use Rattle.nc_rules.specs.Lots.{Fixed, lot_id, is_lot, is_labelled, is_wanted, some_lot_waits, reach_of, ranges_lot, area_lot, only_entry}
 use Rattle.nc_rules.specs.Refusals.{◌>>=◌, wanted, some_or, some_bytes, buffer_of, part_of, all_some, ranges_of, unused, named, owned, owned_from, planned, lendable, is_big, has_big, small_enough, slots_there, placeable}
-use Rattle.nc_rules.specs.Turns.{those}
+use Rattle.nc_rules.specs.Turns.{is_area, those}
 use Rattle.nc_rules.specs.Mappings as mappings
 use Rattle.nc_rules.specs.Mappings.{map_begin, needs_lot}
 use Rattle.nc_rules.specs.ScatterLists as lists
@@ -47,7 +47,7 @@ use Rattle.nc_rules.specs.CacheOps as cache_ops
 use Rattle.nc_rules.specs.Channels as channels
 use Rattle.nc_rules.specs.Operations.{meaning, begin}
 use Rattle.nc_scripts.specs.Scripts.{IsRangeIn}
-use Rattle.nc_scripts.specs.Drivers.{IsFixed, ArePagesOf, IsEntryIn, IsInPool, IsAreaIn, FitsKind, IsLotIn, AreApart, IsSettled, made_names}
+use Rattle.nc_scripts.specs.Drivers.{IsFixed, ArePagesOf, IsEntryIn, IsInPool, BouncesSo, FitsKind, IsLotIn, AreApart, IsSettled, made_names}
 use Rattle.nc_scripts.proofs.Lists.{all_to, none_any}
 use Rattle.nc_scripts.proofs.LotLaws.{named_so}
 use Rattle.nc_scripts.proofs.DriverSteps.{passed, wanted_is, part_is, buffer_is, IsLaid}
@@ -169,13 +169,19 @@ entries_in ram slots size reach dir (r ∷ rs) all small =
     })
     (entries_in ram slots size reach dir rs (All-tail (IsRangeIn ram) r rs all) (All-tail (λ e. is_big e ≡ false) (fresh dir size reach r) (map (fresh dir size reach) rs) small))
 
-lot_in : (ram : ℕ) (f : Fixed) (id : LotId) (kind : Kind) (dir : Dir) (chan : ChanNo) (ranges : List Span) → All (IsRangeIn ram) ranges → length ranges ≤ 16 → chan.0 < 4
+-- each bounces as the rule says
+bounce_so : (f : Fixed) (kind : Kind) (dir : Dir) (chan : ChanNo) (ranges : List Span) → is_area kind ≡ false → All (BouncesSo f kind dir chan) (map (fresh dir f.size (reach_of f chan)) ranges)
+bounce_so f kind dir chan ranges off =
+    All-map (BouncesSo f kind dir chan) (fresh dir f.size (reach_of f chan)) ranges (λ k d lt. rw off refl)
+
+lot_in : (ram : ℕ) (f : Fixed) (id : LotId) (kind : Kind) (dir : Dir) (chan : ChanNo) (ranges : List Span) → All (IsRangeIn ram) ranges → length ranges ≤ 16 → chan.0 < 4 → is_area kind ≡ false
     → has_big (ranges_lot f id kind dir chan ranges) ≡ false → ((es : List Entry) → length es ≡ length ranges → FitsKind f.pool kind id es) → IsLotIn ram f (ranges_lot f id kind dir chan ranges)
-lot_in ram f id kind dir chan ranges all few lt small fits =
+lot_in ram f id kind dir chan ranges all few lt off small fits =
     let es = map (fresh dir f.size (reach_of f chan)) ranges in
     record {
       few = omega (arith, length-map ranges (fresh dir f.size (reach_of f chan)), few);
       entries = entries_in ram f.slots f.size (reach_of f chan) dir ranges all (none_any is_big es small);
+      bounce = bounce_so f kind dir chan ranges off;
       channel = lt;
       kind = fits es (length-map ranges (fresh dir f.size (reach_of f chan)));
     }
@@ -213,9 +219,9 @@ abbrev ranges_begin : Fixed → List Lot → Label → Kind → Dir → ChanNo �
 ranges_begin f lots label kind dir chan owners es = all_some es >>= λ _. ranges_of f es >>= λ ranges. behind_ranges f lots label kind dir chan owners ranges
 
 ranges_new : (ram harts : ℕ) (f : Fixed) (lots : List Lot) (label : Label) (kind : Kind) (dir : Dir) (chan : ChanNo) (owners : List Owner) (es : List SgEntry) (o : Op) (new : List Lot)
-    → IsFixed ram harts f → AreApart lots → All (FitsEntry (length f.buffers)) es → length es ≤ 16 → chan.0 < 4 → ((xs : List Entry) → length xs ≡ length es → FitsKind f.pool kind (lot_id label 0) xs)
+    → IsFixed ram harts f → AreApart lots → All (FitsEntry (length f.buffers)) es → length es ≤ 16 → chan.0 < 4 → is_area kind ≡ false → ((xs : List Entry) → length xs ≡ length es → FitsKind f.pool kind (lot_id label 0) xs)
     → lot_id label 0 ∷ [] ≡ made_names o → ranges_begin f lots label kind dir chan owners es ≡ Ok new → AreNew ram f o lots new
-ranges_new ram harts f lots label kind dir chan owners es o new h apart fits few lt its_kind names e =
+ranges_new ram harts f lots label kind dir chan owners es o new h apart fits few lt off its_kind names e =
     let p1 = passed (all_some es) (λ _. ranges_of f es >>= λ ranges. behind_ranges f lots label kind dir chan owners ranges) new e in
     let p2 = passed (ranges_of f es) (λ ranges. behind_ranges f lots label kind dir chan owners ranges) new p1.rest in
     let lot = ranges_lot f (lot_id label 0) kind dir chan p2.value in
@@ -224,7 +230,7 @@ ranges_new ram harts f lots label kind dir chan owners es o new h apart fits few
     let p5 = passed (lendable f.effects dir) (λ _. placeable f (lot ∷ [])) new p4.rest in
     let ranges = ranges_in ram f es p2.value p1.value (laid ram harts f h) fits p1.first p2.first in
     let there = placeable_is f (lot ∷ []) new p5.rest in
-    let is = lot_in ram f (lot_id label 0) kind dir chan p2.value ranges.all (omega (arith, ranges.count, few)) lt (All-head (λ lot. has_big lot ≡ false) lot [] there.small) (λ xs same. its_kind xs (same ∙ ranges.count)) in
+    let is = lot_in ram f (lot_id label 0) kind dir chan p2.value ranges.all (omega (arith, ranges.count, few)) lt off (All-head (λ lot. has_big lot ≡ false) lot [] there.small) (λ xs same. its_kind xs (same ∙ ranges.count)) in
     subst (λ (ls : List Lot). AreNew ram f o lots ls) there.same (record {
       each = All-cons (IsLotIn ram f) lot [] is (All-nil (IsLotIn ram f));
       names = names;
@@ -266,8 +272,9 @@ area_in ram harts f pool n label chan span h of fits lt some run =
     record {
       few = omega arith;
       entries = All-cons (IsEntryIn ram f.slots) (record { span = span; bounced = false; slot = None }) [] (record { range = range; slot = λ k e. absurd (cc); small = λ e. absurd (false≢true e) }) (All-nil (IsEntryIn ram f.slots));
+      bounce = All-cons (BouncesSo f kinds.Area Both chan) (record { span = span; bounced = false; slot = None }) [] refl (All-nil (BouncesSo f kinds.Area Both chan));
       channel = lt;
-      kind = (record { label = fits; first = refl }, refl, All-cons (IsAreaIn f.pool) (record { span = span; bounced = false; slot = None }) [] (record { direct = refl; pages = pages }) (All-nil (IsAreaIn f.pool)));
+      kind = (record { label = fits; first = refl }, refl, All-cons (λ (e : Entry). IsInPool f.pool e.span) (record { span = span; bounced = false; slot = None }) [] pages (All-nil (λ (e : Entry). IsInPool f.pool e.span)));
     }
 
 calloc_new : (ram harts : ℕ) (f : Fixed) (lots : List Lot) (label : Label) (count : ℕ) (chan : ChanNo) (pool : PageMap) (new : List Lot) → IsFixed ram harts f → AreApart lots → ArePagesOf f pool → FitsLabel label → chan.0 < 4
@@ -311,7 +318,7 @@ two_apart lots s t es et apart settled =
 end_in : (ram : ℕ) (f : Fixed) (first : ℕ) (dir : Dir) (chan : ChanNo) (range : Span) → first < 2 → IsRangeIn ram range → chan.0 < 4
     → has_big (ranges_lot f (lot_id (record { 0 = 1000 }) first) kinds.Copy dir chan (range ∷ [])) ≡ false → IsLotIn ram f (ranges_lot f (lot_id (record { 0 = 1000 }) first) kinds.Copy dir chan (range ∷ []))
 end_in ram f first dir chan range lt h k small =
-    lot_in ram f (lot_id (record { 0 = 1000 }) first) kinds.Copy dir chan (range ∷ []) (All-cons (IsRangeIn ram) range [] h (All-nil (IsRangeIn ram))) (omega arith) k small
+    lot_in ram f (lot_id (record { 0 = 1000 }) first) kinds.Copy dir chan (range ∷ []) (All-cons (IsRangeIn ram) range [] h (All-nil (IsRangeIn ram))) (omega arith) k refl small
     (λ xs same. (record { label = refl; first = lt }, same))
 
 copy_new : (ram harts : ℕ) (f : Fixed) (lots : List Lot) (src dst : SgEntry) (chan : ChanNo) (owners : List Owner) (o : Op) (new : List Lot) → IsFixed ram harts f → All IsSettled lots → AreApart lots
@@ -377,7 +384,7 @@ list_new : (ram harts : ℕ) (f : Fixed) (lots : List Lot) (label : Label) (entr
     → FitsLabel label → length entries ≤ 16 → All (FitsEntry (length f.buffers)) entries → chan.0 < 4 → map_sg_begin f lots label entries dir chan owners ≡ Ok new → AreNew ram f (ops.MapSg label entries dir chan) lots new
 list_new ram harts f lots label entries dir chan owners new h apart fits few each lt e =
     let p = passed (some_entries entries) (λ _. ranges_begin f lots label kinds.List dir chan owners entries) new e in
-    ranges_new ram harts f lots label kinds.List dir chan owners entries (ops.MapSg label entries dir chan) new h apart each few lt (list_kind f label (length entries) fits (some_len (length entries) p.value p.first)) refl p.rest
+    ranges_new ram harts f lots label kinds.List dir chan owners entries (ops.MapSg label entries dir chan) new h apart each few lt refl (list_kind f label (length entries) fits (some_len (length entries) p.value p.first)) refl p.rest
 
 pub new_is : (ram harts : ℕ) (f : Fixed) (lots new : List Lot) (owners : List Owner) (pool : PageMap) (o : Op) → IsFixed ram harts f → All IsSettled lots → AreApart lots → ArePagesOf f pool → FitsOp harts (length f.buffers) o
     → begin f lots owners pool o ≡ Ok new → AreNew ram f o lots new
@@ -385,7 +392,7 @@ unfolding begin meaning accesses.load accesses.store cache_ops.cache_operation c
 new_is ram harts f lots new owners pool (ops.Map label buf off len dir chan) h settled apart of fits e =
     let entry : SgEntry = record { buf = buf; off = off; len = len } in
     ranges_new ram harts f lots label kinds.Single dir chan owners (record { buf = buf; off = off; len = len } ∷ []) (ops.Map label buf off len dir chan) new h apart
-    (one_fits (length f.buffers) entry (record { buffer = fits.1; off = fits.2; len = fits.3 })) (omega arith) fits.4 (one_kind f label fits.0) refl e
+    (one_fits (length f.buffers) entry (record { buffer = fits.1; off = fits.2; len = fits.3 })) (omega arith) fits.4 refl (one_kind f label fits.0) refl e
 new_is ram harts f lots new owners pool (ops.MapSg label entries dir chan) h settled apart of fits e = list_new ram harts f lots label entries dir chan owners new h apart fits.0 fits.1 fits.2 fits.3 e
 new_is ram harts f lots new owners pool (ops.Calloc label pages chan) h settled apart of fits e = calloc_new ram harts f lots label pages chan pool new h apart of fits.0 fits.2 e
 new_is ram harts f lots new owners pool (ops.Copy chan src src_off dst dst_off len cfg) h settled apart of fits e =

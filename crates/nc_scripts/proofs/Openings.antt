@@ -42,7 +42,7 @@ use Rattle.nc_rules.specs.Handing as handing
 use Rattle.nc_rules.specs.Handing.{hand_steps}
 use Rattle.nc_rules.specs.Operations.{meaning, has_start, opening, plan_of}
 use Rattle.nc_scripts.specs.Scripts.{IsRangeIn}
-use Rattle.nc_scripts.specs.Drivers.{IsFixed, IsLotIn, FitsKind, IsEndName, IsSettled, AreMade, made_names, LoadsFit, StepIsThere, TurnIsThere, IsOwed, ClaimsFirst, NoEndIsLent, is_claim, turns_of}
+use Rattle.nc_scripts.specs.Drivers.{LendsFirst, IsFixed, IsLotIn, FitsKind, IsEndName, IsSettled, AreMade, made_names, LoadsFit, StepIsThere, TurnIsThere, IsOwed, ClaimsFirst, NoEndIsLent, is_claim, turns_of}
 use Rattle.nc_scripts.proofs.Lists.{Found, found, all_to, all_both}
 use Rattle.nc_scripts.proofs.LotLaws.{IsPlaced, named_so, its_name}
 use Rattle.nc_scripts.proofs.LotMoves.{only_in}
@@ -62,7 +62,7 @@ pub record Opens (ram harts : ℕ) (f : Fixed) (lots : List Lot) (turn : Turn) (
 
 -- a name that the operation made is lent and, where it is an end of a copy, ended
 record IsOwedName (ts : List Turn) (id : LotId) : Type 0 where
-  lends : In (turns.Lend id) ts
+  lends : LendsFirst id ts
   ends : IsEndName id → In (turns.End id) ts
 
 names_all : (P : LotId → Type 0) (lots : List Lot) → All P (map (λ (lot : Lot). lot.id) lots) → All (λ (lot : Lot). P lot.id) lots
@@ -198,16 +198,19 @@ source_owed : (f : Fixed) (chan : ChanNo) (cfg : ℕ) (src dst : Lot) → src.id
 source_owed f chan cfg src dst e =
     let end = in_turns_right (turns.End src.id) (there_steps f chan cfg src dst ++ back_steps f dst) (back_steps f src) (back_turn (turns.Return src.id) (turns.End src.id) f src) in
     record {
-      lends = inr (inl refl);
+      lends = inr ((λ k. absurd (cc)), inl refl);
       ends = λ _. inr (inr (inr (subst (λ (i : LotId). In (turns.End i) (turns_of (claimed_steps f chan cfg src dst))) e end)));
     }
+
+ends_differ : ◌≡◌ {A = Option LotId} (Some source) (Some target) → ⊥
+ends_differ e = let same : source ≡ target = cc in let first : ◌≡◌ {A = ℕ} 0 1 = ap (λ (i : LotId). i.first) same in absurd (omega (arith, first))
 
 target_owed : (f : Fixed) (chan : ChanNo) (cfg : ℕ) (src dst : Lot) → dst.id ≡ target → IsOwedName (copy_turns f chan cfg src dst) target
 target_owed f chan cfg src dst e =
     let back = in_turns_right (turns.End dst.id) (there_steps f chan cfg src dst) (back_steps f dst) (back_turn (turns.Return dst.id) (turns.End dst.id) f dst) in
     let end = in_turns_left (turns.End dst.id) (there_steps f chan cfg src dst ++ back_steps f dst) (back_steps f src) back in
     record {
-      lends = inr (inr (inl refl));
+      lends = inr ((λ k. absurd (cc)), inr (ends_differ, inl refl));
       ends = λ _. inr (inr (inr (subst (λ (i : LotId). In (turns.End i) (turns_of (claimed_steps f chan cfg src dst))) e end)));
     }
 

@@ -14,7 +14,7 @@ use Rattle.nc_rules.specs.declared.lots.Lot.{Lot}
 use Rattle.nc_rules.specs.declared.lots.LotId.{LotId}
 use Rattle.nc_rules.specs.Lots.{Fixed, is_lot, is_wanted, lot_waits, with_slot, slot_given}
 use Rattle.nc_rules.specs.Turns.{those}
-use Rattle.nc_scripts.specs.Drivers.{IsSlotOf, IsEntryIn, IsAreaIn, FitsKind, IsLotIn, AreApart, IsSettled, AreMade}
+use Rattle.nc_scripts.specs.Drivers.{IsSlotOf, IsEntryIn, IsInPool, BouncesSo, FitsKind, IsLotIn, AreApart, IsSettled, AreMade}
 
 -- ---- entries
 
@@ -34,13 +34,10 @@ entry_given ram slots k e lt h w =
     let b = (and_parts e.bounced (is_none e.slot) w).0 in
     record { range = h.range; slot = λ j is. same_slot slots k j e lt b is; small = h.small }
 
-area_given : (pool : Span) (k : ℕ) (e : Entry) → IsAreaIn pool e → waits e ≡ true → IsAreaIn pool (record e { slot = Some k })
-area_given pool k e h w = absurd (false≢true (sym h.direct ∙ (and_parts e.bounced (is_none e.slot) w).0))
-
 kind_given : (pool : Span) (k : ℕ) (kind : Kind) (id : LotId) (es : List Entry) → FitsKind pool kind id es → FitsKind pool kind id (give_slot k es)
 kind_given pool k kinds.Single id es h = (h.0, length-give_slot k es ∙ h.1)
 kind_given pool k kinds.List id es h = (h.0, omega (arith, length-give_slot k es, h.1))
-kind_given pool k kinds.Area id es h = (h.0, length-give_slot k es ∙ h.1, all_given (IsAreaIn pool) k es h.2 (area_given pool k))
+kind_given pool k kinds.Area id es h = (h.0, length-give_slot k es ∙ h.1, all_given (λ (e : Entry). IsInPool pool e.span) k es h.2 (λ e is w. is))
 kind_given pool k kinds.Copy id es h = (h.0, length-give_slot k es ∙ h.1)
 
 -- ---- lots
@@ -49,6 +46,7 @@ lot_given : (ram : ℕ) (f : Fixed) (k : ℕ) (lot : Lot) → k < f.slots → Is
 lot_given ram f k lot lt h = record {
   few = omega (arith, length-give_slot k lot.list.entries, h.few);
   entries = all_given (IsEntryIn ram f.slots) k lot.list.entries h.entries (λ e is w. entry_given ram f.slots k e lt is w);
+  bounce = all_given (BouncesSo f lot.kind lot.list.dir lot.chan) k lot.list.entries h.bounce (λ e is w. is);
   channel = h.channel;
   kind = kind_given f.pool k lot.kind lot.id lot.list.entries h.kind;
 }

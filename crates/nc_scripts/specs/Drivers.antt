@@ -1,7 +1,9 @@
 -- What holds of every driver of an accepted scenario, whatever its script: what it knows, the lots that it has, where it
 -- stands and what is left of its plan; and what it does next and changes is there. This project's own.
-use Rattle.std.specs.Prelude.{ℕ, ◌≡◌, ◌+◌, ◌-◌, ◌*◌, ◌%◌, ◌<◌, ◌≤◌, Bool, true, false, List, [], ◌∷◌, ◌++◌, length, map, filter, Some, All, EachIndex, slice_index}
+use Rattle.std.specs.Prelude.{Option, None, ℕ, ◌≡◌, ◌+◌, ◌-◌, ◌*◌, ◌%◌, ◌<◌, ◌≤◌, ◌⊎◌, ◌&&◌, not, Bool, true, false, List, [], ◌∷◌, ◌++◌, length, map, filter, Some, All, EachIndex, slice_index}
 use Rattle.nc_num.specs.Sizes.{IsBlockSize}
+use Rattle.nc_num.specs.declared.names.ChanNo.{ChanNo}
+use Rattle.nc_num.specs.declared.names.Dir.{Dir}
 use Rattle.nc_num.specs.declared.names.HartNo.{HartNo}
 use Rattle.nc_num.specs.declared.names.Label.{Label}
 use Rattle.nc_num.specs.declared.places.Span.{Span}
@@ -9,7 +11,7 @@ use Rattle.nc_pte.specs.Words.{IsPteWord}
 use Rattle.nc_values.specs.Values.{FitsLabel}
 use Rattle.nc_model.specs.declared.owners.Grant.{Grant}
 use Rattle.nc_model.specs.declared.owners.Owner.{Owner}
-use Rattle.nc_plan.specs.Parts.{is_too_big}
+use Rattle.nc_plan.specs.Parts.{bounces, is_too_big}
 use Rattle.nc_plan.specs.Plans.{In}
 use Rattle.nc_plan.specs.declared.ops.HartOp.{HartOp}
 use Rattle.nc_plan.specs.declared.ops.HartOp.TheVariants as hart
@@ -39,8 +41,8 @@ use Rattle.nc_rules.specs.declared.steps.Step.{Step}
 use Rattle.nc_rules.specs.declared.steps.Turn.{Turn}
 use Rattle.nc_rules.specs.declared.steps.Turn.TheVariants as turns
 use Rattle.nc_rules.specs.Machine.{MachineState, hart_of}
-use Rattle.nc_rules.specs.Lots.{Fixed, lot_id, is_lot, is_wanted, lot_waits, some_lot_waits}
-use Rattle.nc_rules.specs.Turns.{Moved, those}
+use Rattle.nc_rules.specs.Lots.{Fixed, reach_of, lot_id, is_lot, is_wanted, lot_waits, some_lot_waits}
+use Rattle.nc_rules.specs.Turns.{Moved, is_area, those}
 use Rattle.nc_rules.specs.Copies.{source, target}
 use Rattle.nc_rules.specs.Driver.{DriverState, Went, in_hand, next_of, started, told, done, lent}
 use Rattle.nc_rules.specs.Sound.{OpIsThere}
@@ -100,11 +102,6 @@ pub record IsInPool (pool span : Span) : Type 0 where
   pub whole : span.len % 4096 ≡ 0
   pub ends : span.at + span.len ≤ pool.at + pool.len
 
--- an area never bounces
-pub record IsAreaIn (pool : Span) (e : Entry) : Type 0 where
-  pub direct : e.bounced ≡ false
-  pub pages : IsInPool pool e.span
-
 -- a name that a script can use
 pub record IsNamed (id : LotId) : Type 0 where
   pub label : FitsLabel id.label
@@ -122,12 +119,17 @@ pub record IsEnd (id : LotId) : Type 0 where
 abbrev pub FitsKind : Span → Kind → LotId → List Entry → Type 0
 FitsKind pool kinds.Single id entries = IsNamed id × (length entries ≡ 1)
 FitsKind pool kinds.List id entries = IsNamed id × (1 ≤ length entries)
-FitsKind pool kinds.Area id entries = IsNamed id × (length entries ≡ 1) × All (IsAreaIn pool) entries
+FitsKind pool kinds.Area id entries = IsNamed id × (length entries ≡ 1) × All (λ e. IsInPool pool e.span) entries
 FitsKind pool kinds.Copy id entries = IsEnd id × (length entries ≡ 1)
+
+-- an entry of a lot bounces where the rule says so, and one of an area never
+abbrev pub BouncesSo : Fixed → Kind → Dir → ChanNo → Entry → Type 0
+BouncesSo f kind dir chan e = e.bounced ≡ (not (is_area kind) && bounces e.span dir f.size (reach_of f chan))
 
 pub record IsLotIn (ram : ℕ) (f : Fixed) (lot : Lot) : Type 0 where
   pub few : length lot.list.entries ≤ 16
   pub entries : All (IsEntryIn ram f.slots) lot.list.entries
+  pub bounce : All (BouncesSo f lot.kind lot.list.dir lot.chan) lot.list.entries
   pub channel : lot.chan.0 < 4
   pub kind : FitsKind f.pool lot.kind lot.id lot.list.entries
 
@@ -233,9 +235,26 @@ abbrev pub turns_of : List Step → List Turn
 turns_of [] = []
 turns_of (s ∷ rest) = s.first ∷ s.last ∷ turns_of rest
 
--- a lot that is not lent yet is still to be lent, and an end of a copy is still to be ended
+-- the name of the lots that a turn is of
+abbrev pub lots_of : Turn → Option LotId
+lots_of turns.Stay = None
+lots_of (turns.Pass range to) = None
+lots_of (turns.Own range) = None
+lots_of (turns.Lend id) = Some id
+lots_of (turns.Give id) = Some id
+lots_of (turns.Return id) = Some id
+lots_of (turns.Sync id) = Some id
+lots_of (turns.Settle id) = Some id
+lots_of (turns.End id) = Some id
+
+-- the first turn of this name lends
+abbrev pub LendsFirst : LotId → List Turn → Type 0
+LendsFirst id [] = ⊥
+LendsFirst id (t ∷ ts) = (t ≡ turns.Lend id) ⊎ ((lots_of t ≡ Some id → ⊥) × LendsFirst id ts)
+
+-- a lot that is not lent yet is still to be lent, before any other turn of it, and an end of a copy is still to be ended
 pub record IsOwed (ts : List Turn) (lot : Lot) : Type 0 where
-  pub lends : is_wanted lot.side ≡ true → In (turns.Lend lot.id) ts
+  pub lends : is_wanted lot.side ≡ true → LendsFirst lot.id ts
   pub ends : IsEndName lot.id → In (turns.End lot.id) ts
 
 abbrev pub is_claim : Act → Bool
