@@ -13,6 +13,7 @@ use Rattle.nc_num.specs.declared.places.Span.{Span}
 use Rattle.nc_pte.specs.Words.{IsPteWord}
 use Rattle.nc_model.specs.declared.owners.Owner.{Owner}
 use Rattle.nc_plan.specs.Plans.{In}
+use Rattle.nc_plan.specs.declared.ops.HartOp.{HartOp}
 use Rattle.nc_coherent.specs.Pages.{PageMap}
 use Rattle.nc_ops.specs.Fits.{FitsOp}
 use Rattle.nc_ops.specs.declared.ops.Op.{Op}
@@ -41,6 +42,8 @@ use Rattle.nc_rules.specs.Lots.{Fixed, lot_id, is_lot, is_named, is_wanted, lot_
 use Rattle.nc_rules.specs.Turns.{with_side, set_side, lots_after, lots_after_both, without_wanted}
 use Rattle.nc_rules.specs.Operations.{step_at, has_start, begin, opening, plan_of}
 use Rattle.nc_rules.specs.Driver.{DriverState, in_hand, next_of, next_of_op, next_in, next_step, next_rest, next_act, over, stands, stays, kept, give_up, went_to, opened, searches, placed, with_lots, begun, refused_step, started, started_of, told, told_of, told_in, told_word, busy, stepped_to, stepped, worked, done, done_of, done_unless, done_in, lent}
+use Rattle.nc_rules.specs.Machine.{MachineState, hart_of}
+use Rattle.nc_rules.specs.Sound.{OpIsThere}
 use Rattle.nc_rules.specs.Start.{fixed_of, first_driver, hart_spec, no_hart_spec}
 use Rattle.nc_scripts.specs.Scripts.{IsRangeIn, is_act}
 use Rattle.nc_scripts.specs.Scripts as plain
@@ -102,22 +105,22 @@ first_drivers sc me a lt = record {
 
 -- ---- the operation in hand
 
-record IsInHand (harts : ℕ) (d : DriverState) (o : Op) : Type 0 where
-  fits : FitsOp harts (length d.fixed.buffers) o
-  here : d.op < length d.fixed.script
+pub record IsInHand (harts : ℕ) (d : DriverState) (o : Op) : Type 0 where
+  pub fits : FitsOp harts (length d.fixed.buffers) o
+  pub here : d.op < length d.fixed.script
 
-in_hand_is : (ram harts : ℕ) (d : DriverState) (o : Op) → IsFixed ram harts d.fixed → in_hand d ≡ Some o → IsInHand harts d o
+pub in_hand_is : (ram harts : ℕ) (d : DriverState) (o : Op) → IsFixed ram harts d.fixed → in_hand d ≡ Some o → IsInHand harts d o
 in_hand_is ram harts d o h e =
     let lt = slice_get_within d.fixed.script d.op o e in
     let is = get_or_from_slice_get d.fixed.script d.op o o e in
     record { fits = subst (λ (p : Op). FitsOp harts (length d.fixed.buffers) p) is (h.script d.op o lt); here = lt }
 
-areas_lie : (ram : ℕ) (f : Fixed) (lots : List Lot) → All (IsLotIn ram f) lots → AreasLie ram lots
+pub areas_lie : (ram : ℕ) (f : Fixed) (lots : List Lot) → All (IsLotIn ram f) lots → AreasLie ram lots
 areas_lie ram f lots all label lot e =
     let k = found (IsLotIn ram f) (is_named label kinds.Area) lots lot all (some_is refusals.NoLabel (lot_named lots label kinds.Area) lot e) in
     area_range ram f label lot k.is k.passes
 
-step_of : (ram harts : ℕ) (d : DriverState) (o : Op) (n : ℕ) (s : Step) → IsDriver ram harts d → IsInHand harts d o → step_at d.fixed d.lots o n ≡ Ok (Some s) → IsStep ram harts d.fixed n s
+pub step_of : (ram harts : ℕ) (d : DriverState) (o : Op) (n : ℕ) (s : Step) → IsDriver ram harts d → IsInHand harts d o → step_at d.fixed d.lots o n ≡ Ok (Some s) → IsStep ram harts d.fixed n s
 step_of ram harts d o n s h k e = step_is ram harts d.fixed d.lots o n s (laid ram harts d.fixed h.fixed) (areas_lie ram d.fixed d.lots h.lots) k.fits e
 
 -- the turn of a step by number is of a range
@@ -140,7 +143,7 @@ wide_act ram harts f (acts.Take buf) h = h
 
 -- ---- what a driver goes on to
 
-over_is : (ram harts : ℕ) (d : DriverState) (lots : List Lot) → IsFixed ram harts d.fixed → d.op < length d.fixed.script → All (IsLotIn ram d.fixed) lots → AreApart lots → All IsSettled lots → IsDriver ram harts (over d lots)
+pub over_is : (ram harts : ℕ) (d : DriverState) (lots : List Lot) → IsFixed ram harts d.fixed → d.op < length d.fixed.script → All (IsLotIn ram d.fixed) lots → AreApart lots → All IsSettled lots → IsDriver ram harts (over d lots)
 over_is ram harts d lots h lt all apart settled = record {
   fixed = h;
   op = omega arith;
@@ -150,7 +153,7 @@ over_is ram harts d lots h lt all apart settled = record {
   phase = record { few = omega arith; settled = settled };
 }
 
-counted_is : (ram harts : ℕ) (d : DriverState) (n : ℕ) (lots : List Lot) (saw : Seen) → IsFixed ram harts d.fixed → d.op ≤ length d.fixed.script → n ≤ 4096 → All (IsLotIn ram d.fixed) lots → AreApart lots → All IsSettled lots → IsDriver ram harts (stands d (Steps n) [] lots saw)
+pub counted_is : (ram harts : ℕ) (d : DriverState) (n : ℕ) (lots : List Lot) (saw : Seen) → IsFixed ram harts d.fixed → d.op ≤ length d.fixed.script → n ≤ 4096 → All (IsLotIn ram d.fixed) lots → AreApart lots → All IsSettled lots → IsDriver ram harts (stands d (Steps n) [] lots saw)
 counted_is ram harts d n lots saw h le few all apart settled = record {
   fixed = h;
   op = le;
@@ -177,20 +180,20 @@ none_first id k = k
 none_owed : (t : Turn) → In t [] → ⊥
 none_owed t k = k
 
-paid : (ram : ℕ) (f : Fixed) (lot : Lot) → IsReady ram f lot → IsOwed [] lot → IsSettled lot
+pub paid : (ram : ℕ) (f : Fixed) (lot : Lot) → IsReady ram f lot → IsOwed [] lot → IsSettled lot
 paid ram f lot h k = settled_by ram f lot (is_wanted lot.side) refl h (λ w. none_first lot.id (k.lends w)) (λ e. none_owed (turns.End lot.id) (k.ends e))
 
 -- what a plan that goes on needs
-record IsUnderWay (ram harts : ℕ) (f : Fixed) (lots : List Lot) (rest : List Step) : Type 0 where
-  each : All (IsLotIn ram f) lots
-  apart : AreApart lots
-  placed : All IsPlaced lots
-  owed : All (IsOwed (turns_of rest)) lots
-  claims : ClaimsFirst lots rest
-  few : length (wanted_lots lots) ≤ 2
-  there : All (StepIsThere ram harts f) rest
+pub record IsUnderWay (ram harts : ℕ) (f : Fixed) (lots : List Lot) (rest : List Step) : Type 0 where
+  pub each : All (IsLotIn ram f) lots
+  pub apart : AreApart lots
+  pub placed : All IsPlaced lots
+  pub owed : All (IsOwed (turns_of rest)) lots
+  pub claims : ClaimsFirst lots rest
+  pub few : length (wanted_lots lots) ≤ 2
+  pub there : All (StepIsThere ram harts f) rest
 
-went_is : (ram harts : ℕ) (d : DriverState) (lots : List Lot) (saw : Seen) (rest : List Step) → IsFixed ram harts d.fixed → d.op < length d.fixed.script → IsUnderWay ram harts d.fixed lots rest → IsDriver ram harts (went_to d lots saw rest)
+pub went_is : (ram harts : ℕ) (d : DriverState) (lots : List Lot) (saw : Seen) (rest : List Step) → IsFixed ram harts d.fixed → d.op < length d.fixed.script → IsUnderWay ram harts d.fixed lots rest → IsDriver ram harts (went_to d lots saw rest)
 went_is ram harts d lots saw [] h lt k =
     over_is ram harts d lots h lt k.each k.apart (all_both (IsReady ram d.fixed) (IsOwed []) IsSettled lots (ready ram d.fixed lots k.each k.placed) k.owed (paid ram d.fixed))
 went_is ram harts d lots saw (s ∷ rest) h lt k = record {
@@ -219,14 +222,14 @@ filter_twice p q (x ∷ xs) = twice_by (q x) (p x) p x (filter q xs) (filter p x
     twice_by false false p x ys zs e le = le
 
 -- the lots that stay when a driver gives up are settled
-abbrev LeavesSettled : List Lot → Type 0
+abbrev pub LeavesSettled : List Lot → Type 0
 LeavesSettled lots = All (λ (lot : Lot). is_wanted lot.side ≡ false → IsSettled lot) lots
 
 not_false : (t : Bool) → not t ≡ true → t ≡ false
 not_false true e = absurd (false≢true e)
 not_false false e = refl
 
-gives_up : (ram harts : ℕ) (d : DriverState) (o : Op) (r : Refusal) (g : ℕ → ℕ) → IsDriver ram harts d → d.op < length d.fixed.script → LeavesSettled d.lots → length (wanted_lots d.lots) ≤ 2 → Keeps ram harts d g (give_up d o r)
+pub gives_up : (ram harts : ℕ) (d : DriverState) (o : Op) (r : Refusal) (g : ℕ → ℕ) → IsDriver ram harts d → d.op < length d.fixed.script → LeavesSettled d.lots → length (wanted_lots d.lots) ≤ 2 → Keeps ram harts d g (give_up d o r)
 gives_up ram harts d o r g h lt leaves few =
     let all = all_filtered (IsLotIn ram d.fixed) (IsLotIn ram d.fixed) (λ lot. not (is_wanted lot.side)) d.lots h.lots (λ lot is e. is) in
     let settled = all_filtered (λ (lot : Lot). is_wanted lot.side ≡ false → IsSettled lot) IsSettled (λ lot. not (is_wanted lot.side)) d.lots leaves (λ lot f e. f (not_false (is_wanted lot.side) e)) in
@@ -261,20 +264,20 @@ fewer p (x ∷ xs) = fewer_by (p x) x (filter p xs) xs (fewer p xs)
     fewer_by true x ys xs h = omega arith
     fewer_by false x ys xs h = omega arith
 
-made_few : (o : Op) (lots : List Lot) → AreMade o lots → length (wanted_lots lots) ≤ 2
+pub made_few : (o : Op) (lots : List Lot) → AreMade o lots → length (wanted_lots lots) ≤ 2
 made_few o lots h =
     let names : length h.new ≡ length (made_names o) = sym (length-map h.new (λ (lot : Lot). lot.id)) ∙ ap length h.names in
     let all : length (wanted_lots lots) ≡ length (wanted_lots (h.old ++ h.new)) = ap (λ ls. length (wanted_lots ls)) h.all in
     omega (arith, all, length-filter-join (λ (lot : Lot). is_wanted lot.side) h.old h.new, none_wanted h.old h.settled, fewer (λ (lot : Lot). is_wanted lot.side) h.new, names, few_names o)
 
-made_leaves : (o : Op) (lots : List Lot) → AreMade o lots → LeavesSettled lots
+pub made_leaves : (o : Op) (lots : List Lot) → AreMade o lots → LeavesSettled lots
 made_leaves o lots h =
     let new = all_to (λ (lot : Lot). is_wanted lot.side ≡ true) (λ (lot : Lot). is_wanted lot.side ≡ false → IsSettled lot) h.new h.wanted (λ lot w off. absurd (false≢true (sym off ∙ w))) in
     subst (λ (ls : List Lot). LeavesSettled ls) (sym h.all) (All-append (λ (lot : Lot). is_wanted lot.side ≡ false → IsSettled lot) h.old h.new (settled_leaves h.old h.settled) new)
 
 -- ---- start
 
-opened_is : (ram harts : ℕ) (d : DriverState) (o : Op) (lots : List Lot) → IsFixed ram harts d.fixed → IsInHand harts d o → has_start o ≡ true → All (IsLotIn ram d.fixed) lots → AreApart lots → All IsPlaced lots → AreMade o lots
+pub opened_is : (ram harts : ℕ) (d : DriverState) (o : Op) (lots : List Lot) → IsFixed ram harts d.fixed → IsInHand harts d o → has_start o ≡ true → All (IsLotIn ram d.fixed) lots → AreApart lots → All IsPlaced lots → AreMade o lots
     → Keeps ram harts d (λ n. n) (opened (with_lots d lots) o)
 opened_is ram harts d o lots h k start all apart placed made =
     let k2 = opens ram harts d.fixed lots o h k.fits start (ready ram d.fixed lots all placed) made in
@@ -296,7 +299,7 @@ opened_is ram harts d o lots h k start all apart placed made =
 same_op : (d : DriverState) (o p : Op) → in_hand d ≡ Some o → in_hand d ≡ Some p → o ≡ p
 same_op d o p e f = cc
 
-searches_is : (ram harts : ℕ) (d : DriverState) (o : Op) (lots : List Lot) (k : ℕ) → IsFixed ram harts d.fixed → in_hand d ≡ Some o → IsInHand harts d o → k < d.fixed.slots → All (IsLotIn ram d.fixed) lots → AreApart lots → some_lot_waits lots ≡ true → AreMade o lots
+pub searches_is : (ram harts : ℕ) (d : DriverState) (o : Op) (lots : List Lot) (k : ℕ) → IsFixed ram harts d.fixed → in_hand d ≡ Some o → IsInHand harts d o → k < d.fixed.slots → All (IsLotIn ram d.fixed) lots → AreApart lots → some_lot_waits lots ≡ true → AreMade o lots
     → Keeps ram harts d (λ n. n) (stays (searches (with_lots d lots) k))
 searches_is ram harts d o lots k h e hand lt all apart waits made = record {
   driver = record {
@@ -317,7 +320,7 @@ placed_by : (ram harts : ℕ) (d : DriverState) (o : Op) (lots : List Lot) (t : 
 placed_by ram harts d o lots true w h e k start all apart made slots = searches_is ram harts d o lots 0 h e k (slots refl) all apart w made
 placed_by ram harts d o lots false w h e k start all apart made slots = opened_is ram harts d o lots h k start all apart (none_any lot_waits lots w) made
 
-placed_is : (ram harts : ℕ) (d : DriverState) (o : Op) (lots : List Lot) → IsFixed ram harts d.fixed → in_hand d ≡ Some o → IsInHand harts d o → has_start o ≡ true → All (IsLotIn ram d.fixed) lots → AreApart lots → AreMade o lots → (some_lot_waits lots ≡ true → 0 < d.fixed.slots)
+pub placed_is : (ram harts : ℕ) (d : DriverState) (o : Op) (lots : List Lot) → IsFixed ram harts d.fixed → in_hand d ≡ Some o → IsInHand harts d o → has_start o ≡ true → All (IsLotIn ram d.fixed) lots → AreApart lots → AreMade o lots → (some_lot_waits lots ≡ true → 0 < d.fixed.slots)
     → Keeps ram harts d (λ n. n) (placed (with_lots d lots) o)
 placed_is ram harts d o lots h e k start all apart made slots = placed_by ram harts d o lots (some_lot_waits lots) refl h e k start all apart made slots
 
@@ -325,12 +328,12 @@ right_waits : (a b : Bool) → a ≡ false → (a || b) ≡ true → b ≡ true
 right_waits true b e w = absurd (false≢true (sym e))
 right_waits false b e w = w
 
-new_waits : (lots new : List Lot) → All IsSettled lots → some_lot_waits (lots ++ new) ≡ true → some_lot_waits new ≡ true
+pub new_waits : (lots new : List Lot) → All IsSettled lots → some_lot_waits (lots ++ new) ≡ true → some_lot_waits new ≡ true
 new_waits lots new all w =
     let none = list_any_none lot_waits lots (all_to IsSettled (λ (lot : Lot). lot_waits lot ≡ false) lots all (λ lot h. h.placed)) in
     right_waits (some_lot_waits lots) (some_lot_waits new) none (sym (list_any-append lot_waits lots new) ∙ w)
 
-begun_is : (ram harts : ℕ) (d : DriverState) (o : Op) (r : Result (List Lot) Refusal) → IsDriver ram harts d → All IsSettled d.lots → in_hand d ≡ Some o → IsInHand harts d o → has_start o ≡ true → ((new : List Lot) → r ≡ Ok new → AreNew ram d.fixed o d.lots new)
+pub begun_is : (ram harts : ℕ) (d : DriverState) (o : Op) (r : Result (List Lot) Refusal) → IsDriver ram harts d → All IsSettled d.lots → in_hand d ≡ Some o → IsInHand harts d o → has_start o ≡ true → ((new : List Lot) → r ≡ Ok new → AreNew ram d.fixed o d.lots new)
     → Keeps ram harts d (λ n. n) (begun d o r)
 begun_is ram harts d o (Err r) h settled e k start news = gives_up ram harts d o r (λ n. n) h k.here (settled_leaves d.lots settled) (omega (arith, none_wanted d.lots settled))
 begun_is ram harts d o (Ok new) h settled e k start news =
@@ -338,7 +341,7 @@ begun_is ram harts d o (Ok new) h settled e k start news =
     placed_is ram harts d o (d.lots ++ new) h.fixed e k start (All-append (IsLotIn ram d.fixed) d.lots new h.lots n.each) n.apart
     (record { old = d.lots; new = new; all = refl; settled = settled; names = n.names; wanted = n.wanted }) (λ w. n.slots (new_waits d.lots new settled w))
 
-refused_is : (ram harts : ℕ) (d : DriverState) (o : Op) (r : Result (Option Step) Refusal) → IsDriver ram harts d → All IsSettled d.lots → IsInHand harts d o → Keeps ram harts d (λ n. n) (refused_step d o r)
+pub refused_is : (ram harts : ℕ) (d : DriverState) (o : Op) (r : Result (Option Step) Refusal) → IsDriver ram harts d → All IsSettled d.lots → IsInHand harts d o → Keeps ram harts d (λ n. n) (refused_step d o r)
 refused_is ram harts d o (Err r) h settled k = gives_up ram harts d o r (λ n. n) h k.here (settled_leaves d.lots settled) (omega (arith, none_wanted d.lots settled))
 refused_is ram harts d o (Ok s) h settled k = stays_is ram harts d h
 
@@ -400,7 +403,7 @@ missed_by : (ram harts : ℕ) (d : DriverState) (o : Op) (k : ℕ) (t : Bool) �
 missed_by ram harts d o k true h e hand s is = searches_is ram harts d o d.lots (k + 1) h.fixed e hand (grind (arith, nat_tests)) h.lots h.apart s.waits (s.made o e)
 missed_by ram harts d o k false h e hand s is = gives_up ram harts d o refusals.NoSlot (λ n. n) h hand.here (made_leaves o d.lots (s.made o e)) (made_few o d.lots (s.made o e))
 
-word_is : (ram harts : ℕ) (d : DriverState) (o : Op) (k : ℕ) (got : Bool) → IsDriver ram harts d → in_hand d ≡ Some o → IsInHand harts d o → IsSearching d k → Keeps ram harts d (λ n. n) (told_word d o k got)
+pub word_is : (ram harts : ℕ) (d : DriverState) (o : Op) (k : ℕ) (got : Bool) → IsDriver ram harts d → in_hand d ≡ Some o → IsInHand harts d o → IsSearching d k → Keeps ram harts d (λ n. n) (told_word d o k got)
 word_is ram harts d o k true h e hand s =
     let made = s.made o e in
     placed_is ram harts d o (slot_given k d.lots) h.fixed e hand (makes_start o d.lots made s.waits) (lots_given ram d.fixed k d.lots s.slot h.lots) (apart_given k d.lots h.apart) (made_given k o d.lots made) (λ w. omega (arith, s.slot))
@@ -435,7 +438,7 @@ stepped_loads n k d lots saw (Ok None) = tt
 settled_placed : (lots : List Lot) → All IsSettled lots → All IsPlaced lots
 settled_placed lots all = all_to IsSettled IsPlaced lots all (λ lot h. h.placed)
 
-stepped_is : (ram harts : ℕ) (d : DriverState) (o : Op) (n : ℕ) (saw : Seen) (s : Step) (r : Result (Option Step) Refusal) (g : ℕ → ℕ) → IsDriver ram harts d → All IsSettled d.lots → d.op < length d.fixed.script → n ≤ 4096 → plain.StepIsThere ram harts d.fixed s
+pub stepped_is : (ram harts : ℕ) (d : DriverState) (o : Op) (n : ℕ) (saw : Seen) (s : Step) (r : Result (Option Step) Refusal) (g : ℕ → ℕ) → IsDriver ram harts d → All IsSettled d.lots → d.op < length d.fixed.script → n ≤ 4096 → plain.StepIsThere ram harts d.fixed s
     → Keeps ram harts d g (stepped d o n saw (Ok (Some s)) r)
 stepped_is ram harts d o n saw s r g h settled lt le there =
     let same : d.lots ≡ lots_after_both s.first s.last d.lots = sym (both_stay ram d.lots s.first s.last there.first there.last) in
@@ -461,7 +464,7 @@ loaded_act n (acts.Take buf) = refl
 rest_loads : (n : ℕ) (d : DriverState) (lots : List Lot) (saw : Seen) (s : Step) (rest : List Step) → LoadsFit n (s ∷ rest) → LoadsFit (loaded_next (next_act s.act) n) (went_to d lots saw rest).rest
 rest_loads n d lots saw s rest h = subst (λ (k : ℕ). LoadsFit k (went_to d lots saw rest).rest) (loaded_act n s.act) (went_loads (loaded_by s.act n) d lots saw rest h.1)
 
-worked_is : (ram harts : ℕ) (d : DriverState) (o : Op) (saw : Seen) (rest : List Step) → d.rest ≡ rest → IsDriver ram harts d → d.op < length d.fixed.script → IsAtWork d → Keeps ram harts d (loaded_next (next_rest rest)) (worked d o saw rest)
+pub worked_is : (ram harts : ℕ) (d : DriverState) (o : Op) (saw : Seen) (rest : List Step) → d.rest ≡ rest → IsDriver ram harts d → d.op < length d.fixed.script → IsAtWork d → Keeps ram harts d (loaded_next (next_rest rest)) (worked d o saw rest)
 worked_is ram harts d o saw [] e h lt k = stays_is ram harts d h
 worked_is ram harts d o saw (s ∷ rest) e h lt k =
     let there = rw e at h.rest in
@@ -483,7 +486,7 @@ worked_is ram harts d o saw (s ∷ rest) e h lt k =
       loads = λ n fits. rest_loads n d (lots_after_both s.first s.last d.lots) saw s rest (subst (λ (r : List Step). LoadsFit n r) e fits);
     }
 
-done_in_is : (ram harts : ℕ) (d : DriverState) (o : Op) (saw : Seen) (p : Phase) → IsDriver ram harts d → IsInHand harts d o → IsPhase d p → is_act (next_in d o p) ≡ true → Keeps ram harts d (loaded_next (next_in d o p)) (done_in d o saw p)
+pub done_in_is : (ram harts : ℕ) (d : DriverState) (o : Op) (saw : Seen) (p : Phase) → IsDriver ram harts d → IsInHand harts d o → IsPhase d p → is_act (next_in d o p) ≡ true → Keeps ram harts d (loaded_next (next_in d o p)) (done_in d o saw p)
 done_in_is ram harts d o saw (Steps n) h k phase e =
     let s = next_step_is d o n e in
     let is = step_of ram harts d o n s.0 h k s.1 in
@@ -594,7 +597,7 @@ claims_kept id lots (s ∷ rest) at h = (λ e. ends_kept id lots at (h.0 e), h.1
 abbrev lots_lent : DriverState → LotId → DriverState
 lots_lent d id = with_lots d (lots_after (turns.Give id) d.lots)
 
-phase_lent : (d : DriverState) (id : LotId) (p : Phase) → IsLentAt d.lots id → IsPhase d p → IsPhase (lots_lent d id) p
+pub phase_lent : (d : DriverState) (id : LotId) (p : Phase) → IsLentAt d.lots id → IsPhase d p → IsPhase (lots_lent d id) p
 phase_lent d id (Steps n) at h = record {
   few = h.few;
   settled = thins_all (Becomes (turns.Give id)) IsSettled IsSettled (thinned (turns.Give id) d.lots) h.settled (settled_kept (turns.Give id));
@@ -688,6 +691,13 @@ next_there ram harts d h = (next_by ram harts d (in_hand d) h refl).there
 pub next_fits : (ram harts n : ℕ) (d : DriverState) → IsDriver ram harts d → LoadsFit n d.rest → NextFitsLast n (next_of d)
 unfolding next_of
 next_fits ram harts n d h fits = (next_by ram harts d (in_hand d) h refl).fits n fits
+
+-- an operation that comes next is there, for a hart whose last load the rest fits
+pub op_there : (ram harts : ℕ) (d : DriverState) (op : HartOp) (m : MachineState) (i : ℕ) → IsDriver ram harts d → next_of d ≡ nexts.Op op → plain.IsDriven ram harts d.fixed m → LoadsFit (length (hart_of m i).last) d.rest → OpIsThere m i op
+op_there ram harts d op m i h e driven fits =
+    let there = rw e at (next_there ram harts d h) in
+    let last = rw e at (next_fits ram harts (length (hart_of m i).last) d h fits) in
+    there m i driven last
 
 pub drivers_stay : EachStaysDriver
 drivers_stay ram harts d h = record {
