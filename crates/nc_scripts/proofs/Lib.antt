@@ -8,4 +8,5 @@ pub mod PlanSteps
 pub mod NewLots
 pub mod Openings
 pub mod SlotLaws
+pub mod LastLoads
 pub mod EveryDriver

@@ -41,6 +41,7 @@ use Rattle.nc_rules.specs.declared.steps.Step.{Step}
 use Rattle.nc_rules.specs.declared.steps.Turn.{Turn}
 use Rattle.nc_rules.specs.declared.steps.Turn.TheVariants as turns
 use Rattle.nc_rules.specs.Machine.{MachineState, hart_of}
+use Rattle.nc_rules.specs.Calls.{issue_next}
 use Rattle.nc_rules.specs.Lots.{Fixed, reach_of, lot_id, is_lot, is_wanted, lot_waits, some_lot_waits}
 use Rattle.nc_rules.specs.Turns.{Moved, is_area, those}
 use Rattle.nc_rules.specs.Copies.{source, target}
@@ -397,6 +398,11 @@ pub record StaysDriver (ram harts : ℕ) (d : DriverState) : Type 0 where
   pub hears : (got : Bool) → Keeps ram harts d (λ n. n) (told d got)
   pub goes_on : (saw : Seen) → is_act (next_of d) ≡ true → IsSeenAt (next_of d) saw → Keeps ram harts d (loaded_next (next_of d)) (done d saw)
   pub lends : (label : Label) (first : ℕ) → IsLentAt d.lots (lot_id label first) → Keeps ram harts d (λ n. n) (lent d label first)
+
+-- how many bytes the last load of a hart gave behind its operation, in every machine
+abbrev pub LastLoadsFollow : Type 0
+LastLoadsFollow =
+    (m : MachineState) (h : ℕ) (op : HartOp) → h < length m.harts → length (hart_of (issue_next m h op) h).last ≡ last_after op (length (hart_of m h).last)
 
 abbrev pub EachStaysDriver : Type 0
 EachStaysDriver = (ram harts : ℕ) (d : DriverState) → IsDriver ram harts d → StaysDriver ram harts d

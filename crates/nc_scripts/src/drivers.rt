@@ -1,6 +1,6 @@
 //! What holds of every driver, whatever its script.
 
-ghost use Rattle.nc_scripts.specs.Drivers.{EachStaysDriver, FirstDrivers};
+ghost use Rattle.nc_scripts.specs.Drivers.{EachStaysDriver, FirstDrivers, LastLoadsFollow};
 
 /// The driver of each hart of an accepted scenario knows what fits that scenario.
 pub fn every_driver_begins()
@@ -13,4 +13,11 @@ pub fn every_driver_begins()
 /// of the last load's bytes comes behind a load of as many.
 pub fn every_driver_stays()
     ensures { EachStaysDriver }
+{}
+
+/// Behind each operation of a hart its last load gives as many bytes as the drivers' law takes it to: those of the load,
+/// or else as many as before. So whoever issues what drivers ask for keeps what `every_driver_stays` needs of loads.
+#[tactic(auto, using(crate::proofs::LastLoads::last_loads_follow))]
+pub fn last_loads_follow()
+    ensures { LastLoadsFollow }
 {}
