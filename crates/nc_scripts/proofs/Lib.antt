@@ -9,4 +9,5 @@ pub mod NewLots
 pub mod Openings
 pub mod SlotLaws
 pub mod LastLoads
+pub mod FreeLots
 pub mod EveryDriver

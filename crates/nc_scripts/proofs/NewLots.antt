@@ -1,7 +1,7 @@
 -- The lots that a start step makes.
 use Rattle.std.proofs.Common.{◌≡◌, ℕ, suc, ◌+◌, ◌*◌, ◌<◌, ◌≤◌, Bool, true, false, List, [], ◌∷◌, ◌++◌, length, map, refl, sym, ap, ◌∙◌, subst, arith, cond, append_assoc, Option, Some, None, Result, Ok}
-use Rattle.std.specs.Prelude.{All, filter, not, nat_le, ◌&&◌, ◌==◌, slice_index_or}
-use Rattle.std.specs.List.{list_any}
+use Rattle.std.specs.Prelude.{All, filter, not, nat_le, ◌&&◌, ◌==◌, slice_index_or, slice_range}
+use Rattle.std.specs.List.{list_all, list_any}
 use Rattle.std.proofs.lemmas.Bool.{and_parts, false≢true, leb-true}
 use Rattle.std.proofs.lemmas.Bool.Decides.{nat_tests}
 use Rattle.std.proofs.lemmas.List.{length-map, append-nil}
@@ -88,7 +88,7 @@ pub some_is : {A : Type 0} (r : Refusal) (o : Option A) (x : A) → some_or r o 
 some_is r None x e = absurd (cc)
 some_is r (Some y) x e = cc
 
-some_len : (len : ℕ) (u : Unit {0}) → some_bytes len ≡ Ok u → 0 < len
+pub some_len : (len : ℕ) (u : Unit {0}) → some_bytes len ≡ Ok u → 0 < len
 some_len len u e =
     let off : (len == 0) ≡ false = not_true (len == 0) (wanted_is refusals.Empty (not (len == 0)) u e) in
     grind (arith, nat_tests)
@@ -188,16 +188,16 @@ lot_in ram f id kind dir chan ranges all few lt off small fits =
 
 -- ---- what is asked of new lots last
 
-record IsPlaceable (f : Fixed) (new lots : List Lot) : Type 0 where
-  same : new ≡ lots
-  small : All (λ lot. has_big lot ≡ false) new
-  slots : some_lot_waits new ≡ true → 0 < f.slots
+pub record IsPlaceable (f : Fixed) (new lots : List Lot) : Type 0 where
+  pub same : new ≡ lots
+  pub small : All (λ lot. has_big lot ≡ false) new
+  pub slots : some_lot_waits new ≡ true → 0 < f.slots
 
 some_slots : (waits : Bool) (n : ℕ) → (waits && n == 0) ≡ false → waits ≡ true → 0 < n
 some_slots true n e h = grind (arith, nat_tests)
 some_slots false n e h = absurd (false≢true h)
 
-placeable_is : (f : Fixed) (new lots : List Lot) → placeable f new ≡ Ok lots → IsPlaceable f new lots
+pub placeable_is : (f : Fixed) (new lots : List Lot) → placeable f new ≡ Ok lots → IsPlaceable f new lots
 placeable_is f new lots e =
     let p = passed (small_enough new) (λ _. slots_there f new >>= λ _. Ok new) lots e in
     let q = passed (slots_there f new) (λ _. Ok new) lots p.rest in
@@ -211,11 +211,11 @@ placeable_is f new lots e =
 
 -- ---- mappings and lists
 
-abbrev behind_ranges : Fixed → List Lot → Label → Kind → Dir → ChanNo → List Owner → List Span → Result (List Lot) Refusal
+abbrev pub behind_ranges : Fixed → List Lot → Label → Kind → Dir → ChanNo → List Owner → List Span → Result (List Lot) Refusal
 behind_ranges f lots label kind dir chan owners ranges =
     unused lots label >>= λ _. owned_from f.me (lot_id label 0) 0 owners ranges >>= λ _. lendable f.effects dir >>= λ _. placeable f (ranges_lot f (lot_id label 0) kind dir chan ranges ∷ [])
 
-abbrev ranges_begin : Fixed → List Lot → Label → Kind → Dir → ChanNo → List Owner → List SgEntry → Result (List Lot) Refusal
+abbrev pub ranges_begin : Fixed → List Lot → Label → Kind → Dir → ChanNo → List Owner → List SgEntry → Result (List Lot) Refusal
 ranges_begin f lots label kind dir chan owners es = all_some es >>= λ _. ranges_of f es >>= λ ranges. behind_ranges f lots label kind dir chan owners ranges
 
 ranges_new : (ram harts : ℕ) (f : Fixed) (lots : List Lot) (label : Label) (kind : Kind) (dir : Dir) (chan : ChanNo) (owners : List Owner) (es : List SgEntry) (o : Op) (new : List Lot)
@@ -241,21 +241,22 @@ ranges_new ram harts f lots label kind dir chan owners es o new h apart fits few
 
 -- ---- areas
 
-abbrev area_is : Fixed → Label → ChanNo → Option Span → Result (List Lot) Refusal
+abbrev pub area_is : Fixed → Label → ChanNo → Option Span → Result (List Lot) Refusal
 area_is f label chan o = some_or refusals.NoPage o >>= λ span. Ok (area_lot (lot_id label 0) chan span ∷ [])
 
-record IsRun (pool : PageMap) (n : ℕ) (span : Span) : Type 0 where
-  page : ℕ
-  is : run_span pool n page ≡ span
-  ends : page + n ≤ length pool.free
+pub record IsRun (pool : PageMap) (n : ℕ) (span : Span) : Type 0 where
+  pub page : ℕ
+  pub is : run_span pool n page ≡ span
+  pub ends : page + n ≤ length pool.free
+  pub free : list_all (λ b. b) (slice_range pool.free page (page + n)) ≡ true
 
 run_by : (pool : PageMap) (n : ℕ) (span : Span) (o : Option ℕ) → IsLowest pool.free n o → span_of_run pool n o ≡ Some span → IsRun pool n span
 run_by pool n span None h e = absurd (cc)
 run_by pool n span (Some p) h e =
-    let fits = and_parts (nat_le (p + n) (length pool.free)) _ h.starts in
-    record { page = p; is = cc; ends = leb-true (p + n) (length pool.free) fits.0 }
+    let fits = and_parts (nat_le (p + n) (length pool.free)) (list_all (λ b. b) (slice_range pool.free p (p + n))) h.starts in
+    record { page = p; is = cc; ends = leb-true (p + n) (length pool.free) fits.0; free = fits.1 }
 
-run_is : (pool : PageMap) (n : ℕ) (span : Span) → 0 < n → lowest_span pool n ≡ Some span → IsRun pool n span
+pub run_is : (pool : PageMap) (n : ℕ) (span : Span) → 0 < n → lowest_span pool n ≡ Some span → IsRun pool n span
 run_is pool n span some e = run_by pool n span (lowest_run pool.free n) (lowest_is_lowest pool.free n some) e
 
 area_in : (ram harts : ℕ) (f : Fixed) (pool : PageMap) (n : ℕ) (label : Label) (chan : ChanNo) (span : Span) → IsFixed ram harts f → ArePagesOf f pool → FitsLabel label → chan.0 < 4 → 0 < n → IsRun pool n span → IsLotIn ram f (area_lot (lot_id label 0) chan span)
@@ -299,7 +300,7 @@ calloc_new ram harts f lots label count chan pool new h apart of fits lt e =
 
 -- ---- copies
 
-abbrev behind_copy : Fixed → ChanNo → List Owner → List Span → Result (List Lot) Refusal
+abbrev pub behind_copy : Fixed → ChanNo → List Owner → List Span → Result (List Lot) Refusal
 behind_copy f chan owners ranges =
     owned_from f.me source 0 owners ranges >>= λ _. lendable f.effects ToDev >>= λ _. lendable f.effects FromDev >>= λ _. placeable f (ends_of f chan ranges)
 
@@ -358,15 +359,15 @@ none_new ram f o lots new names apart none = subst (λ (ls : List Lot). AreNew r
   slots = λ e. absurd (false≢true e);
 })
 
-behind_test : {A : Type 0} (r : Result A Refusal) (new : List Lot) → (r >>= λ _. Ok []) ≡ Ok new → [] ≡ new
+pub behind_test : {A : Type 0} (r : Result A Refusal) (new : List Lot) → (r >>= λ _. Ok []) ≡ Ok new → [] ≡ new
 behind_test r new e = let p = passed r (λ _. Ok []) new e in cc (p.rest)
 
-sg_none : (lots new : List Lot) (label : Label) (count : ℕ) → unmap_sg_begin lots label count ≡ Ok new → [] ≡ new
+pub sg_none : (lots new : List Lot) (label : Label) (count : ℕ) → unmap_sg_begin lots label count ≡ Ok new → [] ≡ new
 sg_none lots new label count e =
     let p = passed (named lots label kinds.List) (λ lot. wanted (refusals.BadCount (length lot.list.entries)) (length lot.list.entries == count) >>= λ _. Ok []) new e in
     behind_test (wanted (refusals.BadCount (length p.value.list.entries)) (length p.value.list.entries == count)) new p.rest
 
-free_none : (f : Fixed) (lots new : List Lot) (label : Label) (owners : List Owner) → cfree_begin f lots label owners ≡ Ok new → [] ≡ new
+pub free_none : (f : Fixed) (lots new : List Lot) (label : Label) (owners : List Owner) → cfree_begin f lots label owners ≡ Ok new → [] ≡ new
 free_none f lots new label owners e =
     let p = passed (named lots label kinds.Area) (λ lot. owned f.me owners (only_entry lot).span >>= λ _. Ok []) new e in
     behind_test (owned f.me owners (only_entry p.value).span) new p.rest

@@ -1,6 +1,7 @@
 //! What holds of every driver, whatever its script.
 
 ghost use Rattle.nc_scripts.specs.Drivers.{EachStaysDriver, FirstDrivers, LastLoadsFollow};
+ghost use Rattle.nc_scripts.specs.NewLots.{NewLotsAreFree};
 
 /// The driver of each hart of an accepted scenario knows what fits that scenario.
 pub fn every_driver_begins()
@@ -20,4 +21,10 @@ pub fn every_driver_stays()
 #[tactic(auto, using(crate::proofs::LastLoads::last_loads_follow))]
 pub fn last_loads_follow()
     ensures { LastLoadsFollow }
+{}
+
+/// What a start step makes lots of was free for it: each byte that is to be lent is the hart's own, and none is in two of
+/// the ranges; the pages of an area are free.
+pub fn new_lots_are_free()
+    ensures { NewLotsAreFree }
 {}

@@ -10,5 +10,5 @@
 mod drivers;
 mod laws;
 
-pub use drivers::{every_driver_begins, every_driver_stays, last_loads_follow};
+pub use drivers::{every_driver_begins, every_driver_stays, last_loads_follow, new_lots_are_free};
 pub use laws::{drivers_stay, first_drivers};
