@@ -123,7 +123,7 @@ over_is ram harts d lots h lt none = record { fixed = h.fixed; op = omega arith;
 counted_is : (ram harts : ℕ) (d : DriverState) (n : ℕ) (lots : List Lot) (saw : Seen) → IsDriver ram harts d → n ≤ 4096 → lots ≡ [] → IsDriver ram harts (stands d (Steps n) [] lots saw)
 counted_is ram harts d n lots saw h le none = record { fixed = h.fixed; op = h.op; phase = le; rest = All-nil (StepIsThere ram harts d.fixed); lots = none }
 
-went_is : (ram harts : ℕ) (d : DriverState) (lots : List Lot) (saw : Seen) (rest : List Step) → IsDriver ram harts d → d.op < length d.fixed.script → lots ≡ [] → All (StepIsThere ram harts d.fixed) rest → IsDriver ram harts (went_to d lots saw rest)
+pub went_is : (ram harts : ℕ) (d : DriverState) (lots : List Lot) (saw : Seen) (rest : List Step) → IsDriver ram harts d → d.op < length d.fixed.script → lots ≡ [] → All (StepIsThere ram harts d.fixed) rest → IsDriver ram harts (went_to d lots saw rest)
 went_is ram harts d lots saw [] h lt none all = over_is ram harts d lots h lt none
 went_is ram harts d lots saw (s ∷ rest) h lt none all = record { fixed = h.fixed; op = h.op; phase = omega arith; rest = all; lots = none }
 
