@@ -42,7 +42,7 @@ use Rattle.nc_rules.specs.Operations.{meaning, step_at, has_start, begin, openin
 use Rattle.nc_rules.specs.Driver.{DriverState, in_hand, next_of, next_of_op, next_in, next_step, next_rest, next_act, over, stands, stays, kept, give_up, went_to, opened, placed, with_lots, begun, refused_step, started, started_of, busy, stepped_to, stepped, worked, done, done_of, done_unless, done_in, searched, searching}
 use Rattle.nc_scripts.specs.Scripts.{IsRangeIn, IsScriptOp, IsFixed, ActIsThere, TurnIsThere, StepIsThere, IsDriver, NextIsThere, IsPhase, is_act, AreThere, Keeps, EachStaysDriver, FirstDrivers}
 use Rattle.nc_rules.specs.Start.{fixed_of, first_driver, hart_spec, no_hart_spec}
-use Rattle.nc_scripts.proofs.DriverSteps.{IsStep, step_is, buffer_is}
+use Rattle.nc_scripts.proofs.DriverSteps.{IsLaid, AreasLie, IsStep, step_is, buffer_is}
 
 -- ---- the first one
 
@@ -95,10 +95,25 @@ in_hand_is ram harts d o h e =
     let k = subst (λ (p : Op). IsScriptOp harts (length d.fixed.buffers) p) is (h.fixed.script d.op o lt) in
     record { fits = k.fits; built = k.built; here = lt }
 
+-- what a step needs
+laid : (ram harts : ℕ) (f : Fixed) → IsFixed ram harts f → IsLaid ram f
+laid ram harts f h = record {
+  ram_small = h.ram_small;
+  ram_whole = h.ram_whole;
+  sized = h.sized;
+  zero_sized = h.zero_sized;
+  zero_wide = h.zero_wide;
+  table = h.table;
+  buffers = h.buffers;
+}
+
+no_areas : (ram : ℕ) → AreasLie ram []
+no_areas ram label lot e = absurd (cc)
+
 -- a step of the operation in hand is there
 pub in_hand_step : (ram harts : ℕ) (d : DriverState) (o : Op) (n : ℕ) (s : Step) → IsDriver ram harts d → IsInHand ram harts d o → step_at d.fixed d.lots o n ≡ Ok (Some s) → IsStep ram harts d.fixed n s
 in_hand_step ram harts d o n s h k e =
-    step_is ram harts d.fixed o n s h.fixed k.fits (subst (λ (lots : List Lot). step_at d.fixed lots o n ≡ Ok (Some s)) h.lots e)
+    step_is ram harts d.fixed [] o n s (laid ram harts d.fixed h.fixed) (no_areas ram) k.fits (subst (λ (lots : List Lot). step_at d.fixed lots o n ≡ Ok (Some s)) h.lots e)
 
 -- ---- what a driver goes on to
 
@@ -112,7 +127,7 @@ pub went_is : (ram harts : ℕ) (d : DriverState) (lots : List Lot) (saw : Seen)
 went_is ram harts d lots saw [] h lt none all = over_is ram harts d lots h lt none
 went_is ram harts d lots saw (s ∷ rest) h lt none all = record { fixed = h.fixed; op = h.op; phase = omega arith; rest = all; lots = none }
 
-went_fixed : (d : DriverState) (lots : List Lot) (saw : Seen) (rest : List Step) → (went_to d lots saw rest).fixed ≡ d.fixed
+pub went_fixed : (d : DriverState) (lots : List Lot) (saw : Seen) (rest : List Step) → (went_to d lots saw rest).fixed ≡ d.fixed
 went_fixed d lots saw [] = refl
 went_fixed d lots saw (s ∷ rest) = refl
 
@@ -179,7 +194,7 @@ lots_stay ram lots (turns.Sync id) h = absurd h
 lots_stay ram lots (turns.Settle id) h = absurd h
 lots_stay ram lots (turns.End id) h = absurd h
 
-both_stay : (ram : ℕ) (lots : List Lot) (t u : Turn) → TurnIsThere ram t → TurnIsThere ram u → lots_after_both t u lots ≡ lots
+pub both_stay : (ram : ℕ) (lots : List Lot) (t u : Turn) → TurnIsThere ram t → TurnIsThere ram u → lots_after_both t u lots ≡ lots
 both_stay ram lots t u h k = lots_stay ram (lots_after t lots) u k ∙ lots_stay ram lots t h
 
 -- ---- giving up, and staying
@@ -212,7 +227,7 @@ plan_there ram harts f _ h fits start built = absurd (cc)
 
 opening_there : (ram harts : ℕ) (f : Fixed) (o : Op) → IsFixed ram harts f → FitsOp harts (length f.buffers) o → has_start o ≡ true → is_built_op o ≡ true → TurnIsThere ram (opening f [] o)
 unfolding opening meaning handing.hand
-opening_there ram harts f (ops.Hand buf to) h fits start built = buffer_is ram harts f buf h fits.0
+opening_there ram harts f (ops.Hand buf to) h fits start built = buffer_is ram harts f buf (laid ram harts f h) fits.0
 opening_there ram harts f _ h fits start built = absurd (cc)
 
 -- an operation that is built makes no lot
@@ -288,7 +303,7 @@ stepped_to_is ram harts d n lots saw (Err r) h lt le none = counted_is ram harts
 stepped_to_is ram harts d n lots saw (Ok (Some s)) h lt le none = counted_is ram harts d n lots saw h le none
 stepped_to_is ram harts d n lots saw (Ok None) h lt le none = over_is ram harts d lots h lt none
 
-stepped_to_fixed : (d : DriverState) (n : ℕ) (lots : List Lot) (saw : Seen) (r : Result (Option Step) Refusal) → (stepped_to d n lots saw r).fixed ≡ d.fixed
+pub stepped_to_fixed : (d : DriverState) (n : ℕ) (lots : List Lot) (saw : Seen) (r : Result (Option Step) Refusal) → (stepped_to d n lots saw r).fixed ≡ d.fixed
 stepped_to_fixed d n lots saw (Err r) = refl
 stepped_to_fixed d n lots saw (Ok (Some s)) = refl
 stepped_to_fixed d n lots saw (Ok None) = refl

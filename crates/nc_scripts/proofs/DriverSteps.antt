@@ -1,13 +1,17 @@
 -- A step of an operation of a script is there, and an operation has at most 4,096 steps.
 use Rattle.std.proofs.Common.{◌≡◌, ℕ, zero, suc, ◌+◌, ◌*◌, ◌/◌, ◌%◌, ◌<◌, ◌≤◌, Bool, true, false, List, [], ◌∷◌, length, inl, inr, ◌⊎◌, refl, sym, ap, subst, ◌∙◌, arith, slice_get, Option, Some, None, Result, Ok, Err}
-use Rattle.std.specs.Prelude.{nat_le, is_some, option_map, if◌then◌else◌}
+use Rattle.std.specs.Prelude.{All, EachIndex, slice_index, nat_le, is_some, option_map, if◌then◌else◌}
 use Rattle.std.specs.List.{range_with_len}
 use Rattle.std.proofs.lemmas.Bool.{leb-true}
 use Rattle.std.proofs.lemmas.Option.{slice_get_within, get_or_from_slice_get}
 use Rattle.std.proofs.lemmas.List.FromFn.{get_or-range_with_len, length-range_with_len}
 use Rattle.nc_num.specs.Places.{block_at, pieces}
 use Rattle.nc_num.specs.declared.names.ChanNo.{ChanNo}
-use Rattle.nc_num.specs.declared.names.MemType.TheVariants.{Pma}
+use Rattle.nc_num.specs.Sizes.{IsBlockSize}
+use Rattle.nc_num.specs.declared.names.Label.{Label}
+use Rattle.nc_num.specs.declared.names.MemType.{MemType}
+use Rattle.nc_num.specs.declared.names.MemType.TheVariants.{Pma, Nc}
+use Rattle.nc_pte.specs.Words.{IsPteWord}
 use Rattle.nc_num.specs.declared.places.Span.{Span}
 use Rattle.nc_env.specs.declared.CboOp.{CboOp}
 use Rattle.nc_env.specs.declared.CboOp.TheVariants as cbos
@@ -20,6 +24,7 @@ use Rattle.nc_plan.specs.declared.access.At.TheVariants as at
 use Rattle.nc_plan.specs.declared.ops.HartOp.{HartOp}
 use Rattle.nc_plan.specs.declared.ops.HartOp.TheVariants as hart
 use Rattle.nc_plan.specs.declared.ops.IoTarget.TheVariants as io
+use Rattle.nc_plan.specs.declared.ops.Payload.TheVariants.{Given}
 use Rattle.nc_steps.specs.Laws.{IsLoad, IsStore, IsWithin, home}
 use Rattle.nc_steps.specs.Mapped.{IsMapped}
 use Rattle.nc_steps.proofs.PieceLaws.{pieces_follow}
@@ -35,8 +40,10 @@ use Rattle.nc_rules.specs.declared.answers.Refusal.TheVariants as refusals
 use Rattle.nc_rules.specs.declared.steps.Act.TheVariants as acts
 use Rattle.nc_rules.specs.declared.steps.Step.{Step}
 use Rattle.nc_rules.specs.Machine.{MachineState}
-use Rattle.nc_rules.specs.Lots.{Fixed}
-use Rattle.nc_rules.specs.Refusals.{◌>>=◌, wanted, some_bytes, buffer_of, part_of, legal}
+use Rattle.nc_rules.specs.declared.lots.Kind.TheVariants.{Area}
+use Rattle.nc_rules.specs.declared.lots.Lot.{Lot}
+use Rattle.nc_rules.specs.Lots.{Fixed, only_entry}
+use Rattle.nc_rules.specs.Refusals.{◌>>=◌, wanted, some_bytes, buffer_of, part_of, legal, named}
 use Rattle.nc_rules.specs.Plans.{step, hart_step, single, control_step}
 use Rattle.nc_rules.specs.Accesses.{spot_at, piece_step}
 use Rattle.nc_rules.specs.Accesses as accesses
@@ -51,7 +58,8 @@ use Rattle.nc_rules.specs.ScatterLists as lists
 use Rattle.nc_rules.specs.Areas as areas
 use Rattle.nc_rules.specs.Copies as copies
 use Rattle.nc_rules.specs.Operations.{meaning, step_at}
-use Rattle.nc_scripts.specs.Scripts.{IsFixed, IsRangeIn, IsDriven, StepIsThere}
+use Rattle.nc_scripts.specs.Scripts.{IsRangeIn, IsDriven, StepIsThere}
+use Rattle.nc_scripts.specs.Drivers.{FitsLast, ActFitsLast}
 use Rattle.nc_rules.specs.Sound.{OpIsThere, IsBlockIn}
 
 -- ---- what a chain of checks that passes has passed
@@ -61,27 +69,44 @@ pub record Passed {A B : Type 0} (r : Result A Refusal) (g : A → Result B Refu
   pub first : r ≡ Ok value
   pub rest : g value ≡ Ok y
 
-passed : {A B : Type 0} (r : Result A Refusal) (g : A → Result B Refusal) (y : B) → r >>= g ≡ Ok y → Passed r g y
+pub passed : {A B : Type 0} (r : Result A Refusal) (g : A → Result B Refusal) (y : B) → r >>= g ≡ Ok y → Passed r g y
 passed (Ok x) g y e = record { value = x; first = refl; rest = e }
 passed (Err r) g y e = absurd (cc)
 
-wanted_is : (r : Refusal) (t : Bool) (u : Unit {0}) → wanted r t ≡ Ok u → t ≡ true
+pub wanted_is : (r : Refusal) (t : Bool) (u : Unit {0}) → wanted r t ≡ Ok u → t ≡ true
 wanted_is r true u e = refl
 wanted_is r false u e = absurd (cc)
 
 -- ---- steps
 
--- step n of an operation is there, and n is small
+-- what a step needs of what the driver knows
+pub record IsLaid (ram : ℕ) (f : Fixed) : Type 0 where
+  pub ram_small : ram ≤ 1048576
+  pub ram_whole : ram % 4096 ≡ 0
+  pub sized : IsBlockSize f.size
+  pub zero_sized : IsBlockSize f.zero_size
+  pub zero_wide : f.size ≤ f.zero_size
+  pub table : EachIndex f.table (λ k. IsPteWord ram (slice_index f.table k))
+  pub buffers : All (IsRangeIn ram) f.buffers
+
+-- the areas lie in RAM
+abbrev pub AreasLie : ℕ → List Lot → Type 0
+AreasLie ram lots = (label : Label) (lot : Lot) → named lots label Area ≡ Ok lot → IsRangeIn ram (only_entry lot).span
+
+-- step n of an operation is there, whatever was loaded before it, and n is small
 pub record IsStep (ram harts : ℕ) (f : Fixed) (n : ℕ) (s : Step) : Type 0 where
   pub there : StepIsThere ram harts f s
   pub few : n < 4096
+  pub free : (k : ℕ) → ActFitsLast k s.act
 
-is_single : (ram harts : ℕ) (f : Fixed) (t : Step) (n : ℕ) (s : Step) → StepIsThere ram harts f t → single t n ≡ Some s → IsStep ram harts f n s
-is_single ram harts f t zero s h e = let same : t ≡ s = cc in record { there = subst (λ (x : Step). StepIsThere ram harts f x) same h; few = omega arith }
-is_single ram harts f t (suc n) s h e = absurd (cc)
+is_single : (ram harts : ℕ) (f : Fixed) (t : Step) (n : ℕ) (s : Step) → StepIsThere ram harts f t → ((k : ℕ) → ActFitsLast k t.act) → single t n ≡ Some s → IsStep ram harts f n s
+is_single ram harts f t zero s h k e =
+    let same : t ≡ s = cc in
+    subst (λ (x : Step). IsStep ram harts f zero x) same (record { there = h; few = omega arith; free = k })
+is_single ram harts f t (suc n) s h k e = absurd (cc)
 
-is_single_ok : (ram harts : ℕ) (f : Fixed) (t : Step) (n : ℕ) (s : Step) → StepIsThere ram harts f t → ◌≡◌ {A = Result (Option Step) Refusal} (Ok (single t n)) (Ok (Some s)) → IsStep ram harts f n s
-is_single_ok ram harts f t n s h e = is_single ram harts f t n s h (cc)
+is_single_ok : (ram harts : ℕ) (f : Fixed) (t : Step) (n : ℕ) (s : Step) → StepIsThere ram harts f t → ((k : ℕ) → ActFitsLast k t.act) → ◌≡◌ {A = Result (Option Step) Refusal} (Ok (single t n)) (Ok (Some s)) → IsStep ram harts f n s
+is_single_ok ram harts f t n s h k e = is_single ram harts f t n s h k (cc)
 
 stays : (ram harts : ℕ) (f : Fixed) (op : HartOp) → ((m : MachineState) (h : ℕ) → IsDriven ram harts f m → OpIsThere m h op) → StepIsThere ram harts f (hart_step op)
 stays ram harts f op h = record { act = h; first = tt; last = tt }
@@ -89,7 +114,7 @@ stays ram harts f op h = record { act = h; first = tt; last = tt }
 -- ---- accesses
 
 -- part of a buffer
-pub buffer_is : (ram harts : ℕ) (f : Fixed) (buf : ℕ) → IsFixed ram harts f → buf < length f.buffers → IsRangeIn ram (buffer_of f buf)
+pub buffer_is : (ram harts : ℕ) (f : Fixed) (buf : ℕ) → IsLaid ram f → buf < length f.buffers → IsRangeIn ram (buffer_of f buf)
 buffer_is ram harts f buf h lt = h.buffers buf (record { at = 0; len = 0 }) lt
 
 part_by : (t : Bool) (range : Span) (off len : ℕ) (part : Span) → nat_le (off + len) range.len ≡ t
@@ -98,7 +123,7 @@ part_by : (t : Bool) (range : Span) (off len : ℕ) (part : Span) → nat_le (of
 part_by true range off len part t e = (cc, leb-true (off + len) range.len t)
 part_by false range off len part t e = absurd (cc)
 
-part_is : (range : Span) (off len : ℕ) (part : Span) → part_of range off len ≡ Ok part → (part ≡ record { at = range.at + off; len = len }) × (off + len ≤ range.len)
+pub part_is : (range : Span) (off len : ℕ) (part : Span) → part_of range off len ≡ Ok part → (part ≡ record { at = range.at + off; len = len }) × (off + len ≤ range.len)
 part_is range off len part e = part_by (nat_le (off + len) range.len) range off len part refl e
 
 -- where an access lies that passed
@@ -106,22 +131,24 @@ pub record IsPlace (ram : ℕ) (f : Fixed) (len : ℕ) (to : At) : Type 0 where
   pub mapped : IsMapped ram to f.table len
   pub ends : (home ram to len).at + (home ram to len).len ≤ ram
 
-place_in : (ram harts : ℕ) (f : Fixed) (range : Span) (off len : ℕ) (to : At) → IsRangeIn ram range
-    → part_of range off len >>= (λ part. Ok (at.Ram part.at Pma)) ≡ Ok to → IsPlace ram f len to
-place_in ram harts f range off len to h e =
-    let p = passed (part_of range off len) (λ part. Ok (at.Ram part.at Pma)) to e in
+place_in : (ram harts : ℕ) (f : Fixed) (range : Span) (kind : MemType) (off len : ℕ) (to : At) → IsRangeIn ram range
+    → part_of range off len >>= (λ part. Ok (at.Ram part.at kind)) ≡ Ok to → IsPlace ram f len to
+place_in ram harts f range kind off len to h e =
+    let p = passed (part_of range off len) (λ part. Ok (at.Ram part.at kind)) to e in
     let k = part_is range off len p.value p.first in
-    let same : at.Ram (range.at + off) Pma ≡ to = cc (ap (λ (s : Span). at.Ram s.at Pma) k.0, p.rest) in
+    let same : at.Ram (range.at + off) kind ≡ to = cc (ap (λ (s : Span). at.Ram s.at kind) k.0, p.rest) in
     subst (λ (t : At). IsPlace ram f len t) same (record { mapped = tt; ends = omega (arith, k.1, h.ends) })
 
-place_of : (ram harts : ℕ) (f : Fixed) (spot : Spot) (off len : ℕ) (to : At) → IsFixed ram harts f → FitsSpot (length f.buffers) spot
-    → spot_at f [] spot off len ≡ Ok to → IsPlace ram f len to
-place_of ram harts f (spots.Buffer buf) off len to h fits e =
+place_of : (ram harts : ℕ) (f : Fixed) (lots : List Lot) (spot : Spot) (off len : ℕ) (to : At) → IsLaid ram f → AreasLie ram lots → FitsSpot (length f.buffers) spot
+    → spot_at f lots spot off len ≡ Ok to → IsPlace ram f len to
+place_of ram harts f lots (spots.Buffer buf) off len to h areas fits e =
     let p = passed (some_bytes len) (λ _. part_of (buffer_of f buf) off len >>= λ part. Ok (at.Ram part.at Pma)) to e in
-    place_in ram harts f (buffer_of f buf) off len to (buffer_is ram harts f buf h fits) p.rest
-place_of ram harts f (spots.Area label) off len to h fits e =
-    let p = passed (some_bytes len) (λ _. Err refusals.NoLabel) to e in absurd (cc (p.rest))
-place_of ram harts f spots.Virtual off len to h fits e =
+    place_in ram harts f (buffer_of f buf) Pma off len to (buffer_is ram harts f buf h fits) p.rest
+place_of ram harts f lots (spots.Area label) off len to h areas fits e =
+    let p = passed (some_bytes len) (λ _. named lots label Area >>= λ lot. part_of (only_entry lot).span off len >>= λ part. Ok (at.Ram part.at Nc)) to e in
+    let q = passed (named lots label Area) (λ lot. part_of (only_entry lot).span off len >>= λ part. Ok (at.Ram part.at Nc)) to p.rest in
+    place_in ram harts f (only_entry q.value).span Nc off len to (areas label q.value q.first) q.rest
+place_of ram harts f lots spots.Virtual off len to h areas fits e =
     let p = passed (some_bytes len) (λ _. wanted refusals.BadRange (nat_le (off + len) (4096 * length f.table)) >>= λ _. Ok (at.Virtual off)) to e in
     let q = passed (wanted refusals.BadRange (nat_le (off + len) (4096 * length f.table))) (λ _. Ok (at.Virtual off)) to p.rest in
     let within = leb-true (off + len) (4096 * length f.table) (wanted_is _ _ q.value q.first) in
@@ -165,26 +192,32 @@ store_there ram harts f to bytes n op k p m h d =
       whole = k.whole;
     })
 
-same_step : (ram harts : ℕ) (f : Fixed) (op : HartOp) (s : Step) (n : ℕ) → hart_step op ≡ s → ((m : MachineState) (h : ℕ) → IsDriven ram harts f m → OpIsThere m h op) → n < 4096 → IsStep ram harts f n s
-same_step ram harts f op s n e h few = subst (λ (x : Step). IsStep ram harts f n x) e (record { there = stays ram harts f op h; few = few })
+same_step : (ram harts : ℕ) (f : Fixed) (op : HartOp) (s : Step) (n : ℕ) → hart_step op ≡ s → ((m : MachineState) (h : ℕ) → IsDriven ram harts f m → OpIsThere m h op) → ((k : ℕ) → FitsLast k op) → n < 4096 → IsStep ram harts f n s
+same_step ram harts f op s n e h free few = subst (λ (x : Step). IsStep ram harts f n x) e (record { there = stays ram harts f op h; few = few; free = free })
 
-load_is : (ram harts : ℕ) (f : Fixed) (spot : Spot) (off len n : ℕ) (s : Step) → IsFixed ram harts f → FitsSpot (length f.buffers) spot → len ≤ 4096
-    → (spot_at f [] spot off len >>= λ to. piece_step (load_step to f.pbmte f.table len n)) ≡ Ok (Some s) → IsStep ram harts f n s
-load_is ram harts f spot off len n s h fits short e =
-    let p = passed (spot_at f [] spot off len) (λ to. piece_step (load_step to f.pbmte f.table len n)) (Some s) e in
+load_free : (k : ℕ) (span : Span) (kind : MemType) (op : HartOp) → op ≡ hart.Load span kind → FitsLast k op
+load_free k span kind op e = subst (λ (o : HartOp). FitsLast k o) (sym e) tt
+
+store_free : (k : ℕ) (span : Span) (kind : MemType) (given : List ℕ) (op : HartOp) → op ≡ hart.Store span kind (Given given) → FitsLast k op
+store_free k span kind given op e = subst (λ (o : HartOp). FitsLast k o) (sym e) tt
+
+load_is : (ram harts : ℕ) (f : Fixed) (lots : List Lot) (spot : Spot) (off len n : ℕ) (s : Step) → IsLaid ram f → AreasLie ram lots → FitsSpot (length f.buffers) spot → len ≤ 4096
+    → (spot_at f lots spot off len >>= λ to. piece_step (load_step to f.pbmte f.table len n)) ≡ Ok (Some s) → IsStep ram harts f n s
+load_is ram harts f lots spot off len n s h areas fits short e =
+    let p = passed (spot_at f lots spot off len) (λ to. piece_step (load_step to f.pbmte f.table len n)) (Some s) e in
     let q = piece_is (load_step p.value f.pbmte f.table len n) s p.rest in
-    let place = place_of ram harts f spot off len p.value h fits p.first in
+    let place = place_of ram harts f lots spot off len p.value h areas fits p.first in
     let k = loads_are_pieces ram p.value f.pbmte f.table len n q.0 place.mapped q.1 in
-    same_step ram harts f q.0 s n q.2 (load_there ram harts f p.value len n q.0 k place) (few_pieces p.value len n k.piece short k.placed.numbered)
+    same_step ram harts f q.0 s n q.2 (load_there ram harts f p.value len n q.0 k place) (λ j. load_free j k.there k.kind q.0 k.loads) (few_pieces p.value len n k.piece short k.placed.numbered)
 
-store_is : (ram harts : ℕ) (f : Fixed) (spot : Spot) (off : ℕ) (bytes : List ℕ) (n : ℕ) (s : Step) → IsFixed ram harts f → FitsSpot (length f.buffers) spot → length bytes ≤ 4096
-    → (spot_at f [] spot off (length bytes) >>= λ to. piece_step (store_step to f.pbmte f.table bytes n)) ≡ Ok (Some s) → IsStep ram harts f n s
-store_is ram harts f spot off bytes n s h fits short e =
-    let p = passed (spot_at f [] spot off (length bytes)) (λ to. piece_step (store_step to f.pbmte f.table bytes n)) (Some s) e in
+store_is : (ram harts : ℕ) (f : Fixed) (lots : List Lot) (spot : Spot) (off : ℕ) (bytes : List ℕ) (n : ℕ) (s : Step) → IsLaid ram f → AreasLie ram lots → FitsSpot (length f.buffers) spot → length bytes ≤ 4096
+    → (spot_at f lots spot off (length bytes) >>= λ to. piece_step (store_step to f.pbmte f.table bytes n)) ≡ Ok (Some s) → IsStep ram harts f n s
+store_is ram harts f lots spot off bytes n s h areas fits short e =
+    let p = passed (spot_at f lots spot off (length bytes)) (λ to. piece_step (store_step to f.pbmte f.table bytes n)) (Some s) e in
     let q = piece_is (store_step p.value f.pbmte f.table bytes n) s p.rest in
-    let place = place_of ram harts f spot off (length bytes) p.value h fits p.first in
+    let place = place_of ram harts f lots spot off (length bytes) p.value h areas fits p.first in
     let k = stores_are_pieces ram p.value f.pbmte f.table bytes n q.0 place.mapped q.1 in
-    same_step ram harts f q.0 s n q.2 (store_there ram harts f p.value bytes n q.0 k place) (few_pieces p.value (length bytes) n k.piece short k.placed.numbered)
+    same_step ram harts f q.0 s n q.2 (store_there ram harts f p.value bytes n q.0 k place) (λ j. store_free j k.there k.kind k.given q.0 k.stores) (few_pieces p.value (length bytes) n k.piece short k.placed.numbered)
 
 -- ---- cache operations
 
@@ -216,7 +249,7 @@ one_block : (ram : ℕ) (f : Fixed) (x n b : ℕ) → IsBlockIn f.size ram x →
 one_block ram f x zero b h e = let same : x ≡ b = cc in record { inside = subst (λ (y : ℕ). IsBlockIn f.size ram y) same h; few = omega arith }
 one_block ram f x (suc n) b h e = absurd (cc)
 
-block_of_op : (ram harts : ℕ) (f : Fixed) (op : CboOp) (x n b : ℕ) → IsFixed ram harts f → x < ram → slice_get (cbo_blocks f op x) n ≡ Some b → IsBlockOf ram f n b
+block_of_op : (ram harts : ℕ) (f : Fixed) (op : CboOp) (x n b : ℕ) → IsLaid ram f → x < ram → slice_get (cbo_blocks f op x) n ≡ Some b → IsBlockOf ram f n b
 block_of_op ram harts f cbos.Clean x n b h lt e = one_block ram f (block_at x f.size) n b (block_by f.size ram x h.sized.one_of h.ram_whole lt) e
 block_of_op ram harts f cbos.Flush x n b h lt e = one_block ram f (block_at x f.size) n b (block_by f.size ram x h.sized.one_of h.ram_whole lt) e
 block_of_op ram harts f cbos.Inval x n b h lt e = one_block ram f (block_at x f.size) n b (block_by f.size ram x h.sized.one_of h.ram_whole lt) e
@@ -234,9 +267,9 @@ cbo_of : (ram harts : ℕ) (f : Fixed) (effect : CboOp) (n : ℕ) (o : Option �
 cbo_of ram harts f effect n None s h e = absurd (cc)
 cbo_of ram harts f effect n (Some b) s h e =
     let k = h b refl in
-    same_step ram harts f (hart.Cbo effect (record { 0 = b })) s n (cc) (λ m me d. rw (d.memory, d.block) k.inside) k.few
+    same_step ram harts f (hart.Cbo effect (record { 0 = b })) s n (cc) (λ m me d. rw (d.memory, d.block) k.inside) (λ j. tt) k.few
 
-cbo_is : (ram harts : ℕ) (f : Fixed) (op : CboOp) (buf off n : ℕ) (s : Step) → IsFixed ram harts f → buf < length f.buffers
+cbo_is : (ram harts : ℕ) (f : Fixed) (op : CboOp) (buf off n : ℕ) (s : Step) → IsLaid ram f → buf < length f.buffers
     → (part_of (buffer_of f buf) off 1 >>= λ byte. legal (effect_of f.effects op) >>= λ effect. Ok (option_map (cbo_step effect) (slice_get (cbo_blocks f op byte.at) n))) ≡ Ok (Some s)
     → IsStep ram harts f n s
 cbo_is ram harts f op buf off n s h lt e =
@@ -261,23 +294,23 @@ regs_of : (ram harts : ℕ) (f : Fixed) (chan : ChanNo) (source target len cfg n
     → ◌≡◌ {A = Result (Option Step) Refusal} (Ok (option_map hart_step (registers.regs_step chan source target len cfg n))) (Ok (Some s)) → IsStep ram harts f n s
 regs_of ram harts f chan source target len cfg zero s lt e =
     let same : hart_step (registers.next_config chan cfg) ≡ s = cc in
-    record { there = subst (λ (x : Step). StepIsThere ram harts f x) same (register_there ram harts f chan 0x004 4 cfg lt refl); few = omega arith }
+    subst (λ (x : Step). IsStep ram harts f zero x) same (record { there = register_there ram harts f chan 0x004 4 cfg lt refl; few = omega arith; free = λ k. tt })
 regs_of ram harts f chan source target len cfg (suc zero) s lt e =
     let same : hart_step (registers.next_bytes chan len) ≡ s = cc in
-    record { there = subst (λ (x : Step). StepIsThere ram harts f x) same (register_there ram harts f chan 0x008 8 len lt refl); few = omega arith }
+    subst (λ (x : Step). IsStep ram harts f (suc zero) x) same (record { there = register_there ram harts f chan 0x008 8 len lt refl; few = omega arith; free = λ k. tt })
 regs_of ram harts f chan source target len cfg (suc (suc zero)) s lt e =
     let same : hart_step (registers.next_destination chan target) ≡ s = cc in
-    record { there = subst (λ (x : Step). StepIsThere ram harts f x) same (register_there ram harts f chan 0x010 8 target lt refl); few = omega arith }
+    subst (λ (x : Step). IsStep ram harts f (suc (suc zero)) x) same (record { there = register_there ram harts f chan 0x010 8 target lt refl; few = omega arith; free = λ k. tt })
 regs_of ram harts f chan source target len cfg (suc (suc (suc zero))) s lt e =
     let same : hart_step (registers.next_source chan source) ≡ s = cc in
-    record { there = subst (λ (x : Step). StepIsThere ram harts f x) same (register_there ram harts f chan 0x018 8 source lt refl); few = omega arith }
+    subst (λ (x : Step). IsStep ram harts f (suc (suc (suc zero))) x) same (record { there = register_there ram harts f chan 0x018 8 source lt refl; few = omega arith; free = λ k. tt })
 regs_of ram harts f chan source target len cfg (suc (suc (suc (suc n)))) s lt e = absurd (cc)
 
-regs_is : (ram harts : ℕ) (f : Fixed) (chan : ChanNo) (src dst : BusArg) (len cfg n : ℕ) (s : Step) → chan.0 < 4
-    → (bus_of f [] src >>= λ source. bus_of f [] dst >>= λ target. Ok (option_map hart_step (registers.regs_step chan source target len cfg n))) ≡ Ok (Some s) → IsStep ram harts f n s
-regs_is ram harts f chan src dst len cfg n s lt e =
-    let p = passed (bus_of f [] src) (λ source. bus_of f [] dst >>= λ target. Ok (option_map hart_step (registers.regs_step chan source target len cfg n))) (Some s) e in
-    let q = passed (bus_of f [] dst) (λ target. Ok (option_map hart_step (registers.regs_step chan p.value target len cfg n))) (Some s) p.rest in
+regs_is : (ram harts : ℕ) (f : Fixed) (lots : List Lot) (chan : ChanNo) (src dst : BusArg) (len cfg n : ℕ) (s : Step) → chan.0 < 4
+    → (bus_of f lots src >>= λ source. bus_of f lots dst >>= λ target. Ok (option_map hart_step (registers.regs_step chan source target len cfg n))) ≡ Ok (Some s) → IsStep ram harts f n s
+regs_is ram harts f lots chan src dst len cfg n s lt e =
+    let p = passed (bus_of f lots src) (λ source. bus_of f lots dst >>= λ target. Ok (option_map hart_step (registers.regs_step chan source target len cfg n))) (Some s) e in
+    let q = passed (bus_of f lots dst) (λ target. Ok (option_map hart_step (registers.regs_step chan p.value target len cfg n))) (Some s) p.rest in
     regs_of ram harts f chan p.value q.value len cfg n s lt q.rest
 
 known_is : (off width : ℕ) (u : Unit {0}) → known off width ≡ Ok u → is_some (register_at off width) ≡ true
@@ -287,43 +320,43 @@ read_is : (ram harts : ℕ) (f : Fixed) (chan : ChanNo) (off width n : ℕ) (s :
     → (known off width >>= λ _. Ok (single (hart_step (hart.IoLoad chan off width)) n)) ≡ Ok (Some s) → IsStep ram harts f n s
 read_is ram harts f chan off width n s lt e =
     let p = passed (known off width) (λ _. Ok (single (hart_step (hart.IoLoad chan off width)) n)) (Some s) e in
-    is_single_ok ram harts f (hart_step (hart.IoLoad chan off width)) n s (stays ram harts f _ (λ m h d. record { channel = lt; known = known_is off width p.value p.first })) p.rest
+    is_single_ok ram harts f (hart_step (hart.IoLoad chan off width)) n s (stays ram harts f _ (λ m h d. record { channel = lt; known = known_is off width p.value p.first })) (λ k. tt) p.rest
 
 write_is : (ram harts : ℕ) (f : Fixed) (chan : ChanNo) (off width value n : ℕ) (s : Step) → chan.0 < 4
     → (known off width >>= λ _. Ok (single (hart_step (hart.IoStore (io.Reg chan off width value))) n)) ≡ Ok (Some s) → IsStep ram harts f n s
 write_is ram harts f chan off width value n s lt e =
     let p = passed (known off width) (λ _. Ok (single (hart_step (hart.IoStore (io.Reg chan off width value))) n)) (Some s) e in
-    is_single_ok ram harts f (hart_step (hart.IoStore (io.Reg chan off width value))) n s (register_there ram harts f chan off width value lt (known_is off width p.value p.first)) p.rest
+    is_single_ok ram harts f (hart_step (hart.IoStore (io.Reg chan off width value))) n s (register_there ram harts f chan off width value lt (known_is off width p.value p.first)) (λ k. tt) p.rest
 
 -- ---- every operation
 
 none : {X : Type 0} (s : Step) → ◌≡◌ {A = Result (Option Step) Refusal} (Ok None) (Ok (Some s)) → X
 none s e = absurd (cc)
 
-pub step_is : (ram harts : ℕ) (f : Fixed) (o : Op) (n : ℕ) (s : Step) → IsFixed ram harts f → FitsOp harts (length f.buffers) o → step_at f [] o n ≡ Ok (Some s) → IsStep ram harts f n s
+pub step_is : (ram harts : ℕ) (f : Fixed) (lots : List Lot) (o : Op) (n : ℕ) (s : Step) → IsLaid ram f → AreasLie ram lots → FitsOp harts (length f.buffers) o → step_at f lots o n ≡ Ok (Some s) → IsStep ram harts f n s
 unfolding step_at meaning accesses.load accesses.store cache_ops.cache_operation cache_ops.fence handing.take handing.hand channels.claim channels.free channels.set_up channels.run channels.poll channels.read_register channels.write_register mappings.map_single mappings.unmap_single mappings.sync_for_cpu mappings.sync_for_device lists.map_sg lists.unmap_sg areas.calloc areas.give_area areas.take_area areas.free_area copies.copy
-step_is ram harts f (ops.Ld spot off len) n s h fits e = load_is ram harts f spot off len n s h fits.0 fits.2 e
-step_is ram harts f (ops.St spot off bytes) n s h fits e = store_is ram harts f spot off bytes n s h fits.0 fits.2 e
-step_is ram harts f (ops.Cbo op buf off) n s h fits e = cbo_is ram harts f op buf off n s h fits.0 e
-step_is ram harts f (ops.Fence pred succ) n s h fits e = is_single_ok ram harts f _ n s (stays ram harts f _ (λ m me d. tt)) e
-step_is ram harts f (ops.Take buf) n s h fits e =
-    is_single_ok ram harts f (take_step f buf) n s (record { act = fits; first = tt; last = buffer_is ram harts f buf h fits }) e
-step_is ram harts f (ops.Claim chan) n s h fits e = is_single_ok ram harts f (step (acts.Claim chan)) n s (record { act = fits; first = tt; last = tt }) e
-step_is ram harts f (ops.Free chan) n s h fits e = is_single_ok ram harts f (control_step chan 0) n s (control_there ram harts f chan 0 fits) e
-step_is ram harts f (ops.Regs chan src dst len cfg) n s h fits e = regs_is ram harts f chan src dst len cfg n s fits.0 e
-step_is ram harts f (ops.Run chan) n s h fits e = is_single_ok ram harts f (control_step chan 3) n s (control_there ram harts f chan 3 fits) e
-step_is ram harts f (ops.Poll chan) n s h fits e = is_single_ok ram harts f (step (acts.Poll chan)) n s (record { act = fits; first = tt; last = tt }) e
-step_is ram harts f (ops.Regr chan off width) n s h fits e = read_is ram harts f chan off width n s fits.0 e
-step_is ram harts f (ops.Regw chan off width value) n s h fits e = write_is ram harts f chan off width value n s fits.0 e
-step_is ram harts f (ops.Hand buf to) n s h fits e = none s e
-step_is ram harts f (ops.Map label buf off len dir chan) n s h fits e = none s e
-step_is ram harts f (ops.Unmap label) n s h fits e = none s e
-step_is ram harts f (ops.ToCpu label) n s h fits e = none s e
-step_is ram harts f (ops.ToDev label) n s h fits e = none s e
-step_is ram harts f (ops.MapSg label entries dir chan) n s h fits e = none s e
-step_is ram harts f (ops.UnmapSg label count) n s h fits e = none s e
-step_is ram harts f (ops.Calloc label pages chan) n s h fits e = none s e
-step_is ram harts f (ops.Cgive label) n s h fits e = none s e
-step_is ram harts f (ops.Ctake label) n s h fits e = none s e
-step_is ram harts f (ops.Cfree label) n s h fits e = none s e
-step_is ram harts f (ops.Copy chan src src_off dst dst_off len cfg) n s h fits e = none s e
+step_is ram harts f lots (ops.Ld spot off len) n s h areas fits e = load_is ram harts f lots spot off len n s h areas fits.0 fits.2 e
+step_is ram harts f lots (ops.St spot off bytes) n s h areas fits e = store_is ram harts f lots spot off bytes n s h areas fits.0 fits.2 e
+step_is ram harts f lots (ops.Cbo op buf off) n s h areas fits e = cbo_is ram harts f op buf off n s h fits.0 e
+step_is ram harts f lots (ops.Fence pred succ) n s h areas fits e = is_single_ok ram harts f _ n s (stays ram harts f _ (λ m me d. tt)) (λ k. tt) e
+step_is ram harts f lots (ops.Take buf) n s h areas fits e =
+    is_single_ok ram harts f (take_step f buf) n s (record { act = fits; first = tt; last = buffer_is ram harts f buf h fits }) (λ k. tt) e
+step_is ram harts f lots (ops.Claim chan) n s h areas fits e = is_single_ok ram harts f (step (acts.Claim chan)) n s (record { act = fits; first = tt; last = tt }) (λ k. tt) e
+step_is ram harts f lots (ops.Free chan) n s h areas fits e = is_single_ok ram harts f (control_step chan 0) n s (control_there ram harts f chan 0 fits) (λ k. tt) e
+step_is ram harts f lots (ops.Regs chan src dst len cfg) n s h areas fits e = regs_is ram harts f lots chan src dst len cfg n s fits.0 e
+step_is ram harts f lots (ops.Run chan) n s h areas fits e = is_single_ok ram harts f (control_step chan 3) n s (control_there ram harts f chan 3 fits) (λ k. tt) e
+step_is ram harts f lots (ops.Poll chan) n s h areas fits e = is_single_ok ram harts f (step (acts.Poll chan)) n s (record { act = fits; first = tt; last = tt }) (λ k. tt) e
+step_is ram harts f lots (ops.Regr chan off width) n s h areas fits e = read_is ram harts f chan off width n s fits.0 e
+step_is ram harts f lots (ops.Regw chan off width value) n s h areas fits e = write_is ram harts f chan off width value n s fits.0 e
+step_is ram harts f lots (ops.Hand buf to) n s h areas fits e = none s e
+step_is ram harts f lots (ops.Map label buf off len dir chan) n s h areas fits e = none s e
+step_is ram harts f lots (ops.Unmap label) n s h areas fits e = none s e
+step_is ram harts f lots (ops.ToCpu label) n s h areas fits e = none s e
+step_is ram harts f lots (ops.ToDev label) n s h areas fits e = none s e
+step_is ram harts f lots (ops.MapSg label entries dir chan) n s h areas fits e = none s e
+step_is ram harts f lots (ops.UnmapSg label count) n s h areas fits e = none s e
+step_is ram harts f lots (ops.Calloc label pages chan) n s h areas fits e = none s e
+step_is ram harts f lots (ops.Cgive label) n s h areas fits e = none s e
+step_is ram harts f lots (ops.Ctake label) n s h areas fits e = none s e
+step_is ram harts f lots (ops.Cfree label) n s h areas fits e = none s e
+step_is ram harts f lots (ops.Copy chan src src_off dst dst_off len cfg) n s h areas fits e = none s e

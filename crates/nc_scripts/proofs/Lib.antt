@@ -1,3 +1,13 @@
 pub mod BuiltLaws
 pub mod DriverSteps
 pub mod DriverLaws
+pub mod Lists
+pub mod LotLaws
+pub mod LotMoves
+pub mod PlanSteps
+pub mod NewLots
+pub mod Openings
+pub mod SlotLaws
+pub mod LastLoads
+pub mod FreeLots
+pub mod EveryDriver

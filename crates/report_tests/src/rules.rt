@@ -4,7 +4,10 @@ use nc_calls::{
     calls_keep_shape, channels_by_place, drains_by_place, issues_by_place, loads_show_what_is_seen,
     machine_stays_sound, moves_by_place, queues_keep_order, start_is_empty, views_stay,
 };
-use nc_scripts::{drivers_stay, first_drivers};
+use nc_scripts::{
+    drivers_stay, every_driver_begins, every_driver_stays, first_drivers, last_loads_follow,
+    new_lots_are_free,
+};
 
 #[test]
 fn laws_are_called() {
@@ -20,4 +23,8 @@ fn laws_are_called() {
     queues_keep_order();
     first_drivers();
     drivers_stay();
+    every_driver_begins();
+    every_driver_stays();
+    last_loads_follow();
+    new_lots_are_free();
 }
