@@ -164,5 +164,5 @@ kth_found k xs d x t lt e = record {
   within = omega (arith, ends_at k xs d t lt, places-take_drop (suc k) xs);
 }
 
-pub one_has : (k : ℕ) (xs : List Interval) (d : Interval) (x : ℕ) → Tile 0 xs → k < length xs → covers (get_or xs k d).span x ≡ true → Has xs x (get_or xs k d)
-one_has k xs d x t lt e = kth_has k xs d x t lt (λ f. subst (λ (i : Interval). covers i.span x ≡ true) (get_or_default xs k d f lt) e)
+pub has_at : (k : ℕ) (xs : List Interval) (d : Interval) (x : ℕ) → k < length xs → covers (get_or xs k d).span x ≡ true → (e : Interval) → covers (get_or xs k e).span x ≡ true
+has_at k xs d x lt h e = subst (λ (i : Interval). covers i.span x ≡ true) (get_or_default xs k d e lt) h

@@ -15,7 +15,7 @@ use crate::finds::{
     remove_with_id,
 };
 use crate::guesses::Guesses;
-use crate::intervals::{Interval, end_of, give, index_of, interval_near, push_run};
+use crate::intervals::{Interval, end_of, give, index_of, interval_at, push_run};
 use nc_model::{Access, Actor, Grant, Owner, Touch, TouchKind};
 use nc_num::{ChanNo, HartNo, MapId, NoMemory, Place, Span};
 use std::alloc::Global;
@@ -249,7 +249,7 @@ impl Book {
         ensures around { IsAround self.now.owners at result }
         ensures size { length self.now.owners < 2 ^ 32 }
     {
-        interval_near(&self.intervals, self.guesses.at(at), at)
+        interval_at(&self.intervals, self.guesses.at(at), at)
     }
 
     /// Whether a hart may use a byte of this owner.

@@ -46,28 +46,27 @@ fn find(intervals: &[Interval], at: u32) -> (usize, Interval)
     (number, intervals[number])
 }
 
-/// The interval that has a place.
-pub fn interval_at(intervals: &[Interval], at: u32) -> Interval
+/// The number of the interval that has a place: a guessed one where that has it, or else by halving.
+fn index_near(intervals: &[Interval], guess: usize, at: u32) -> usize
     requires tile { Tile 0 intervals.now }
     requires inside { at < places intervals.now }
-    ensures { Has intervals.now at result }
+    ensures inside { result < length intervals.now }
+    ensures has { HoldsAt (λ i. covers i.span at ≡ true) intervals.now result }
 {
-    intervals[index_of(intervals, at)]
+    if guess < intervals.len() && has(intervals[guess].span, at) {
+        guess
+    } else {
+        index_of(intervals, at)
+    }
 }
 
-/// The interval that has a place: that of a guessed number where it has it, or else by halving.
-pub fn interval_near(intervals: &[Interval], guess: usize, at: u32) -> Interval
+/// The interval that has a place, from a guess at its number.
+pub fn interval_at(intervals: &[Interval], guess: usize, at: u32) -> Interval
     requires tile { Tile 0 intervals.now }
     requires inside { at < places intervals.now }
     ensures { Has intervals.now at result }
 {
-    if guess < intervals.len() {
-        let guessed = intervals[guess];
-        if has(guessed.span, at) {
-            return guessed;
-        }
-    }
-    interval_at(intervals, at)
+    intervals[index_near(intervals, guess, at)]
 }
 
 /// Whether the place lies in the span.
