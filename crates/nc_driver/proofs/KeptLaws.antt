@@ -15,9 +15,9 @@ use Rattle.nc_rules.specs.declared.answers.Refusal.{Refusal}
 use Rattle.nc_rules.specs.declared.steps.Seen.{Seen}
 use Rattle.nc_rules.specs.declared.steps.Step.{Step}
 use Rattle.nc_rules.specs.Driver.{DriverState, in_hand, next_of, next_of_op, next_in, went, started, started_of, opened, tested, start_moves, start_moves_of, opened_moves, moved, answered, steps_done, turn_of, step_answer, stepped, over, counted, done_in, done_moves_in}
-use Rattle.nc_rules.specs.Scripts.{is_act}
+use Rattle.nc_scripts.specs.Scripts.{is_act}
 use Rattle.nc_rules.specs.Start.{first_driver}
-use Rattle.nc_rules.proofs.DriverLaws.{first_drivers, in_hand_is, went_is, plan_there, few_steps}
+use Rattle.nc_scripts.proofs.DriverLaws.{first_drivers, in_hand_is, went_is, plan_there, few_steps}
 use Rattle.nc_checks.specs.Due.{step_of, step_due}
 use Rattle.nc_driver.specs.Kept.{IsKept, due_of}
 use Rattle.nc_driver.specs.Rests.{is_more}

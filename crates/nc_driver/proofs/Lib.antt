@@ -1,2 +1,3 @@
 mod KeptLaws
+mod SafeLaws
 mod BenchLaws

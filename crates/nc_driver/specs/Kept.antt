@@ -4,7 +4,7 @@ use Rattle.std.specs.Prelude.{ℕ, ◌≡◌, Option, Result}
 use Rattle.nc_rules.specs.declared.answers.Refusal.{Refusal}
 use Rattle.nc_rules.specs.declared.steps.Step.{Step}
 use Rattle.nc_rules.specs.Driver.{DriverState, steps_done}
-use Rattle.nc_rules.specs.Scripts.{IsDriver}
+use Rattle.nc_scripts.specs.Scripts.{IsDriver}
 use Rattle.nc_checks.specs.Due.{step_due}
 
 pub record IsKept (d : DriverState) : Type 0 where

@@ -5,7 +5,7 @@ ghost use Rattle.std.specs.List.{AllByRecursion};
 ghost use Rattle.nc_env.specs.Enables.{IsEnvcfg};
 ghost use Rattle.nc_scen.specs.Accepted.{FitsHart, IsAccepted};
 ghost use Rattle.nc_rules.specs.Built.{IsBuilt, IsBuiltScript};
-ghost use Rattle.nc_rules.specs.Scripts.{IsScriptOp};
+ghost use Rattle.nc_scripts.specs.Scripts.{IsScriptOp};
 
 use crate::{Answer, Driver, Moves, Next, PageMove, Seen};
 use nc_coherent::PagePool;

@@ -12,7 +12,7 @@ ghost use Rattle.nc_rules.specs.Driver.{moved};
 ghost use Rattle.nc_rules.specs.Operations as rules;
 ghost use Rattle.nc_rules.specs.Operations.{turned};
 ghost use Rattle.nc_rules.specs.Start.{first_driver};
-ghost use Rattle.nc_rules.specs.Scripts.{is_act};
+ghost use Rattle.nc_scripts.specs.Scripts.{is_act};
 ghost use Rattle.nc_checks.specs.Due.{step_due};
 ghost use Rattle.nc_checks.specs.Safe.{IsSafe};
 ghost use Rattle.nc_driver.specs.Kept.{IsKept, due_of};

@@ -4,7 +4,7 @@ ghost use Rattle.std.specs.Prelude.{◌≡◌, ◌≤◌, length, IfOk};
 ghost use Rattle.std.specs.List.{AllByRecursion};
 ghost use Rattle.nc_env.specs.Enables.{IsEnvcfg};
 ghost use Rattle.nc_ops.specs.declared.ops.Op.TheVariants as ops;
-ghost use Rattle.nc_rules.specs.Scripts.{IsScriptOp};
+ghost use Rattle.nc_scripts.specs.Scripts.{IsScriptOp};
 
 use crate::bench::{Bench, FIRST, SECOND, hart, scenario};
 use crate::{Answer, Next, Refusal, Seen};

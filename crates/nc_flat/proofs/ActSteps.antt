@@ -28,16 +28,16 @@ use Rattle.nc_rules.specs.Calls.{issue_next, io_waits, claimed_by, claim_next, m
 use Rattle.nc_rules.specs.Operations.{step_at}
 use Rattle.nc_rules.specs.Driver.{DriverState, in_hand, next_of, next_act, is_script, done, done_moves}
 use Rattle.nc_rules.specs.Flat.{all_marks}
-use Rattle.nc_rules.specs.MachineLaws.{SameShape}
+use Rattle.nc_calls.specs.MachineLaws.{SameShape}
 use Rattle.nc_rules.specs.Next.{step_seen}
-use Rattle.nc_rules.specs.Scripts.{NextIsThere, is_act}
+use Rattle.nc_scripts.specs.Scripts.{NextIsThere, is_act}
 use Rattle.nc_rules.specs.Sound.{IsMachine, OpIsThere}
 use Rattle.nc_rules.specs.Told.{op_told}
 use Rattle.nc_rules.specs.Watched.{op_touch}
 use Rattle.nc_rules.specs.World.{WorldState, driver_of, owners_moved}
-use Rattle.nc_rules.proofs.SoundIssue.{sound_issue}
-use Rattle.nc_rules.proofs.SoundSteps.{sound_claim, shape_claim, sound_take, shape_take}
-use Rattle.nc_rules.proofs.SoundWith.{shape_same}
+use Rattle.nc_calls.proofs.SoundIssue.{sound_issue}
+use Rattle.nc_calls.proofs.SoundSteps.{sound_claim, shape_claim, sound_take, shape_take}
+use Rattle.nc_calls.proofs.SoundWith.{shape_same}
 use Rattle.nc_flat.specs.Invariant.{mark_step, mail_step, buffer_at}
 use Rattle.nc_flat.proofs.CacheEvents.{SameMemory}
 use Rattle.nc_flat.proofs.Pushes.{pushes_issued}

@@ -19,7 +19,7 @@ use Rattle.nc_rules.specs.Next.{performed, counted, next}
 use Rattle.nc_rules.specs.Run.{after}
 use Rattle.nc_rules.specs.Told.{recorded, told}
 use Rattle.nc_rules.specs.World.{WorldState, driver_of}
-use Rattle.nc_rules.proofs.DriverLaws.{drivers_stay}
+use Rattle.nc_scripts.proofs.DriverLaws.{drivers_stay}
 use Rattle.nc_flat.specs.Invariant.{Inv}
 use Rattle.nc_flat.proofs.Steps.{Before}
 use Rattle.nc_flat.specs.Laws.{IsTouch, EventGoes, EachEventIsFlat}

@@ -19,13 +19,13 @@ use Rattle.nc_rules.specs.Operations.{Fixed, buffer_of}
 use Rattle.nc_rules.specs.Driver.{DriverState, in_hand, started, start_moves}
 use Rattle.nc_rules.specs.Events.{may_go_on}
 use Rattle.nc_rules.specs.Flat.{all_marks}
-use Rattle.nc_rules.specs.MachineLaws.{SameShape}
+use Rattle.nc_calls.specs.MachineLaws.{SameShape}
 use Rattle.nc_rules.specs.Next.{step_machine, step_driver, step_moves, step_touch}
-use Rattle.nc_rules.specs.Scripts.{IsDriver, IsDriven, StaysDriver}
+use Rattle.nc_scripts.specs.Scripts.{IsDriver, IsDriven, StaysDriver}
 use Rattle.nc_rules.specs.Sound.{IsMachine}
 use Rattle.nc_rules.specs.Told.{act_told}
 use Rattle.nc_rules.specs.World.{WorldState, driver_of, owners_moved}
-use Rattle.nc_rules.proofs.SoundWith.{shape_same}
+use Rattle.nc_calls.proofs.SoundWith.{shape_same}
 use Rattle.nc_flat.specs.Invariant.{Flatness, Drives, buffer_at}
 use Rattle.nc_flat.proofs.CacheEvents.{SameMemory, flat_devices}
 use Rattle.nc_flat.proofs.Frames.{DriversMove, drivers_set}

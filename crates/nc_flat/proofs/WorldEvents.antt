@@ -28,9 +28,9 @@ use Rattle.nc_rules.specs.Next.{touched_by, step_machine, step_driver, step_touc
 use Rattle.nc_rules.specs.Told.{touch_told, act_told, moves_told, step_told, transfers_told, answer_told, entry_told, drain_told, read_told, write_told}
 use Rattle.nc_rules.specs.Watched.{owner_of, drain_touch, transaction_touch}
 use Rattle.nc_rules.specs.World.{WorldState, driver_of, with_machine, with_driver, with_moves}
-use Rattle.nc_rules.specs.MachineLaws.{SameShape}
+use Rattle.nc_calls.specs.MachineLaws.{SameShape}
 use Rattle.nc_rules.specs.Sound.{IsMachine}
-use Rattle.nc_rules.proofs.SoundSteps.{sound_chan_read, shape_chan_read, sound_chan_write, shape_chan_write}
+use Rattle.nc_calls.proofs.SoundSteps.{sound_chan_read, shape_chan_read, sound_chan_write, shape_chan_write}
 use Rattle.nc_flat.specs.Laws.{IsTouch, GoesTo, EventGoes}
 use Rattle.nc_flat.specs.Invariant.{Inv}
 use Rattle.nc_flat.proofs.CacheEvents.{SameMemory, flat_fill, flat_evict, flat_devices}

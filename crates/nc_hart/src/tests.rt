@@ -55,7 +55,9 @@ fn fence_then_load(rt: HostRuntime) {
         kind: MemType::Io,
     };
     give_fence(&rt, &mut hart, 1, 2);
+    assert!(rt; *hart.last() == Bytes::of(b""));
     hart.loaded(Bytes::of(b"\x07\x08"));
+    assert!(rt; *hart.last() == Bytes::of(b"\x07\x08"));
     give(
         &rt,
         &mut hart,

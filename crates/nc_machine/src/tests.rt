@@ -266,6 +266,8 @@ fn a_load_sees_its_own_store_first(rt: HostRuntime) -> Result<(), NoMemory> {
     let mut bench = Bench::new(rt.alloc())?;
     bench.store(&rt, ZERO, 0, 0x11, MemType::Pma);
     bench.load(&rt, ZERO, FIRST, MemType::Pma, (b"\x11", &[]));
+    assert_eq!(rt; bench.machine.last(ZERO).as_slice(), b"\x11".as_slice());
+    assert_eq!(rt; bench.machine.last(ONE).as_slice(), b"".as_slice());
     assert_eq!(rt; bench.machine.bytes(FIRST).as_slice(), b"\0".as_slice());
     let from = Origin::Mem(block(b""));
     let own = BusRec::Own {
@@ -413,6 +415,9 @@ fn a_register_store_claims_and_releases(rt: HostRuntime) -> Result<(), NoMemory>
     bench.drain(&rt, ONE, 0, Some(&[]));
     assert_eq!(rt; bench.machine.grantee(C), Some(ONE));
     bench.control(&rt, ONE, 1);
+    assert_eq!(rt; bench.machine.register(C, 0x000, 4), 1);
+    assert_eq!(rt; bench.machine.register(C, 0x001, 4), 0);
+    bench.machine.sound();
     // a store by another hart leaves the grant
     bench.set(&rt, ZERO, 0, 4, 1);
     bench.drain(&rt, ZERO, 0, Some(&[]));

@@ -1,6 +1,6 @@
 //! What no clause says: a copy between a bounced source and a direct destination, worked by hand.
 
-use crate::{CopyStep, copy_plan};
+use crate::{CopyStep, copy_plan, transfer_plan};
 use nc_env::CboOp;
 use nc_num::{Block, ChanNo, Dir, MemType, Span};
 use nc_plan::{Effects, HartOp, IoTarget, Part, Payload};
@@ -92,4 +92,9 @@ fn from_a_slot_to_whole_blocks(rt: HostRuntime) {
         full(),
     ];
     assert!(rt; plan.get(16..) == Some(rest.as_slice()));
+    let Ok(transfer) = transfer_plan(rt.alloc(), ChanNo(2), src, dst, 0x6600_0000) else {
+        assert!(rt; false);
+        return;
+    };
+    assert!(rt; rest.get(6..13) == Some(transfer.as_slice()));
 }

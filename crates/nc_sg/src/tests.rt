@@ -1,6 +1,6 @@
 //! What no clause says: a list of three entries of which two merge and one bounces, worked by hand.
 
-use crate::{Segment, SgList, segments_keep_the_bytes};
+use crate::{Entry, SegList, Segment, SgList, device, segments_keep_the_bytes};
 use nc_num::{Dir, Span};
 use nc_plan::Part;
 
@@ -48,11 +48,25 @@ fn two_merge_and_one_bounces(rt: HostRuntime) {
         return;
     };
     assert!(rt; segments.as_slice() == merged.as_slice());
+    assert!(rt; list.seg_list(32768) == SegList::of(&merged));
+    assert_eq!(rt; list.segment(32768, 1), Some(merged[1]));
+    assert_eq!(rt; list.segment(32768, 2), None);
+    let bounced = Entry {
+        span: spans[2],
+        bounced: true,
+        slot: Some(1),
+    };
+    assert!(rt; list.entries().get(2) == Some(&bounced));
+    assert!(rt; device(32768, &bounced) == lent[2].device);
     let Ok(slots) = list.unwind() else {
         assert!(rt; false);
         return;
     };
     assert!(rt; slots.as_slice() == [1].as_slice());
+    assert_eq!(rt; list.next_bounced(), Some(2));
+    list.got(0);
+    assert_eq!(rt; list.next_bounced(), None);
+    list.forget();
     assert_eq!(rt; list.next_bounced(), Some(2));
 }
 

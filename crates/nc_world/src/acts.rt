@@ -5,7 +5,7 @@ ghost use Rattle.std.specs.List.{list_all};
 ghost use Rattle.nc_cache.specs.Cache.{line_at, held_by};
 ghost use Rattle.nc_rules.specs.Calls.{may_issue, issue_answer, leaving, drain_next, drain_transfers, may_fill, fill_next, fill_answer, evict_next, evict_answer, chan_read_next, chan_read_told, chan_write_next, chan_write_told};
 ghost use Rattle.nc_rules.specs.Events.{is_over, is_idle_step};
-ghost use Rattle.nc_rules.specs.MachineLaws.{SameShape};
+ghost use Rattle.nc_calls.specs.MachineLaws.{SameShape};
 ghost use Rattle.nc_rules.specs.Next.{seen_of, step_seen, step_machine};
 ghost use Rattle.nc_rules.specs.Sound.{IsMachine, IsBlockIn, EntryIsThere};
 ghost use Rattle.nc_log.specs.Logs.{HasPlace, EntryHasPlace, ActedHasPlaces};
@@ -13,19 +13,13 @@ ghost use Rattle.nc_world.specs.Looks.{IsTransactionIn};
 ghost use Rattle.nc_world.specs.Steps.{OpFits, NextFits, CanAct, acted};
 
 use nc_cache::BusList;
+use nc_calls::calls_keep_shape;
 use nc_machine::{Issued, Machine};
 use nc_num::{Block, ChanNo, HartNo};
 use nc_pdma::ChanStep;
 use nc_plan::HartOp;
 use nc_queue::Entry;
-use nc_rules::{Next, Seen, calls_keep_shape};
-
-/// What holds of every machine.
-pub(crate) fn sound(machine: &Machine)
-    ensures { IsMachine machine.now.machine }
-{
-    let _control = machine.control(ChanNo(0));
-}
+use nc_rules::{Next, Seen};
 
 /// Whether a transfer is over, by the channel's Control: bit 30 (done) or bit 31 (error) is set.
 pub(crate) fn is_over(control: u32) -> bool
@@ -36,14 +30,10 @@ pub(crate) fn is_over(control: u32) -> bool
 
 // ---- a driver's step
 
-/// What hart h's next step sees: what a register holds, whom a channel is granted to, or Control. The machine stays as it
-/// is.
-pub(crate) fn seen(machine: &mut Machine, h: HartNo, next: &Next) -> Seen
-    requires hart { h.0 < length machine.old.machine.harts }
-    requires there { NextFits machine.old.machine h.0 next.now }
-    requires can { CanAct machine.old.machine h.0 next.now }
-    ensures saw { result ≡ step_seen machine.old.machine h next.now }
-    ensures same { machine.new.machine ≡ machine.old.machine }
+/// What hart h's next step sees: what a register holds, whom a channel is granted to, or Control.
+pub(crate) fn seen(machine: &Machine, h: HartNo, next: &Next) -> Seen
+    requires { NextFits machine.now.machine h.0 next.now }
+    ensures { result ≡ step_seen machine.now.machine h next.now }
 {
     match next {
         Next::Op(op) => seen_by(machine, h, op),
@@ -56,26 +46,14 @@ pub(crate) fn seen(machine: &mut Machine, h: HartNo, next: &Next) -> Seen
     }
 }
 
-/// What a hart's operation shows its driver.
-#[tactic(auto, unfolding(nc_rules::specs::Calls::issue_next))]
-fn seen_by(machine: &mut Machine, h: HartNo, op: &HartOp) -> Seen
-    requires hart { h.0 < length machine.old.machine.harts }
-    requires there { OpFits machine.old.machine h.0 op.now }
-    requires can { IsTrue (may_issue machine.old.machine h.0 op.now) }
-    ensures saw { result ≡ seen_of (issue_answer machine.old.machine h.0 op.now) }
-    ensures same { machine.new.machine ≡ machine.old.machine }
+/// What a hart's operation shows its driver: a load of a register its value, another nothing.
+fn seen_by(machine: &Machine, h: HartNo, op: &HartOp) -> Seen
+    requires { OpFits machine.now.machine h.0 op.now }
+    ensures { result ≡ seen_of (issue_answer machine.now.machine h.0 op.now) }
 {
     match op {
         HartOp::IoLoad { chan, off, width } => {
-            let load = HartOp::IoLoad {
-                chan: *chan,
-                off: *off,
-                width: *width,
-            };
-            match machine.issue(h, load) {
-                Issued::Value(value) => Seen::Value(value),
-                _ => unreachable!(),
-            }
+            Seen::Value(machine.register(*chan, *off, *width))
         }
         HartOp::Load { .. }
         | HartOp::Store { .. }
@@ -99,7 +77,7 @@ pub(crate) fn act(machine: &mut Machine, h: HartNo, next: &Next) -> Option<Issue
     ensures shape { SameShape machine.old.machine machine.new.machine }
 {
     calls_keep_shape();
-    sound(machine);
+    machine.sound();
     match next {
         Next::Op(op) => Some(machine.issue(h, *op)),
         Next::Claim(chan) => {
@@ -139,7 +117,7 @@ pub(crate) fn drain(machine: &mut Machine, h: HartNo, i: u8) -> Option<(Entry, B
     ensures shape { SameShape machine.old.machine machine.new.machine }
 {
     calls_keep_shape();
-    sound(machine);
+    machine.sound();
     machine.drain(h, i)
 }
 
@@ -157,7 +135,7 @@ pub(crate) fn fill(machine: &mut Machine, h: HartNo, b: Block) -> Option<BusList
     ensures shape { SameShape machine.old.machine machine.new.machine }
 {
     calls_keep_shape();
-    sound(machine);
+    machine.sound();
     machine.fill(h, b)
 }
 
@@ -174,7 +152,7 @@ pub(crate) fn evict(machine: &mut Machine, h: HartNo, b: Block) -> Option<BusLis
     ensures shape { SameShape machine.old.machine machine.new.machine }
 {
     calls_keep_shape();
-    sound(machine);
+    machine.sound();
     machine.evict(h, b)
 }
 
@@ -188,7 +166,7 @@ pub(crate) fn chan_read(machine: &mut Machine, c: ChanNo) -> ChanStep
     ensures shape { SameShape machine.old.machine machine.new.machine }
 {
     calls_keep_shape();
-    sound(machine);
+    machine.sound();
     machine.chan_read(c)
 }
 
@@ -202,7 +180,7 @@ pub(crate) fn chan_write(machine: &mut Machine, c: ChanNo) -> ChanStep
     ensures shape { SameShape machine.old.machine machine.new.machine }
 {
     calls_keep_shape();
-    sound(machine);
+    machine.sound();
     machine.chan_write(c)
 }
 

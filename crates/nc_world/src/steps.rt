@@ -4,7 +4,7 @@ ghost use Rattle.std.specs.Prelude.{◌≡◌, ◌≤◌, ◌<◌, ◌+◌, true
 ghost use Rattle.nc_rules.specs.declared.steps.Next.TheVariants as nexts;
 ghost use Rattle.nc_rules.specs.Driver as due;
 ghost use Rattle.nc_rules.specs.Events.{is_idle_step};
-ghost use Rattle.nc_rules.specs.Scripts.{is_act, IsRangeIn};
+ghost use Rattle.nc_scripts.specs.Scripts.{is_act, IsRangeIn};
 ghost use Rattle.nc_rules.specs.World.{no_driver, owners_moved, one_more};
 ghost use Rattle.nc_moves.specs.Shown.{seen_as};
 ghost use Rattle.nc_world.specs.Looks.{touches_after, IsTransactionIn, transaction_touch_in};

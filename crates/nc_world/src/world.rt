@@ -11,7 +11,7 @@ ghost use Rattle.nc_rules.specs.Calls.{leaving};
 ghost use Rattle.nc_rules.specs.Driver.{next_of, left_op, searching, is_script};
 ghost use Rattle.nc_rules.specs.Events.{may_go_on};
 ghost use Rattle.nc_rules.specs.Lines.{at_end};
-ghost use Rattle.nc_rules.specs.MachineLaws.{SameShape};
+ghost use Rattle.nc_calls.specs.MachineLaws.{SameShape};
 ghost use Rattle.nc_rules.specs.Next.{next, step_touch};
 ghost use Rattle.nc_rules.specs.Sound.{IsMachine, OpIsThere, IsBlockIn, IsPieceIn};
 ghost use Rattle.nc_rules.specs.Told.{told};
@@ -186,7 +186,12 @@ impl World {
     {
         match self.coming(h) {
             Next::Search(k) => Some(k),
-            _ => None,
+            Next::End
+            | Next::Start
+            | Next::Op(_)
+            | Next::Claim(_)
+            | Next::Poll(_)
+            | Next::Take(_) => None,
         }
     }
 
@@ -229,7 +234,7 @@ impl World {
         ensures some { 1 ≤ result }
         ensures few { result ≤ 4 }
     {
-        acts::sound(&self.machine);
+        self.machine.sound();
         self.drivers.len() as u8
     }
 
@@ -254,7 +259,7 @@ impl World {
         ensures machine { IsMachine self.now.at.machine }
         ensures world { IsWorld self.now.at }
     {
-        acts::sound(&self.machine);
+        self.machine.sound();
     }
 
     /// What the driver of hart h does next.
@@ -362,7 +367,14 @@ impl World {
                     ..
                 },
             ) => register_touch(h, chan, off, width, self.machine.grantee(chan)),
-            _ => None,
+            Some(
+                Entry::Store { .. }
+                | Entry::Cbo { .. }
+                | Entry::Mail { .. }
+                | Entry::Lend { .. }
+                | Entry::Mark { .. },
+            )
+            | None => None,
         }
     }
 
@@ -394,7 +406,7 @@ impl World {
         match next {
             Next::Op(op) => self.issue_touch(h, op),
             Next::Poll(c) => register_touch(h, *c, CONTROL, 4, self.machine.grantee(*c)),
-            _ => None,
+            Next::End | Next::Start | Next::Search(_) | Next::Claim(_) | Next::Take(_) => None,
         }
     }
 
@@ -432,7 +444,7 @@ impl World {
         let touch = self.step_touch(h, &next);
         let n = self.number(h);
         let by_script = self.is_script(h);
-        let saw = acts::seen(&mut self.machine, h, &next);
+        let saw = acts::seen(&self.machine, h, &next);
         steps::reserve(&mut self.machine, &mut self.book, &mut self.log)?;
         let moves = steps::go_on(&mut self.drivers, h, &next, saw, &self.book, &self.pages)?;
         let acted = acts::act(&mut self.machine, h, &next);

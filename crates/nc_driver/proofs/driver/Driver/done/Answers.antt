@@ -1,6 +1,6 @@
 use Rattle.std.proofs.Common.{ap, ◌∙◌}
 use Rattle.nc_rules.specs.Driver.{DriverState}
-use Rattle.nc_rules.proofs.DriverLaws.{done_in_fixed}
+use Rattle.nc_scripts.proofs.DriverLaws.{done_in_fixed}
 use Rattle.nc_driver.proofs.driver.Driver.done.Goals as goal
 
 pub returns-clause-fixed : goal.returns-clause-fixed

@@ -1,6 +1,6 @@
 use Rattle.std.proofs.Common.{◌∙◌, sym, subst}
-use Rattle.nc_rules.specs.MachineLaws.{SameShape}
-use Rattle.nc_rules.proofs.SoundSteps.{shape_claim}
+use Rattle.nc_calls.specs.MachineLaws.{SameShape}
+use Rattle.nc_calls.proofs.SoundSteps.{shape_claim}
 use Rattle.nc_machine.proofs.tests.Bench.claim.Goals as goal
 
 pub invariant_of-self : goal.invariant_of-self

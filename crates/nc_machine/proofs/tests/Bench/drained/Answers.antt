@@ -1,6 +1,6 @@
 use Rattle.std.proofs.Common.{◌<◌, ◌∙◌, sym, subst, length, arith}
-use Rattle.nc_rules.specs.MachineLaws.{SameShape}
-use Rattle.nc_rules.proofs.SoundDrain.{shape_drain}
+use Rattle.nc_calls.specs.MachineLaws.{SameShape}
+use Rattle.nc_calls.proofs.SoundDrain.{shape_drain}
 use Rattle.nc_machine.proofs.tests.Bench.drained.Goals as goal
 
 pub invariant_of-self : goal.invariant_of-self

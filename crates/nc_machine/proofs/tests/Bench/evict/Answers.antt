@@ -1,7 +1,7 @@
 use Rattle.std.proofs.Common.{◌<◌, ◌∙◌, sym, subst, length, arith}
-use Rattle.nc_rules.specs.MachineLaws.{SameShape}
+use Rattle.nc_calls.specs.MachineLaws.{SameShape}
 use Rattle.nc_rules.specs.Sound.{IsBlockIn}
-use Rattle.nc_rules.proofs.SoundSteps.{shape_evict}
+use Rattle.nc_calls.proofs.SoundSteps.{shape_evict}
 use Rattle.nc_machine.proofs.tests.Bench.evict.Goals as goal
 
 pub invariant_of-self : goal.invariant_of-self

@@ -1,9 +1,9 @@
 use Rattle.std.proofs.Common.{◌≡◌, ◌<◌, ◌∙◌, ap, sym, subst, length, arith}
 use Rattle.nc_rules.specs.Machine.{MachineState}
 use Rattle.nc_rules.specs.Calls.{fill_next}
-use Rattle.nc_rules.specs.MachineLaws.{SameShape}
+use Rattle.nc_calls.specs.MachineLaws.{SameShape}
 use Rattle.nc_rules.specs.Sound.{IsBlockIn, IsMachine}
-use Rattle.nc_rules.proofs.SoundSteps.{shape_fill}
+use Rattle.nc_calls.proofs.SoundSteps.{shape_fill}
 use Rattle.nc_machine.proofs.tests.Bench.fill.Goals as goal
 
 pub invariant_of-self : goal.invariant_of-self

@@ -1,9 +1,9 @@
 use Rattle.std.proofs.Common.{◌≡◌, ◌<◌, ◌∙◌, ap, sym, subst, length, arith}
 use Rattle.nc_rules.specs.Machine.{MachineState}
 use Rattle.nc_rules.specs.Calls.{issue_next}
-use Rattle.nc_rules.specs.MachineLaws.{SameShape}
+use Rattle.nc_calls.specs.MachineLaws.{SameShape}
 use Rattle.nc_rules.specs.Sound.{IsMachine}
-use Rattle.nc_rules.proofs.SoundIssue.{shape_issue}
+use Rattle.nc_calls.proofs.SoundIssue.{shape_issue}
 use Rattle.nc_machine.proofs.tests.Bench.issue.Goals as goal
 
 pub invariant_of-self : goal.invariant_of-self

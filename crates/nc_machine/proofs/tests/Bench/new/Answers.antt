@@ -4,7 +4,7 @@ use Rattle.std.proofs.lemmas.List.{length-replicate}
 use Rattle.nc_num.specs.declared.names.HartNo.{HartNo}
 use Rattle.nc_rules.specs.Machine.{MachineState, fresh_hart}
 use Rattle.nc_rules.specs.Start.{first_machine}
-use Rattle.nc_rules.proofs.SoundStart.{length-memory}
+use Rattle.nc_calls.proofs.SoundStart.{length-memory}
 use Rattle.nc_machine.proofs.tests.Bench.new.Goals as goal
 
 pub invariant_of-result : goal.invariant_of-result

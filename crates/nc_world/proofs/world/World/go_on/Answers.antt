@@ -10,9 +10,9 @@ use Rattle.nc_rules.specs.declared.steps.Seen.{Seen}
 use Rattle.nc_rules.specs.Driver.{Moved, next_of, is_script}
 use Rattle.nc_rules.specs.Events.{may_go_on}
 use Rattle.nc_rules.specs.Machine.{MachineState}
-use Rattle.nc_rules.specs.MachineLaws.{SameShape}
+use Rattle.nc_calls.specs.MachineLaws.{SameShape}
 use Rattle.nc_rules.specs.Next.{step_touch}
-use Rattle.nc_rules.specs.Scripts.{IsRangeIn}
+use Rattle.nc_scripts.specs.Scripts.{IsRangeIn}
 use Rattle.nc_rules.specs.Told.{touch_told, moves_told, told}
 use Rattle.nc_rules.specs.World.{driver_of}
 use Rattle.nc_moves.specs.Shown.{seen_as}
@@ -46,7 +46,7 @@ invariant_of-self-2 c =
     let lt : h.0 < length w.machine.harts = subst (λ (v : Shown). h.0 < length v.at.machine.harts) back c.requires in
     let coming : next_of (driver_of w h.0) ≡ n = sym (subst (λ (v : Shown). n ≡ next_of (driver_of v.at h.0)) back c.coming-next.ensures.next) in
     let may : may_go_on w h n ≡ true = sym (subst (λ (v : Shown). c.may_go_on.result ≡ may_go_on v.at h n) back c.may_go_on.ensures) ∙ c.if-not-may_go_on.false in
-    let machine : c.reserve.new.machine.machine ≡ w.machine = c.in_ok-reserve.ensures.machine ∙ c.seen-saw.ensures.same in
+    let machine : c.reserve.new.machine.machine ≡ w.machine = c.in_ok-reserve.ensures.machine in
     let owners = c.in_ok-reserve.ensures.owners in
     let shape : SameShape w.machine c.act-acted.new.machine.machine = subst (λ (m : MachineState). SameShape m c.act-acted.new.machine.machine) machine c.act-acted.ensures.shape in
     let drivers = c.in_ok-moves.ensures.driver ∙ ap (λ (os : List Owner). slice_set w.drivers h.0 (went_on (driver_of w h.0) os n saw)) owners in
@@ -69,10 +69,10 @@ returns-clause-told c =
     let touch : c.step_touch-touch.result ≡ step_touch w h n = subst (λ (v : Shown). c.step_touch-touch.result ≡ step_touch v.at h n) back c.step_touch-touch.ensures in
     let by_script : c.is_script-by_script.result ≡ is_script d.phase = subst (λ (v : Shown). c.is_script-by_script.result ≡ is_script (driver_of v.at h.0).phase) back c.is_script-by_script.ensures in
     let number : c.number-n.result ≡ d.op = subst (λ (v : Shown). c.number-n.result ≡ (driver_of v.at h.0).op) back c.number-n.ensures in
-    let machine : c.reserve.new.machine.machine ≡ w.machine = c.in_ok-reserve.ensures.machine ∙ c.seen-saw.ensures.same in
+    let machine : c.reserve.new.machine.machine ≡ w.machine = c.in_ok-reserve.ensures.machine in
     let did : c.act-acted.result ≡ acted w.machine h n = c.act-acted.ensures.answer ∙ ap (λ (m : MachineState). acted m h n) machine in
     let moves = c.in_ok-moves.ensures.moves ∙ ap (λ (os : List Owner). moves_on d os n c.seen-saw.result) c.in_ok-reserve.ensures.owners
-    ∙ ap (λ (s : Seen). moves_on d w.owners n s) c.seen-saw.ensures.saw ∙ sym (step_moves_is w h n) in
+    ∙ ap (λ (s : Seen). moves_on d w.owners n s) c.seen-saw.ensures ∙ sym (step_moves_is w h n) in
     let start = c.self.inside.log.records in
     let x = records.Event (Issue h) in
     let pushed = c.push.ensures.records ∙ ap (λ (l : List Record). l ++ x ∷ []) c.in_ok-reserve.ensures.records in
