@@ -1,5 +1,5 @@
 -- What a log of records is seen as, and what a step adds to it by what the machine answered.
-use Rattle.std.specs.Prelude.{ℕ, ◌*◌, ◌^◌, ◌<◌, Bool, List, [], ◌∷◌, ◌++◌, Option, Some, None, All}
+use Rattle.std.specs.Prelude.{ℕ, ◌*◌, ◌^◌, ◌<◌, Bool, List, [], ◌∷◌, ◌++◌, All}
 use Rattle.nc_num.specs.declared.names.HartNo.{HartNo}
 use Rattle.nc_cache.specs.declared.line.BusRec.{BusRec}
 use Rattle.nc_cache.specs.declared.line.BusRec.TheVariants as bus
@@ -13,8 +13,6 @@ use Rattle.nc_rules.specs.declared.answers.Issued.{Issued}
 use Rattle.nc_rules.specs.declared.answers.Issued.TheVariants.{Loaded, Queued, Passed, Value}
 use Rattle.nc_rules.specs.declared.records.Record.{Record}
 use Rattle.nc_rules.specs.declared.records.Record.TheVariants as records
-use Rattle.nc_rules.specs.declared.steps.Next.{Next}
-use Rattle.nc_rules.specs.declared.steps.Next.TheVariants as nexts
 use Rattle.nc_rules.specs.Told.{start_of, transfers_told, load_told, store_told, mark_told}
 
 -- the records, and for how many more there is room
@@ -85,33 +83,3 @@ EntryHasPlace size (entries.Reg chan off width value) = Unit {0}
 EntryHasPlace size (entries.Mail buf to) = Unit {0}
 EntryHasPlace size (entries.Lend label first count) = Unit {0}
 EntryHasPlace size (entries.Mark pred succ) = Unit {0}
-
--- ---- a driver's step, by the machine's answer where it has one
-
-abbrev pub op_acted_told : ℕ → HartNo → Bool → HartOp → Option Issued → List Record
-op_acted_told size h by_script op None = []
-op_acted_told size h by_script op (Some i) = issued_told size h by_script op i
-
--- what is recorded of it
-abbrev pub acted_told : ℕ → HartNo → Bool → Next → Option Issued → List Record
-acted_told size h by_script (nexts.Op op) i = op_acted_told size h by_script op i
-acted_told size h by_script nexts.End i = []
-acted_told size h by_script nexts.Start i = []
-acted_told size h by_script (nexts.Search k) i = []
-acted_told size h by_script (nexts.Claim chan) i = []
-acted_told size h by_script (nexts.Poll chan) i = []
-acted_told size h by_script (nexts.Take buf) i = []
-
--- the blocks that this names start at places
-abbrev pub ActedHasPlaces : ℕ → Option Issued → Type 0
-ActedHasPlaces size None = Unit {0}
-ActedHasPlaces size (Some i) = IssuedHasPlaces size i
-
-abbrev pub NextHasPlace : ℕ → Next → Type 0
-NextHasPlace size (nexts.Op op) = OpHasPlace size op
-NextHasPlace size nexts.End = Unit {0}
-NextHasPlace size nexts.Start = Unit {0}
-NextHasPlace size (nexts.Search k) = Unit {0}
-NextHasPlace size (nexts.Claim chan) = Unit {0}
-NextHasPlace size (nexts.Poll chan) = Unit {0}
-NextHasPlace size (nexts.Take buf) = Unit {0}

@@ -4,7 +4,7 @@ ghost use Rattle.std.specs.Prelude.{◌≡◌, ◌≤◌, ◌<◌, ◌+◌, ◌*
 ghost use Rattle.nc_hart.specs.Issue.{cut as cut_of};
 ghost use Rattle.nc_rules.specs.Told as rules;
 ghost use Rattle.nc_moves.specs.Shown.{seen_as};
-ghost use Rattle.nc_log.specs.Logs.{HasPlace, OpHasPlace, NextHasPlace, IssuedHasPlaces, ActedHasPlaces, EntryHasPlace, payload_told, loaded_told, fence_told, issued_told, acted_told};
+ghost use Rattle.nc_log.specs.Logs.{HasPlace, OpHasPlace, IssuedHasPlaces, EntryHasPlace, payload_told, loaded_told, fence_told, issued_told};
 
 use crate::records::RecordList;
 use nc_cache::{BusRec, Origin};
@@ -14,7 +14,7 @@ use nc_num::{Block, Bytes, ChanNo, HartNo, NoMemory, Place, Span};
 use nc_pdma::ChanStep;
 use nc_plan::{HartOp, IoTarget, Payload};
 use nc_queue::Entry;
-use nc_rules::{Answer, Issued, Next, Record};
+use nc_rules::{Answer, Issued, Record};
 use std::alloc::Global;
 use std::marker::Model;
 
@@ -114,28 +114,8 @@ impl Log {
         }
     }
 
-    /// The machine's part of a step, by its answer.
-    pub fn acted(
-        &mut self,
-        size: u32,
-        h: HartNo,
-        by_script: bool,
-        next: &Next,
-        acted: &Option<Issued>,
-    )
-        requires block { NextHasPlace size next.now }
-        requires places { ActedHasPlaces size acted.now }
-        requires room { 7 ≤ self.old.room }
-        ensures records { self.new.records ≡ self.old.records ++ acted_told size h by_script next.now acted.now }
-        ensures room { self.old.room ≤ self.new.room + 7 }
-    {
-        if let (Next::Op(op), Some(issued)) = (next, acted) {
-            self.issued(size, h, by_script, op, issued);
-        }
-    }
-
     /// An operation that hart h issued, by the machine's answer.
-    fn issued(&mut self, size: u32, h: HartNo, by_script: bool, op: &HartOp, issued: &Issued)
+    pub fn issued(&mut self, size: u32, h: HartNo, by_script: bool, op: &HartOp, issued: &Issued)
         requires block { OpHasPlace size op.now }
         requires places { IssuedHasPlaces size issued.now }
         requires room { 7 ≤ self.old.room }
@@ -363,7 +343,9 @@ fn fence_told(hart: HartNo, pred: u8, succ: u8, issued: &Issued) -> Record
 {
     match issued {
         Issued::Queued => mark_told(hart, pred, succ),
-        _ => Record::Fence { hart, pred, succ },
+        Issued::Passed | Issued::Loaded { .. } | Issued::Value(_) => {
+            Record::Fence { hart, pred, succ }
+        }
     }
 }
 

@@ -21,8 +21,8 @@ use Rattle.nc_rules.specs.Next.{step_driver, step_moves, step_seen, step_touch}
 use Rattle.nc_rules.specs.Sound.{IsMachine, OpIsThere}
 use Rattle.nc_rules.specs.Told.{op_told, act_told, mark_told, store_told, touch_told, moves_told, step_told, recorded, told}
 use Rattle.nc_rules.specs.World.{WorldState, driver_of}
-use Rattle.nc_log.specs.Logs.{OpHasPlace, NextHasPlace, IssuedHasPlaces, ActedHasPlaces, payload_told, fence_told, issued_told, acted_told}
-use Rattle.nc_world.specs.Steps.{IsGivenPayload, IsGiven, NextFits, CanAct, acted, is_going, went_on, moves_on}
+use Rattle.nc_log.specs.Logs.{OpHasPlace, IssuedHasPlaces, payload_told, fence_told, issued_told}
+use Rattle.nc_world.specs.Steps.{IsGivenPayload, IsGiven, NextFits, CanAct, machine_told, is_going, went_on, moves_on}
 use Rattle.nc_world.proofs.Transfers.{load_places, block_small}
 
 -- ---- what is recorded
@@ -45,14 +45,14 @@ op_told_is m h by_script (IoLoad chan off width) given = refl
 op_told_is m h by_script (IoStore target) given = refl
 op_told_is m h by_script (Mark pred succ) given = refl
 
-pub act_told_is : (w : WorldState) (h : HartNo) (n : Next) → NextFits w.machine h.0 n → act_told w h n ≡ acted_told w.machine.size h (is_script (driver_of w h.0).phase) n (acted w.machine h n)
-act_told_is w h nexts.End fits = refl
-act_told_is w h nexts.Start fits = refl
-act_told_is w h (nexts.Search k) fits = refl
-act_told_is w h (nexts.Op op) fits = op_told_is w.machine h (is_script (driver_of w h.0).phase) op fits.given
-act_told_is w h (nexts.Claim chan) fits = refl
-act_told_is w h (nexts.Poll chan) fits = refl
-act_told_is w h (nexts.Take buf) fits = refl
+pub act_told_is : (w : WorldState) (h : HartNo) (n : Next) → act_told w h n ≡ machine_told w.machine h (is_script (driver_of w h.0).phase) n
+act_told_is w h nexts.End = refl
+act_told_is w h nexts.Start = refl
+act_told_is w h (nexts.Search k) = refl
+act_told_is w h (nexts.Op op) = refl
+act_told_is w h (nexts.Claim chan) = refl
+act_told_is w h (nexts.Poll chan) = refl
+act_told_is w h (nexts.Take buf) = refl
 
 -- ---- the places that it names
 
@@ -69,16 +69,7 @@ issued_places m h (IoLoad chan off width) is there = tt
 issued_places m h (IoStore target) is there = tt
 issued_places m h (Mark pred succ) is there = tt
 
-pub acted_places : (m : MachineState) (h : HartNo) (n : Next) → IsMachine m → NextFits m h.0 n → ActedHasPlaces m.size (acted m h n)
-acted_places m h nexts.End is fits = tt
-acted_places m h nexts.Start is fits = tt
-acted_places m h (nexts.Search k) is fits = tt
-acted_places m h (nexts.Op op) is fits = issued_places m h op is fits.there
-acted_places m h (nexts.Claim chan) is fits = tt
-acted_places m h (nexts.Poll chan) is fits = tt
-acted_places m h (nexts.Take buf) is fits = tt
-
-op_place : (m : MachineState) (h : HartNo) (op : HartOp) → IsMachine m → OpIsThere m h.0 op → OpHasPlace m.size op
+pub op_place : (m : MachineState) (h : HartNo) (op : HartOp) → IsMachine m → OpIsThere m h.0 op → OpHasPlace m.size op
 op_place m h (Load span kind) is there = tt
 op_place m h (Store span kind bytes) is there = tt
 op_place m h (Cbo op block) is there = block_small m block.0 is there
@@ -86,15 +77,6 @@ op_place m h (Fence pred succ) is there = tt
 op_place m h (IoLoad chan off width) is there = tt
 op_place m h (IoStore target) is there = tt
 op_place m h (Mark pred succ) is there = tt
-
-pub next_place : (m : MachineState) (h : HartNo) (n : Next) → IsMachine m → NextFits m h.0 n → NextHasPlace m.size n
-next_place m h nexts.End is fits = tt
-next_place m h nexts.Start is fits = tt
-next_place m h (nexts.Search k) is fits = tt
-next_place m h (nexts.Op op) is fits = op_place m h op is fits.there
-next_place m h (nexts.Claim chan) is fits = tt
-next_place m h (nexts.Poll chan) is fits = tt
-next_place m h (nexts.Take buf) is fits = tt
 
 -- ---- a step that may be made
 

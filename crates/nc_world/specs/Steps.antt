@@ -7,14 +7,15 @@ use Rattle.nc_plan.specs.declared.ops.HartOp.{HartOp}
 use Rattle.nc_plan.specs.declared.ops.HartOp.TheVariants.{Load, Store, Cbo, Fence, IoLoad, IoStore, Mark}
 use Rattle.nc_plan.specs.declared.ops.Payload.{Payload}
 use Rattle.nc_plan.specs.declared.ops.Payload.TheVariants.{Given, Last}
-use Rattle.nc_rules.specs.declared.answers.Issued.{Issued}
+use Rattle.nc_rules.specs.declared.records.Record.{Record}
 use Rattle.nc_rules.specs.declared.steps.Next.{Next}
 use Rattle.nc_rules.specs.declared.steps.Next.TheVariants as nexts
 use Rattle.nc_rules.specs.declared.steps.Seen.{Seen}
-use Rattle.nc_rules.specs.Calls.{may_issue, issue_answer}
+use Rattle.nc_rules.specs.Calls.{may_issue}
 use Rattle.nc_rules.specs.Driver.{DriverState, Moved, moved, started, start_moves, done, done_moves}
 use Rattle.nc_rules.specs.Machine.{MachineState}
 use Rattle.nc_rules.specs.Sound.{OpIsThere}
+use Rattle.nc_rules.specs.Told.{op_told}
 
 -- ---- the machine's part
 
@@ -56,15 +57,15 @@ CanAct m h (nexts.Claim chan) = Unit {0}
 CanAct m h (nexts.Poll chan) = Unit {0}
 CanAct m h (nexts.Take buf) = Unit {0}
 
--- the machine's answer to an operation
-abbrev pub acted : MachineState → HartNo → Next → Option Issued
-acted m h (nexts.Op op) = Some (issue_answer m h.0 op)
-acted m h nexts.End = None
-acted m h nexts.Start = None
-acted m h (nexts.Search k) = None
-acted m h (nexts.Claim chan) = None
-acted m h (nexts.Poll chan) = None
-acted m h (nexts.Take buf) = None
+-- what is recorded of the machine's part
+abbrev pub machine_told : MachineState → HartNo → Bool → Next → List Record
+machine_told m h by_script (nexts.Op op) = op_told m h by_script op
+machine_told m h by_script nexts.End = []
+machine_told m h by_script nexts.Start = []
+machine_told m h by_script (nexts.Search k) = []
+machine_told m h by_script (nexts.Claim chan) = []
+machine_told m h by_script (nexts.Poll chan) = []
+machine_told m h by_script (nexts.Take buf) = []
 
 -- ---- the driver's part
 

@@ -1,20 +1,22 @@
 //! The machine's calls, with what holds of the machine before them and what they keep of its shape.
 
-ghost use Rattle.std.specs.Prelude.{◌≡◌, ◌≤◌, ◌<◌, ◌==◌, true, false, length, All, IsTrue, IfNone, IfSome, Some, None};
+ghost use Rattle.std.specs.Prelude.{◌≡◌, ◌≤◌, ◌<◌, ◌+◌, ◌==◌, ◌++◌, true, false, length, All, IsTrue, IfNone, IfSome, Some, None};
 ghost use Rattle.std.specs.List.{list_all};
 ghost use Rattle.nc_cache.specs.Cache.{line_at, held_by};
-ghost use Rattle.nc_rules.specs.Calls.{may_issue, issue_answer, leaving, drain_next, drain_transfers, may_fill, fill_next, fill_answer, evict_next, evict_answer, chan_read_next, chan_read_told, chan_write_next, chan_write_told};
+ghost use Rattle.nc_rules.specs.Calls.{may_issue, issue_next, issue_answer, leaving, drain_next, drain_transfers, may_fill, fill_next, fill_answer, evict_next, evict_answer, chan_read_next, chan_read_told, chan_write_next, chan_write_told};
 ghost use Rattle.nc_rules.specs.Events.{is_over, is_idle_step};
 ghost use Rattle.nc_calls.specs.MachineLaws.{SameShape};
 ghost use Rattle.nc_rules.specs.Next.{seen_of, step_seen, step_machine};
 ghost use Rattle.nc_rules.specs.Sound.{IsMachine, IsBlockIn, EntryIsThere};
-ghost use Rattle.nc_log.specs.Logs.{HasPlace, EntryHasPlace, ActedHasPlaces};
+ghost use Rattle.nc_rules.specs.Told.{op_told};
+ghost use Rattle.nc_log.specs.Logs.{HasPlace, EntryHasPlace};
 ghost use Rattle.nc_world.specs.Looks.{IsTransactionIn};
-ghost use Rattle.nc_world.specs.Steps.{OpFits, NextFits, CanAct, acted};
+ghost use Rattle.nc_world.specs.Steps.{OpFits, NextFits, CanAct, machine_told};
 
 use nc_cache::BusList;
 use nc_calls::calls_keep_shape;
-use nc_machine::{Issued, Machine};
+use nc_log::Log;
+use nc_machine::Machine;
 use nc_num::{Block, ChanNo, HartNo};
 use nc_pdma::ChanStep;
 use nc_plan::HartOp;
@@ -64,32 +66,55 @@ fn seen_by(machine: &Machine, h: HartNo, op: &HartOp) -> Seen
     }
 }
 
-/// The machine's part of a step that hart h's driver makes: an operation, a claim or a take, with the answer of an
-/// operation.
-pub(crate) fn act(machine: &mut Machine, h: HartNo, next: &Next) -> Option<Issued>
+/// The machine's part of a step that hart h's driver makes, and its records: an operation, a claim or a take.
+pub(crate) fn act(
+    machine: &mut Machine,
+    log: &mut Log,
+    size: u32,
+    h: HartNo,
+    by_script: bool,
+    next: &Next,
+)
+    requires size { size ≡ machine.old.machine.size }
     requires hart { h.0 < length machine.old.machine.harts }
     requires there { NextFits machine.old.machine h.0 next.now }
     requires can { CanAct machine.old.machine h.0 next.now }
     requires spare { 1 ≤ machine.old.spare }
+    requires room { 7 ≤ log.old.room }
     ensures state { machine.new.machine ≡ step_machine machine.old.machine h next.now }
-    ensures answer { result ≡ acted machine.old.machine h next.now }
-    ensures places { ActedHasPlaces machine.old.machine.size result }
     ensures shape { SameShape machine.old.machine machine.new.machine }
+    ensures records { log.new.records ≡ log.old.records ++ machine_told machine.old.machine h by_script next.now }
+    ensures room { log.old.room ≤ log.new.room + 7 }
 {
     calls_keep_shape();
     machine.sound();
     match next {
-        Next::Op(op) => Some(machine.issue(h, *op)),
+        Next::Op(op) => issue(machine, log, size, h, by_script, op),
         Next::Claim(chan) => {
             let _ = machine.claim(h, *chan);
-            None
         }
         Next::Take(buf) => {
             machine.take(h, *buf);
-            None
         }
-        Next::End | Next::Start | Next::Search(_) | Next::Poll(_) => None,
+        Next::End | Next::Start | Next::Search(_) | Next::Poll(_) => {}
     }
+}
+
+/// Hart h issues an operation, which is recorded.
+fn issue(machine: &mut Machine, log: &mut Log, size: u32, h: HartNo, by_script: bool, op: &HartOp)
+    requires size { size ≡ machine.old.machine.size }
+    requires hart { h.0 < length machine.old.machine.harts }
+    requires there { OpFits machine.old.machine h.0 op.now }
+    requires can { IsTrue (may_issue machine.old.machine h.0 op.now) }
+    requires spare { 1 ≤ machine.old.spare }
+    requires room { 7 ≤ log.old.room }
+    ensures state { machine.new.machine ≡ issue_next machine.old.machine h.0 op.now }
+    ensures records { log.new.records ≡ log.old.records ++ op_told machine.old.machine h by_script op.now }
+    ensures room { log.old.room ≤ log.new.room + 7 }
+{
+    machine.sound();
+    let issued = machine.issue(h, *op);
+    log.issued(size, h, by_script, op, &issued);
 }
 
 // ---- the other events

@@ -447,10 +447,16 @@ impl World {
         let saw = acts::seen(&self.machine, h, &next);
         steps::reserve(&mut self.machine, &mut self.book, &mut self.log)?;
         let moves = steps::go_on(&mut self.drivers, h, &next, saw, &self.book, &self.pages)?;
-        let acted = acts::act(&mut self.machine, h, &next);
         self.log.push(&Record::Event(Event::Issue(h)));
         self.log.touch(touch);
-        self.log.acted(self.size, h, by_script, &next, &acted);
+        acts::act(
+            &mut self.machine,
+            &mut self.log,
+            self.size,
+            h,
+            by_script,
+            &next,
+        );
         steps::turn(&mut self.book, moves.transfers.as_slice());
         self.log.moves(h, n, &moves);
         self.touches = steps::touches_after(self.touches, touch);

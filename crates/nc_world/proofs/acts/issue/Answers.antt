@@ -1,0 +1,28 @@
+use Rattle.std.proofs.Common.{ℕ, List, ◌++◌, sym, ap, ◌∙◌, subst}
+use Rattle.nc_rules.specs.declared.answers.Issued.{Issued}
+use Rattle.nc_rules.specs.declared.records.Record.{Record}
+use Rattle.nc_log.specs.Logs.{OpHasPlace, IssuedHasPlaces, issued_told}
+use Rattle.nc_world.proofs.Parts.{issued_places, op_place, op_told_is}
+use Rattle.nc_world.proofs.acts.issue.Goals as goal
+
+pub issued-requires-clause-block : goal.issued-requires-clause-block
+issued-requires-clause-block c =
+    let m = c.args.machine.now.machine in
+    subst (λ (size : ℕ). OpHasPlace size c.args.op.now) (sym c.requires.size) (op_place m c.args.h c.args.op.now c.sound.ensures c.requires.there.there)
+
+pub issued-requires-clause-places : goal.issued-requires-clause-places
+issued-requires-clause-places c =
+    let m = c.args.machine.now.machine in
+    subst (λ (size : ℕ). IssuedHasPlaces size c.issue-issued.result) (sym c.requires.size)
+    (subst (λ (i : Issued). IssuedHasPlaces m.size i) (sym c.issue-issued.ensures.answer) (issued_places m c.args.h c.args.op.now c.sound.ensures c.requires.there.there))
+
+pub returns-clause-records : goal.returns-clause-records
+returns-clause-records c =
+    let m = c.args.machine.now.machine in
+    let h = c.args.h in
+    let b = c.args.by_script in
+    let op = c.args.op.now in
+    let old = c.args.log.now.records in
+    c.issued.ensures.records ∙ ap (λ (size : ℕ). old ++ issued_told size h b op c.issue-issued.result) c.requires.size
+    ∙ ap (λ (i : Issued). old ++ issued_told m.size h b op i) c.issue-issued.ensures.answer
+    ∙ ap (λ (l : List Record). old ++ l) (sym (op_told_is m h b op c.requires.there.given))
