@@ -8,6 +8,7 @@ mod hart;
 mod ops;
 
 pub use hart::Hart;
+pub use ops::cut;
 
 #[cfg(test)]
 mod tests;

@@ -1,13 +1,13 @@
 //! Records, with room for those of one event.
 
 ghost use Rattle.std.specs.Prelude.{◌≡◌, ◌≤◌, ◌<◌, ◌+◌, ◌*◌, ◌^◌, ◌++◌, [], ◌∷◌, length, All, OnOk};
-ghost use Rattle.nc_hart.specs.Issue.{cut as cut_of};
 ghost use Rattle.nc_rules.specs.Told as rules;
 ghost use Rattle.nc_moves.specs.Shown.{seen_as};
 ghost use Rattle.nc_log.specs.Logs.{HasPlace, OpHasPlace, IssuedHasPlaces, EntryHasPlace, payload_told, loaded_told, fence_told, issued_told};
 
 use crate::records::RecordList;
 use nc_cache::{BusRec, Origin};
+use nc_hart::cut;
 use nc_model::{Owner, Touch};
 use nc_moves::Moves;
 use nc_num::{Block, Bytes, ChanNo, HartNo, NoMemory, Place, Span};
@@ -318,14 +318,6 @@ fn store_told(hart: HartNo, by_script: bool, at: Place, bytes: &Bytes) -> Record
     } else {
         Record::Ps { hart, at, bytes }
     }
-}
-
-/// A FENCE set cut to W and O.
-#[tactic(auto, using(nc_hart::proofs::Cut::cut_rules))]
-fn cut(set: u8) -> u8
-    ensures { result ≡ cut_of set }
-{
-    set & 0b0101
 }
 
 fn mark_told(hart: HartNo, pred: u8, succ: u8) -> Record
