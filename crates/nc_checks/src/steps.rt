@@ -4,6 +4,7 @@ ghost use Rattle.std.specs.Prelude.{◌≡◌};
 ghost use Rattle.nc_rules.specs.Plans as rules;
 
 use nc_num::ChanNo;
+use nc_pdma_regs::CONTROL;
 use nc_plan::{HartOp, IoTarget};
 use nc_rules::{Act, Step, Turn};
 
@@ -38,7 +39,7 @@ pub(crate) fn control_step(chan: ChanNo, value: u64) -> Step
 {
     hart_step(HartOp::IoStore(IoTarget::Reg {
         chan,
-        off: 0,
+        off: CONTROL,
         width: 4,
         value,
     }))

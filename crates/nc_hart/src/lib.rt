@@ -8,3 +8,4 @@ mod hart;
 mod ops;
 
 pub use hart::Hart;
+pub use ops::cut;

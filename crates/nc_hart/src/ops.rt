@@ -7,9 +7,9 @@ use nc_num::{Bytes, MemType};
 use nc_plan::{HartOp, IoTarget, Payload};
 use nc_queue::{Entry, Queue};
 
-/// A FENCE set cut to W and O, the classes of a queue's entries.
-#[tactic(auto, using(crate::proofs::Cut::cut_rules))]
-fn cut(set: u8) -> u8
+/// Returns a FENCE set cut to W and O, the classes of a queue's entries (RISC-V FENCE).
+#[tactic(auto, using(crate::proofs::CutSets::cut_rules))]
+pub fn cut(set: u8) -> u8
     ensures { result ≡ cut set }
 {
     set & 0b0101

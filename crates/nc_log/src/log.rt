@@ -1,13 +1,14 @@
 //! Records, with room for those of one event.
 
 ghost use Rattle.std.specs.Prelude.{◌≡◌, ◌≤◌, ◌<◌, ◌+◌, ◌*◌, ◌^◌, ◌++◌, [], ◌∷◌, length, All, OnOk};
-ghost use Rattle.nc_hart.specs.Issue.{cut as cut_of, payload};
+ghost use Rattle.nc_hart.specs.Issue.{payload};
 ghost use Rattle.nc_rules.specs.Records as rules;
 ghost use Rattle.nc_moves.specs.Shown.{seen_as};
 ghost use Rattle.nc_log.specs.Logs.{HasPlace, OpHasPlace, IssuedHasPlaces, EntryHasPlace, loaded_records, fence_record, issued_records};
 
 use crate::records::RecordList;
 use nc_cache::{BusRec, Origin};
+use nc_hart::cut;
 use nc_model::{Owner, Touch};
 use nc_moves::Moves;
 use nc_num::{Block, Bytes, ChanNo, HartNo, NoMemory, Place, Span};
@@ -380,14 +381,6 @@ fn store_record(hart: HartNo, by_script: bool, at: Place, bytes: &Bytes) -> Reco
     } else {
         Record::Ps { hart, at, bytes }
     }
-}
-
-/// A FENCE set cut to W and O.
-#[tactic(auto, using(nc_hart::proofs::Cut::cut_rules))]
-fn cut(set: u8) -> u8
-    ensures { result ≡ cut_of set }
-{
-    set & 0b0101
 }
 
 fn mark_record(hart: HartNo, pred: u8, succ: u8) -> Record

@@ -10,9 +10,7 @@ ghost use Rattle.nc_rules.specs.Calls.{granted_to, is_claimed};
 use nc_mem::Ram;
 use nc_num::{ChanNo, HartNo};
 use nc_pdma::{ChanStep, Channel};
-
-/// The offset of the register Control, in bytes.
-const CONTROL: u16 = 0;
+use nc_pdma_regs::CONTROL;
 
 /// The claim bit of Control.
 const CLAIM: u32 = 1;

@@ -13,4 +13,4 @@ mod table;
 
 pub use config::Transfer;
 pub use regs::{Regs, claim_by_control, runs_are_claimed};
-pub use table::{BadMmio, known};
+pub use table::{BadMmio, CONTROL, known};

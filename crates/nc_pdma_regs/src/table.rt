@@ -12,6 +12,9 @@ pub struct BadMmio {
     pub width: u8,
 }
 
+/// The offset of Control, in bytes; it is 4 bytes wide.
+pub const CONTROL: u16 = 0x000;
+
 /// A register of a channel.
 #[derive(Clone, Copy, Debug, PartialEq, Eq)]
 pub enum Register {
@@ -41,7 +44,7 @@ pub fn find_register(off: u16, width: u8) -> Option<Register>
     ensures width { IfSome result (λ r. width ≡ width_of r) }
 {
     match (off, width) {
-        (0x000, 4) => Some(Register::Control),
+        (CONTROL, 4) => Some(Register::Control),
         (0x004, 4) => Some(Register::NextConfig),
         (0x008, 8) => Some(Register::NextBytes),
         (0x010, 8) => Some(Register::NextDestination),

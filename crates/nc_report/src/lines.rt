@@ -226,11 +226,14 @@ fn put_line(text: &mut String, entry: &Record) -> Result<(), AllocError>
     }
 }
 
+/// More bytes than the lines of most events have.
+const ROOM: usize = 256;
+
 /// The lines of some records.
 pub(crate) fn lines(alloc: Global, records: &[Record]) -> Result<String, AllocError>
     ensures { IfOk result (λ s. string_bytes s ≡ flat_map line records.now) }
 {
-    let mut text = String::new(alloc);
+    let mut text = String::with_capacity(alloc, ROOM)?;
     for entry in records {
         put_line(&mut text, entry)?;
     }

@@ -42,7 +42,17 @@ fn is_built_op(op: &Op) -> bool
         | Op::Poll(_)
         | Op::Regr { .. }
         | Op::Regw { .. } => true,
-        _ => false,
+        Op::Map { .. }
+        | Op::Unmap(_)
+        | Op::ToCpu(_)
+        | Op::ToDev(_)
+        | Op::MapSg { .. }
+        | Op::UnmapSg { .. }
+        | Op::Calloc { .. }
+        | Op::Cgive(_)
+        | Op::Ctake(_)
+        | Op::Cfree(_)
+        | Op::Copy { .. } => false,
     }
 }
 

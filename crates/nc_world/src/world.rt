@@ -30,6 +30,7 @@ use nc_log::{Log, RecordList};
 use nc_machine::Machine;
 use nc_num::{Block, Bytes, ChanNo, HartNo, MemType, NoMemory, Span};
 use nc_own::{Access, Actor, Book, Touch};
+use nc_pdma_regs::CONTROL;
 use nc_plan::HartOp;
 use nc_queue::Entry;
 use nc_rules::{Next, Record};
@@ -38,9 +39,6 @@ use nc_slots::Slots;
 use nc_touch::{Look, hart_touch, register_touch};
 use std::alloc::Global;
 use std::marker::Model;
-
-/// The offset of the register Control, in bytes.
-const CONTROL: u16 = 0;
 
 /// Whether an event was done.
 #[derive(Clone, Copy, Debug, PartialEq, Eq)]

@@ -2,7 +2,7 @@ use Rattle.std.proofs.Common.{sym, subst}
 use Rattle.nc_rules.specs.Start.{first_driver}
 use Rattle.nc_rules.specs.Lots.{Fixed}
 use Rattle.nc_checks.specs.Safe.{IsSafe}
-use Rattle.nc_checks.proofs.SafeLaws.{safe_of}
+use Rattle.nc_driver.proofs.SafeLaws.{safe_of}
 use Rattle.nc_driver.proofs.KeptLaws.{first_kept}
 use Rattle.nc_driver.proofs.driver.Driver.new.Goals as goal
 
