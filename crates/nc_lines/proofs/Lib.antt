@@ -1,0 +1,3 @@
+mod Bared
+mod Marks
+mod LineLaws

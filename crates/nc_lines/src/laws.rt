@@ -1,0 +1,16 @@
+//! The laws of lines, over the definitions alone.
+
+ghost use Rattle.nc_lines.specs.Laws.{LinesDrain, LinesCover};
+
+/// What a drain leaves of a line: cover and markers stay, but for an entry that a token or an entry of its block was
+/// to wait for, and a token drains only when nothing marked stands before it.
+#[tactic(auto, using(crate::proofs::LineLaws::lines_drain))]
+pub fn lines_drain()
+    ensures { LinesDrain }
+{}
+
+/// What a line has or has not, by its parts.
+#[tactic(auto, using(crate::proofs::LineLaws::lines_cover))]
+pub fn lines_cover()
+    ensures { LinesCover }
+{}
