@@ -1,0 +1,2 @@
+mod PlaceFrames
+mod Kept

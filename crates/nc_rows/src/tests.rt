@@ -1,0 +1,8 @@
+//! What no clause says: that the laws are ones that a call meets.
+
+use crate::rows_keep;
+
+#[test]
+fn laws_are_called() {
+    rows_keep();
+}
