@@ -26,7 +26,7 @@ bare_set (Mail buf to) set = refl
 bare_set (Lend label first count) set = refl
 bare_set (Mark pred succ) set = refl
 
-bare_block : (s b : ℕ) (e : Entry) → has_block s b (bare e) ≡ has_block s b e
+pub bare_block : (s b : ℕ) (e : Entry) → has_block s b (bare e) ≡ has_block s b e
 bare_block s b (Store span bytes kind) = refl
 bare_block s b (Cbo block op) = refl
 bare_block s b (Reg chan off width value) = refl
@@ -75,7 +75,7 @@ get_line [] r i e is = absurd cc
 get_line (a ∷ q) r zero e is = let same : a ≡ e = cc in ap (λ (k : Entry). Some (bare k)) same
 get_line (a ∷ q) r (suc i) e is = get_line q r i e is
 
-take_line : (q r : List Entry) (i : ℕ) (e : Entry) → slice_get q i ≡ Some e → take i (line q r) ≡ map bare (take i q)
+pub take_line : (q r : List Entry) (i : ℕ) (e : Entry) → slice_get q i ≡ Some e → take i (line q r) ≡ map bare (take i q)
 take_line [] r i e is = absurd cc
 take_line (a ∷ q) r zero e is = refl
 take_line (a ∷ q) r (suc i) e is = ap (λ (l : List Entry). bare a ∷ l) (take_line q r i e is)

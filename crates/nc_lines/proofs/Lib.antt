@@ -1,3 +1,3 @@
-mod Bared
-mod Marks
-mod LineLaws
+pub mod Bared
+pub mod Marks
+pub mod LineLaws

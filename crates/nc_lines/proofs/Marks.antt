@@ -1,8 +1,9 @@
 -- What stands before a token, and what a drain leaves of it.
-use Rattle.std.specs.Prelude.{Option, Some, None, slice_get, remove, ◌||◌}
+use Rattle.std.specs.Prelude.{Option, Some, None, slice_get, remove, map, ◌||◌}
 use Rattle.std.specs.List.{list_any}
-use Rattle.std.proofs.Common.{◌≡◌, ◌⊎◌, ℕ, zero, suc, Bool, true, false, List, [], ◌∷◌, take, refl, ap, inl, inr, subst}
+use Rattle.std.proofs.Common.{◌≡◌, ◌⊎◌, ℕ, zero, suc, Bool, true, false, List, [], ◌∷◌, take, refl, sym, ap, ◌∙◌, inl, inr, subst}
 use Rattle.std.proofs.lemmas.Bool.{or_parts, or_from, cases_Bool, both_ways, eqb-true}
+use Rattle.std.proofs.lemmas.List.Elements.{All-head, All-tail}
 use Rattle.nc_queue.specs.Entries.{has_block, is_w, is_o, is_wo, block_of, is_block}
 use Rattle.nc_queue.specs.Rules.{held_back, orders, drained}
 use Rattle.nc_queue.specs.Laws.{Stands, Covered}
@@ -10,8 +11,9 @@ use Rattle.nc_queue.specs.declared.entry.Entry.{Entry}
 use Rattle.nc_queue.proofs.DrainLaws.{leaves_first}
 use Rattle.nc_queue.proofs.FenceLaws.{drained-some, leaves_free, o_is_no_mark, wo_is_mark, wo_orders, wo_leaves, stands-remove, stands_before, covered-remove}
 use Rattle.nc_queue.proofs.TestLaws.{some_of_class, none_of_class}
-use Rattle.nc_lines.specs.Lines.{Marked}
-use Rattle.nc_lines.specs.Laws.{OfW, OfBlock, Apart}
+use Rattle.nc_lines.specs.Lines.{bare, line, Marked}
+use Rattle.nc_lines.specs.Laws.{OfW, OfBlock, InBlock, Apart}
+use Rattle.nc_lines.proofs.Bared.{bare_block, get_line, take_line}
 
 pub stands_or_not : (w t : Entry → Bool) (l : List Entry) → Stands w t l ⊎ (Stands w t l → ⊥)
 stands_or_not w t [] = inr (λ no. no)
@@ -50,9 +52,23 @@ is_its s b e here = is_one b (block_of s e) here
 first_of_block : (s b : ℕ) (l : List Entry) (i : ℕ) (e : Entry) → drained s l i ≡ Some e → has_block s b e ≡ true → list_any (has_block s b) (take i l) ≡ false
 first_of_block s b l i e is here = leaves_first s (take i l) e b (drained-some s l i e is).1 (is_its s b e here)
 
-pub block_cover : (s : ℕ) (l : List Entry) (i : ℕ) (e : Entry) (p w t : Entry → Bool) (b : ℕ) → drained s l i ≡ Some e → OfBlock s b p → OfBlock s b w → Covered p w t l → Covered p w t (remove l i)
-block_cover s l i e p w t b is of_p of_w covered =
-    covered-remove p w t l i e (drained-some s l i e is).0 (λ we. none_of_class p (has_block s b) of_p (take i l) (first_of_block s b l i e is (of_w e we))) covered
+none_taken : (s b : ℕ) (p : Entry → Bool) (q : List Entry) (i : ℕ) → InBlock s b p q → list_any (has_block s b) (take i q) ≡ false → list_any p (map bare (take i q)) ≡ false
+none_taken s b p [] zero all lacks = refl
+none_taken s b p [] (suc i) all lacks = refl
+none_taken s b p (a ∷ q) zero all lacks = refl
+none_taken s b p (a ∷ q) (suc i) all lacks =
+    let parts = or_parts (has_block s b a) (list_any (has_block s b) (take i q)) lacks in
+    let here : p (bare a) ≡ false = elim (cases_Bool (p (bare a))) [
+      | inl is ↦ absurd (both_ways (has_block s b a) parts.0 (All-head (λ (c : Entry). p (bare c) ≡ true → has_block s b c ≡ true) a q all is))
+      | inr other ↦ other
+    ] in
+    or_from (p (bare a)) (list_any p (map bare (take i q))) here (none_taken s b p q i (All-tail (λ (c : Entry). p (bare c) ≡ true → has_block s b c ≡ true) a q all) parts.1)
+
+pub block_cover : (s : ℕ) (q r : List Entry) (i : ℕ) (e : Entry) (p w t : Entry → Bool) (b : ℕ) → drained s q i ≡ Some e → InBlock s b p q → OfBlock s b w → Covered p w t (line q r) → Covered p w t (remove (line q r) i)
+block_cover s q r i e p w t b is of_p of_w covered =
+    let at = (drained-some s q i e is).0 in
+    covered-remove p w t (line q r) i (bare e) (get_line q r i e at)
+    (λ we. ap (list_any p) (take_line q r i e at) ∙ none_taken s b p q i of_p (first_of_block s b q i e is (sym (bare_block s b e) ∙ of_w (bare e) we))) covered
 
 marked-remove : (w t : Entry → Bool) (l : List Entry) (i : ℕ) (e : Entry) → slice_get l i ≡ Some e → (is_wo e ≡ true → list_any w (take i l) ≡ false) → t e ≡ false → Marked w t l → Marked w t (remove l i)
 marked-remove w t [] i e is first on marked = absurd cc

@@ -1,5 +1,5 @@
 -- What a drain of its queue leaves of a line, as statements.
-use Rattle.std.specs.Prelude.{ℕ, ◌≡◌, ◌⊎◌, Bool, true, false, List, Some, None, remove}
+use Rattle.std.specs.Prelude.{ℕ, ◌≡◌, ◌⊎◌, Bool, true, false, List, Some, None, remove, All}
 use Rattle.std.specs.List.{list_any}
 use Rattle.nc_queue.specs.Entries.{has_block, is_w, is_o, is_wo}
 use Rattle.nc_queue.specs.Rules.{gives, drained}
@@ -14,6 +14,10 @@ OfW p = (a : Entry) → p a ≡ true → is_w a ≡ true
 abbrev pub OfBlock : ℕ → ℕ → (Entry → Bool) → Type 0
 OfBlock s b p = (a : Entry) → p a ≡ true → has_block s b a ≡ true
 
+-- those of a queue are of one block
+abbrev pub InBlock : ℕ → ℕ → (Entry → Bool) → List Entry → Type 0
+InBlock s b p q = All (λ a. p (bare a) ≡ true → has_block s b a ≡ true) q
+
 -- no entry is of both tests
 abbrev pub Apart : (Entry → Bool) → (Entry → Bool) → Type 0
 Apart p t = (a : Entry) → p a ≡ true → t a ≡ false
@@ -26,7 +30,7 @@ pub record LineLoses (s : ℕ) (q r : List Entry) (i : ℕ) (e : Entry) : Type 0
   -- each of p keeps its marker of W before O
   pub marked_cover : (p t : Entry → Bool) → OfW p → Covered p is_wo t (line q r) → Covered p is_wo t (line (remove q i) r)
   -- of one block, each of p keeps one of w behind it
-  pub block_cover : (p w t : Entry → Bool) (b : ℕ) → OfBlock s b p → OfBlock s b w → Covered p w t (line q r) → Covered p w t (line (remove q i) r)
+  pub block_cover : (p w t : Entry → Bool) (b : ℕ) → InBlock s b p q → OfBlock s b w → Covered p w t (line q r) → Covered p w t (line (remove q i) r)
   -- markers stay between w and t as an entry drains that is not of t
   pub still_marked : (w t : Entry → Bool) → OfW w → t (bare e) ≡ false → Marked w t (line q r) → Marked w t (line (remove q i) r)
   -- an entry of t and class O drains only when none of w stands before it

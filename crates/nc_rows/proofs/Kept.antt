@@ -145,7 +145,7 @@ synced_same : (n : MapId) (o : Option Loan) (v : ℕ) (m k : MachineState) (x : 
 synced_same n None v m k x q frame row = absurd row
 synced_same n (Some l) v m k x q frame row = thread_same m k n.hart.0 v x q frame row
 
-kept : (a : Book) (o : Owner) (v : ℕ) (m k : MachineState) (x : ℕ) → SameQueues m k → FrameAt m k x → FrameAt m k (seen_at a o x) → (is_lent_area a o ≡ true → NotHeld m x → NotHeld k x) → Row a o v m x → Row a o v k x
+pub kept : (a : Book) (o : Owner) (v : ℕ) (m k : MachineState) (x : ℕ) → SameQueues m k → FrameAt m k x → FrameAt m k (seen_at a o x) → (is_lent_area a o ≡ true → NotHeld m x → NotHeld k x) → Row a o v m x → Row a o v k x
 kept a (Thread h) v m k x q frame beside held row = thread_same m k h.0 v x q frame row
 kept a (Passing h g) v m k x q frame beside held row = passing_same m k h.0 v (a.buffer x) x (a.rest h.0) q frame row
 kept a (Lending n) v m k x q frame beside held row = lent_same a n (a.loan n) v m k x q frame beside held row

@@ -1,2 +1,2 @@
-mod PlaceFrames
-mod Kept
+pub mod PlaceFrames
+pub mod Kept
