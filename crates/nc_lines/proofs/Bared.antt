@@ -1,9 +1,9 @@
 -- No rule of a queue looks at the bytes of a store.
-use Rattle.std.specs.Prelude.{Option, Some, None, slice_get, remove, map, ◌&&◌, ◌||◌, not}
+use Rattle.std.specs.Prelude.{Option, Some, None, slice_get, remove, map, not}
 use Rattle.std.specs.List.{list_any}
-use Rattle.std.proofs.Common.{◌≡◌, ℕ, zero, suc, Bool, true, List, [], ◌∷◌, ◌++◌, take, refl, ap, ◌∙◌}
+use Rattle.std.proofs.Common.{◌≡◌, ℕ, zero, suc, Bool, true, List, [], ◌∷◌, take, refl, ap, ◌∙◌}
 use Rattle.nc_queue.specs.Entries.{is_o, in_set, has_block, block_of}
-use Rattle.nc_queue.specs.Rules.{any_in, meets, orders, held_back, may_leave, may_drain, leaves, drained}
+use Rattle.nc_queue.specs.Rules.{meets, orders, held_back, may_leave, may_drain, leaves, drained}
 use Rattle.nc_queue.specs.declared.entry.Entry.{Entry}
 use Rattle.nc_queue.specs.declared.entry.Entry.TheVariants.{Store, Cbo, Reg, Mail, Lend, Mark}
 use Rattle.nc_queue.proofs.Drained.{drained-here}

@@ -1,7 +1,7 @@
 -- The laws of lines.
-use Rattle.std.specs.Prelude.{Some, None, remove, map, slice_get, ◌||◌}
+use Rattle.std.specs.Prelude.{Some, map}
 use Rattle.std.specs.List.{list_any}
-use Rattle.std.proofs.Common.{◌≡◌, ℕ, Bool, true, false, List, ◌++◌, sym, ap, ◌∙◌, subst}
+use Rattle.std.proofs.Common.{◌≡◌, ℕ, Bool, false, List, sym, ap, ◌∙◌, subst}
 use Rattle.std.proofs.lemmas.Bool.{or_parts}
 use Rattle.std.proofs.lemmas.List.Folds.{list_any-append}
 use Rattle.nc_queue.specs.Entries.{is_wo}

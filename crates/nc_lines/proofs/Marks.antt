@@ -1,5 +1,5 @@
 -- What stands before a token, and what a drain leaves of it.
-use Rattle.std.specs.Prelude.{Option, Some, None, slice_get, remove, map, ◌||◌}
+use Rattle.std.specs.Prelude.{Option, Some, None, slice_get, remove, map}
 use Rattle.std.specs.List.{list_any}
 use Rattle.std.proofs.Common.{◌≡◌, ◌⊎◌, ℕ, zero, suc, Bool, true, false, List, [], ◌∷◌, take, refl, sym, ap, ◌∙◌, inl, inr, subst}
 use Rattle.std.proofs.lemmas.Bool.{or_parts, or_from, cases_Bool, both_ways, eqb-true}

@@ -1,6 +1,6 @@
 -- A line: the entries of a queue without their bytes, and behind them what is still to come. This project's own, but for
 -- the order that markers keep (RISC-V, FENCE).
-use Rattle.std.specs.Prelude.{ℕ, ◌≡◌, ◌⊎◌, Bool, true, false, List, [], ◌∷◌, ◌++◌, map, is_some}
+use Rattle.std.specs.Prelude.{ℕ, ◌≡◌, ◌⊎◌, Bool, true, List, [], ◌∷◌, ◌++◌, map, is_some}
 use Rattle.nc_queue.specs.Entries.{entry_gives, is_wo}
 use Rattle.nc_queue.specs.Laws.{Stands}
 use Rattle.nc_queue.specs.declared.entry.Entry.{Entry}
