@@ -1,21 +1,20 @@
 -- A row stands where neither a queue nor a byte at its places changes.
 use Rattle.std.specs.Prelude.{Option, Some, None, ◌/◌}
 use Rattle.std.specs.List.{list_any}
-use Rattle.std.proofs.Common.{◌≡◌, ◌⊎◌, ℕ, Bool, true, false, List, refl, sym, ap, ◌∙◌, inl, inr, subst}
+use Rattle.std.proofs.Common.{◌≡◌, ◌⊎◌, ℕ, Bool, true, false, List, refl, ap, ◌∙◌, inl, inr}
 use Rattle.nc_num.specs.declared.names.Dir.{Dir}
 use Rattle.nc_num.specs.declared.names.Dir.TheVariants.{Both, ToDev, FromDev}
 use Rattle.nc_num.specs.declared.names.MapId.{MapId}
-use Rattle.nc_queue.specs.Entries.{has_op, gives_in, is_wo, writes_back}
-use Rattle.nc_queue.specs.Laws.{Stands, Covered}
+use Rattle.nc_queue.specs.Entries.{gives_in}
 use Rattle.nc_queue.specs.declared.entry.Entry.{Entry}
-use Rattle.nc_lines.specs.Lines.{line, gives_at, Marked}
+use Rattle.nc_lines.specs.Lines.{gives_at}
 use Rattle.nc_model.specs.declared.owners.Owner.{Owner}
 use Rattle.nc_model.specs.declared.owners.Owner.TheVariants.{Thread, Passing, Lending, Device, Returning, Synced, Pool}
 use Rattle.nc_rules.specs.declared.steps.Step.{Step}
-use Rattle.nc_rules.specs.Machine.{MachineState, queue_of}
+use Rattle.nc_rules.specs.Machine.{MachineState}
 use Rattle.nc_rules.specs.PlaceLaws.{NotHeld}
-use Rattle.nc_rows.specs.Places.{ThreadRow, QuietRow, PoolRow, CalmRow, OpenRow, Alone}
-use Rattle.nc_rows.specs.Ahead.{names, is_full, settling}
+use Rattle.nc_rows.specs.Places.{QuietRow, PoolRow, OpenRow}
+use Rattle.nc_rows.specs.Ahead.{is_full, settling}
 use Rattle.nc_rows.specs.Rows.{Loan, Book, device_place, gives_here, gives_block, PassingRow, SlotRow, LendingRow, LendingTo, LendingFrom, AllocatingRow, GivingRow, DeviceTo, DeviceFrom, DroppingRow, HomeRow, ComingRow, Either, ByDir, ahead_of, LentRow, DeviceRow, BackRow, SyncedRow, Row}
 use Rattle.nc_rows.specs.Laws.{FrameAt, SameQueues, RowsKeep, seen_at, place_of, is_lent_area, area_of}
 use Rattle.nc_rows.proofs.PlaceFrames.{of_same, of_keeps, given_same, quiet_same, thread_same, pool_same, calm_same, open_same, alone_same}

@@ -1,12 +1,8 @@
 -- What a row says of one place stands where neither a queue nor a byte there changes.
-use Rattle.std.specs.Prelude.{Option, None, unwrap_or, ◌/◌}
-use Rattle.std.specs.List.{list_any}
-use Rattle.std.proofs.Common.{◌≡◌, ◌≢◌, ℕ, Bool, true, false, List, refl, sym, ap, ◌∙◌, inl, inr, subst}
+use Rattle.std.specs.Prelude.{Option, unwrap_or}
+use Rattle.std.proofs.Common.{◌≡◌, ℕ, refl, sym, ap, ◌∙◌, subst}
 use Rattle.nc_num.specs.Memory.{byte}
-use Rattle.nc_queue.specs.Entries.{gives_in}
-use Rattle.nc_queue.specs.Rules.{gives}
-use Rattle.nc_queue.specs.declared.entry.Entry.{Entry}
-use Rattle.nc_rules.specs.Machine.{MachineState, queue_of}
+use Rattle.nc_rules.specs.Machine.{MachineState}
 use Rattle.nc_rules.specs.PlaceLaws.{SameAt, KeepsAt}
 use Rattle.nc_rules.specs.View.{middle, seen, view}
 use Rattle.nc_rows.specs.Places.{given, ThreadRow, QuietRow, PoolRow, CalmRow, OpenRow, Alone}

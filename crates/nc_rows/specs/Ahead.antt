@@ -1,6 +1,6 @@
 -- What the rest of a plan is still to put in its hart's queue, up to the step that ends a mapping's stay with its owner.
 -- This project's own.
-use Rattle.std.specs.Prelude.{ℕ, ◌==◌, ◌&&◌, ◌||◌, ◌+◌, nat_le, nat_lt, Bool, true, false, if◌then◌else◌, List, [], ◌∷◌, ◌++◌, flat_map, Option, Some, None}
+use Rattle.std.specs.Prelude.{ℕ, ◌==◌, ◌&&◌, ◌||◌, ◌+◌, nat_le, nat_lt, Bool, false, if◌then◌else◌, List, [], ◌∷◌, ◌++◌, flat_map, Option, Some, None}
 use Rattle.std.specs.List.{list_any, find}
 use Rattle.nc_num.specs.declared.names.MapId.{MapId}
 use Rattle.nc_queue.specs.declared.entry.Entry.{Entry}

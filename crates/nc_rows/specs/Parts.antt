@@ -1,10 +1,8 @@
 -- What holds beside the rows before the first touch. This project's own.
-use Rattle.std.specs.Prelude.{ℕ, ◌≡◌, ◌⊎◌, ◌/◌, ◌<◌, ◌≤◌, ◌+◌, ◌-◌, true, false, List, [], ◌∷◌, Option, Some, None, All}
+use Rattle.std.specs.Prelude.{ℕ, ◌≡◌, ◌⊎◌, ◌/◌, ◌≤◌, ◌+◌, true, false, List, [], ◌∷◌, Option, Some, None, All}
 use Rattle.std.specs.List.{list_any}
 use Rattle.nc_num.specs.Memory as memory
 use Rattle.nc_num.specs.Places.{covers}
-use Rattle.nc_num.specs.declared.names.Dir.{Dir}
-use Rattle.nc_num.specs.declared.names.Dir.TheVariants.{Both, ToDev, FromDev}
 use Rattle.nc_num.specs.declared.names.MapId.{MapId}
 use Rattle.nc_num.specs.declared.names.MemType.{MemType}
 use Rattle.nc_num.specs.declared.names.MemType.TheVariants.{Pma, Nc, Io}
