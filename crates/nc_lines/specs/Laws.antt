@@ -1,5 +1,5 @@
 -- What a drain of its queue leaves of a line, as statements.
-use Rattle.std.specs.Prelude.{ℕ, ◌≡◌, ◌⊎◌, Bool, true, false, List, Some, None, remove, All}
+use Rattle.std.specs.Prelude.{ℕ, ◌≡◌, ◌⊎◌, Bool, true, false, List, [], ◌∷◌, ◌++◌, map, Some, None, remove, All}
 use Rattle.std.specs.List.{list_any}
 use Rattle.nc_queue.specs.Entries.{has_block, is_w, is_o, is_wo}
 use Rattle.nc_queue.specs.Rules.{gives, drained}
@@ -44,6 +44,21 @@ pub record LineLoses (s : ℕ) (q r : List Entry) (i : ℕ) (e : Entry) : Type 0
 
 pub record LinesDrain : Type 0 where
   pub entry : (s : ℕ) (q r : List Entry) (i : ℕ) (e : Entry) → drained s q i ≡ Some e → LineLoses s q r i e
+
+-- an entry comes into the queue of a line, before what is still to come
+pub record LineGains (q r : List Entry) (e : Entry) : Type 0 where
+  -- one that was to come next leaves the line as it was
+  pub same : line (q ++ e ∷ []) r ≡ line q (bare e ∷ r)
+  -- one that is neither of p nor of t leaves what stands and what is covered
+  pub still_stands : (w t : Entry → Bool) → t (bare e) ≡ false → Stands w t (line q r) → Stands w t (line (q ++ e ∷ []) r)
+  pub still_covered : (p w t : Entry → Bool) → p (bare e) ≡ false → t (bare e) ≡ false → Covered p w t (line q r) → Covered p w t (line (q ++ e ∷ []) r)
+  -- one that is not of w, or comes behind one of t, leaves what is marked
+  pub still_marked : (w t : Entry → Bool) → t (bare e) ≡ false → (w (bare e) ≡ false) ⊎ (list_any t (map bare q) ≡ true) → Marked w t (line q r) → Marked w t (line (q ++ e ∷ []) r)
+  -- what is not there was not there
+  pub was_none : (p : Entry → Bool) → list_any p (line (q ++ e ∷ []) r) ≡ false → list_any p (line q r) ≡ false
+
+pub record LinesGain : Type 0 where
+  pub entry : (q r : List Entry) (e : Entry) → LineGains q r e
 
 -- a line as it stands
 pub record LinesCover : Type 0 where
