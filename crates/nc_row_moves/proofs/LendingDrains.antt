@@ -97,10 +97,10 @@ pool_written m k v y w = record { both = record { memory = w.memory; copy = w.co
 pub none_of_queue : (s y : ℕ) (q ahead : List Entry) → list_any (gives_at s y) (line q ahead) ≡ false → gives s q y ≡ None
 none_of_queue s y q ahead none = gives-none s q y (lines.lines_cover.of_queue (gives_at s y) q ahead (bare_gives s y) none)
 
-here_alike : (m k : MachineState) (y : ℕ) → k.size ≡ m.size → gives_here k y ≡ gives_here m y
+pub here_alike : (m k : MachineState) (y : ℕ) → k.size ≡ m.size → gives_here k y ≡ gives_here m y
 here_alike m k y size = ap {B = Entry → Bool} (λ (s : ℕ). λ (e : Entry). gives_at s y e) size
 
-block_alike : (m k : MachineState) (y : ℕ) → k.size ≡ m.size → gives_block k y ≡ gives_block m y
+pub block_alike : (m k : MachineState) (y : ℕ) → k.size ≡ m.size → gives_block k y ≡ gives_block m y
 block_alike m k y size = ap {B = Entry → Bool} (λ (s : ℕ). λ (e : Entry). gives_in s (y / s) e) size
 
 -- what is left fits

@@ -1,8 +1,8 @@
-mod Tests
-mod PlaceDrains
-mod LineDrains
-mod LendingDrains
-mod AreaDrains
-mod BackDrains
-mod RowDrains
-mod RowMoves
+pub mod Tests
+pub mod PlaceDrains
+pub mod LineDrains
+pub mod LendingDrains
+pub mod AreaDrains
+pub mod BackDrains
+pub mod RowDrains
+pub mod RowMoves

@@ -27,16 +27,16 @@ use Rattle.nc_row_moves.proofs.AreaDrains.{allocating_drained, giving_drained, a
 use Rattle.nc_row_moves.proofs.BackDrains.{device_to_drained, device_from_drained, dropping_drained, coming_drained, passing_drained}
 
 -- both of two are told by one test
-either_both : (b : Bool) (a c p q r s : Type 0) → (a → p → r) → (c → q → s) → Either b a c → Either b p q → Either b r s
+pub either_both : (b : Bool) (a c p q r s : Type 0) → (a → p → r) → (c → q → s) → Either b a c → Either b p q → Either b r s
 either_both true a c p q r s first second told row = first told row
 either_both false a c p q r s first second told row = second told row
 
-dir_both : (d : Dir) (a c p q r s : Type 0) → (a → p → r) → (c → q → s) → ByDir d a c → ByDir d p q → ByDir d r s
+pub dir_both : (d : Dir) (a c p q r s : Type 0) → (a → p → r) → (c → q → s) → ByDir d a c → ByDir d p q → ByDir d r s
 dir_both ToDev a c p q r s first second told row = first told row
 dir_both Both a c p q r s first second told row = second told row
 dir_both FromDev a c p q r s first second told row = second told row
 
-dir_either : (d : Dir) (p q r s : Type 0) → (p → r) → (q → s) → ByDir d p q → ByDir d r s
+pub dir_either : (d : Dir) (p q r s : Type 0) → (p → r) → (q → s) → ByDir d p q → ByDir d r s
 dir_either ToDev p q r s first second row = first row
 dir_either Both p q r s first second row = second row
 dir_either FromDev p q r s first second row = second row
