@@ -93,7 +93,7 @@ giving_pushed m k h e n v x ahead by pass row = record {
 pub device_to_pushed : (m k : MachineState) (h : ℕ) (e : Entry) (n : MapId) (v x y : ℕ) → Enters m k h e → PassesDevice m e x y → DeviceTo n v m x y → DeviceTo n v k x y
 device_to_pushed m k h e n v x y by pass row = record { device = pool_pushed m k h e v y by pass.device row.device; buffer = thread_pushed m k h e n.hart.0 v x by pass.buffer row.buffer }
 
-buffer_pushed : (m k : MachineState) (h : ℕ) (e : Entry) (g x y : ℕ) → Enters m k h e → NoBuffer m e x y → (x ≡ y) ⊎ QuietRow g m x → (x ≡ y) ⊎ QuietRow g k x
+pub buffer_pushed : (m k : MachineState) (h : ℕ) (e : Entry) (g x y : ℕ) → Enters m k h e → NoBuffer m e x y → (x ≡ y) ⊎ QuietRow g m x → (x ≡ y) ⊎ QuietRow g k x
 buffer_pushed m k h e g x y by pass (inl direct) = inl direct
 buffer_pushed m k h e g x y by (inl direct) (inr quiet) = inl direct
 buffer_pushed m k h e g x y by (inr none) (inr quiet) = inr (quiet_pushed m k h e g x by none quiet)

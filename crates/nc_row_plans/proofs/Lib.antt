@@ -1,0 +1,2 @@
+pub mod PlanPushes
+pub mod PlanEnds
