@@ -1,2 +1,3 @@
 pub mod PlanPushes
 pub mod PlanEnds
+pub mod PlanBegins

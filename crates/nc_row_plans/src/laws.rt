@@ -1,5 +1,6 @@
 //! The laws of the steps of plans, over the definitions alone.
 
+ghost use Rattle.nc_row_plans.specs.Begins.{RowsBegin};
 ghost use Rattle.nc_row_plans.specs.Laws.{RowsPlan};
 
 /// An entry of a plan leaves its line, and a copy puts its byte there; with the full fence a mapping is the device's, or
@@ -7,4 +8,12 @@ ghost use Rattle.nc_row_plans.specs.Laws.{RowsPlan};
 #[tactic(auto, using(crate::proofs::PlanEnds::rows_plan))]
 pub fn rows_plan()
     ensures { RowsPlan }
+{}
+
+/// A row begins with a turn of its owner: a mapping is being lent once its plan has the block's operation, a marker and
+/// the token to come, and is taken back once its plan has the block dropped before the full fence; a buffer is passed
+/// on, and taken when its message is out.
+#[tactic(auto, using(crate::proofs::PlanBegins::rows_begin))]
+pub fn rows_begin()
+    ensures { RowsBegin }
 {}

@@ -1,12 +1,13 @@
 //! Plans: what each step of a mapping's own plan does to its row.
 //!
 //! The crate has no code. An entry of the plan leaves the line as it was; a full fence, or the last copy, ends the
-//! mapping's stay with its owner. The contract for the layers above: the law.
+//! mapping's stay with its owner. A row begins with a turn of its owner. The contract for the layers above: the
+//! laws.
 #![tactic(auto)]
 
 mod laws;
 
-pub use laws::rows_plan;
+pub use laws::{rows_begin, rows_plan};
 
 #[cfg(test)]
 mod tests;

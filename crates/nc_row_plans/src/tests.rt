@@ -1,8 +1,9 @@
-//! What no clause says: that the law is one that a call meets.
+//! What no clause says: that the laws are ones that a call meets.
 
-use crate::rows_plan;
+use crate::{rows_begin, rows_plan};
 
 #[test]
-fn law_is_called() {
+fn laws_are_called() {
+    rows_begin();
     rows_plan();
 }
