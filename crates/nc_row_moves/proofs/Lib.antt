@@ -6,3 +6,4 @@ pub mod AreaDrains
 pub mod BackDrains
 pub mod RowDrains
 pub mod RowMoves
+pub mod PartMoves

@@ -6,7 +6,7 @@
 
 mod laws;
 
-pub use laws::{rows_drain, rows_move};
+pub use laws::{parts_stay, rows_drain, rows_move};
 
 #[cfg(test)]
 mod tests;

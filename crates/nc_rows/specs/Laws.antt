@@ -1,11 +1,16 @@
 -- What keeps a row, as statements.
-use Rattle.std.specs.Prelude.{ℕ, ◌≡◌, true, false, Bool, Option, Some, None}
+use Rattle.std.specs.Prelude.{ℕ, ◌≡◌, true, false, Bool, Option, Some, None, List, [], ◌∷◌, ◌++◌}
 use Rattle.nc_num.specs.Memory.{byte}
 use Rattle.nc_model.specs.declared.owners.Owner.{Owner}
 use Rattle.nc_model.specs.declared.owners.Owner.TheVariants.{Thread, Passing, Lending, Device, Returning, Synced, Pool}
+use Rattle.std.specs.List.{list_any}
+use Rattle.nc_num.specs.declared.names.MapId.{MapId}
+use Rattle.nc_rules.specs.declared.lots.LotId.{LotId}
+use Rattle.nc_rules.specs.declared.steps.Step.{Step}
 use Rattle.nc_rules.specs.Machine.{MachineState, queue_of}
 use Rattle.nc_rules.specs.PlaceLaws.{FreshAt, ClearAt, BothAt, NotHeld, SameAt, KeepsAt}
 use Rattle.nc_rules.specs.View.{middle}
+use Rattle.nc_rows.specs.Ahead.{ends, posts, act_coming, step_coming, coming, sending}
 use Rattle.nc_rows.specs.Rows.{Loan, Book, device_place, Row}
 
 -- ---- the places of a row
@@ -56,3 +61,16 @@ pub record RowsKeep : Type 0 where
   pub of_keeps : (m k : MachineState) (x : ℕ) → KeepsAt m k x → FrameAt m k x
   pub kept : (a : Book) (o : Owner) (v : ℕ) (m k : MachineState) (x : ℕ) → SameQueues m k → FrameAt m k x → FrameAt m k (seen_at a o x)
       → (is_lent_area a o ≡ true → NotHeld m x → NotHeld k x) → Row a o v m x → Row a o v k x
+
+-- ---- what is to come, step by step
+
+pub record StepsAhead : Type 0 where
+  -- a step that ends nothing, where one behind it does, goes off in front; the one that ends it is the last; where none
+  -- does nothing is to come
+  pub next : (n : MapId) (lot : LotId) (s : Step) (rest : List Step) → ends lot s ≡ false → list_any (ends lot) rest ≡ true → coming n lot (s ∷ rest) ≡ act_coming s.act ++ coming n lot rest
+  pub last : (n : MapId) (lot : LotId) (s : Step) (rest : List Step) → ends lot s ≡ true → coming n lot (s ∷ rest) ≡ step_coming n lot s
+  pub none : (n : MapId) (lot : LotId) (rest : List Step) → list_any (ends lot) rest ≡ false → coming n lot rest ≡ []
+  -- the same up to a message
+  pub send_next : (b : ℕ) (s : Step) (rest : List Step) → posts b s ≡ false → list_any (posts b) rest ≡ true → sending b (s ∷ rest) ≡ act_coming s.act ++ sending b rest
+  pub send_last : (b : ℕ) (s : Step) (rest : List Step) → posts b s ≡ true → sending b (s ∷ rest) ≡ act_coming s.act
+  pub send_none : (b : ℕ) (rest : List Step) → list_any (posts b) rest ≡ false → sending b rest ≡ []

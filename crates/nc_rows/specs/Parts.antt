@@ -46,15 +46,29 @@ StoreIsQueued pool Pma span = (x : ℕ) → covers span x ≡ true → covers po
 StoreIsQueued pool Nc span = (x : ℕ) → covers span x ≡ true → covers pool x ≡ true
 StoreIsQueued pool Io span = ⊥
 
-abbrev pub OpIsQueued : Book → (ℕ → Owner) → ℕ → ℕ → CboOp → ℕ → Type 0
-OpIsQueued a owner s h cbos.Inval b = IsDropped a owner s h b
-OpIsQueued a owner s h cbos.Clean b = Unit {0}
-OpIsQueued a owner s h cbos.Flush b = Unit {0}
-OpIsQueued a owner s h cbos.Zero b = Unit {0}
+-- block b is one of an area that hart h allocates, of which the full fence is still to come
+pub record IsZeroed (a : Book) (owner : ℕ → Owner) (s h b : ℕ) : Type 0 where
+  pub id : MapId
+  pub loan : Loan
+  pub lent : a.loan id ≡ Some loan
+  pub own : id.hart.0 ≡ h
+  pub area : loan.area ≡ true
+  pub ahead : settling loan.lot (a.rest id.hart.0) ≡ true
+  pub owned : (x : ℕ) → x / s ≡ b → owner x ≡ Lending id
+
+-- no place of block b is in the pool
+abbrev pub IsBeside : Span → ℕ → ℕ → Type 0
+IsBeside pool s b = (x : ℕ) → x / s ≡ b → covers pool x ≡ false
+
+abbrev pub OpIsQueued : Book → (ℕ → Owner) → Span → ℕ → ℕ → CboOp → ℕ → Type 0
+OpIsQueued a owner pool s h cbos.Inval b = IsDropped a owner s h b
+OpIsQueued a owner pool s h cbos.Clean b = Unit {0}
+OpIsQueued a owner pool s h cbos.Flush b = Unit {0}
+OpIsQueued a owner pool s h cbos.Zero b = IsBeside pool s b ⊎ IsZeroed a owner s h b
 
 abbrev pub IsQueued : Book → (ℕ → Owner) → Span → ℕ → ℕ → Entry → Type 0
 IsQueued a owner pool s h (entries.Store span bytes kind) = StoreIsQueued pool kind span
-IsQueued a owner pool s h (entries.Cbo block op) = OpIsQueued a owner s h op block.0
+IsQueued a owner pool s h (entries.Cbo block op) = OpIsQueued a owner pool s h op block.0
 IsQueued a owner pool s h (entries.Reg chan off width value) = Unit {0}
 IsQueued a owner pool s h (entries.Mail buf to) = Unit {0}
 IsQueued a owner pool s h (entries.Lend label first count) = Unit {0}

@@ -7,7 +7,7 @@
 
 mod laws;
 
-pub use laws::rows_keep;
+pub use laws::{rows_keep, steps_ahead};
 
 #[cfg(test)]
 mod tests;
