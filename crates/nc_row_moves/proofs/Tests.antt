@@ -114,7 +114,7 @@ in_block s b e is = elim (or_cases (is_store e && has_block s b e) (has_op is_ze
   | inr zero ↦ op_block s is_zero b e zero
 ]
 
-in_w : (s b : ℕ) (e : Entry) → gives_in s b e ≡ true → is_w e ≡ true
+pub in_w : (s b : ℕ) (e : Entry) → gives_in s b e ≡ true → is_w e ≡ true
 in_w s b (Store span bytes kind) is = refl
 in_w s b (Cbo block op) is = refl
 in_w s b (Reg chan off width value) is = absurd cc

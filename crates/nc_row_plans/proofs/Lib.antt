@@ -1,3 +1,4 @@
 pub mod PlanPushes
 pub mod PlanEnds
 pub mod PlanBegins
+pub mod LendingPlans

@@ -25,17 +25,17 @@ use Rattle.nc_row_plans.proofs.PlanEnds.{pool_thread}
 
 -- ---- what comes behind a queue with none of t
 
-stands_behind : (w t : Entry → Bool) (q c : List Entry) → list_any t q ≡ false → Stands w t c → Stands w t (q ++ c)
+pub stands_behind : (w t : Entry → Bool) (q c : List Entry) → list_any t q ≡ false → Stands w t c → Stands w t (q ++ c)
 stands_behind w t [] c none stands = stands
 stands_behind w t (a ∷ q) c none stands = let parts = or_parts (t a) (list_any t q) none in inr (parts.0, stands_behind w t q c parts.1 stands)
 
-covered_behind : (p w t : Entry → Bool) (q c : List Entry) → list_any t q ≡ false → Stands w t c → Covered p w t c → Covered p w t (q ++ c)
+pub covered_behind : (p w t : Entry → Bool) (q c : List Entry) → list_any t q ≡ false → Stands w t c → Covered p w t c → Covered p w t (q ++ c)
 covered_behind p w t [] c none stands covered = covered
 covered_behind p w t (a ∷ q) c none stands covered =
     let parts = or_parts (t a) (list_any t q) none in
     (λ pa. stands_behind w t q c parts.1 stands, λ ta. absurd (both_ways (t a) parts.0 ta), covered_behind p w t q c parts.1 stands covered)
 
-marked_behind : (w t : Entry → Bool) (q c : List Entry) → list_any t q ≡ false → Stands is_wo t c → Marked w t c → Marked w t (q ++ c)
+pub marked_behind : (w t : Entry → Bool) (q c : List Entry) → list_any t q ≡ false → Stands is_wo t c → Marked w t c → Marked w t (q ++ c)
 marked_behind w t [] c none stands marked = marked
 marked_behind w t (a ∷ q) c none stands marked =
     let parts = or_parts (t a) (list_any t q) none in inr (λ wa. stands_behind is_wo t q c parts.1 stands, marked_behind w t q c parts.1 stands marked)

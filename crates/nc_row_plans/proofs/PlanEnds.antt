@@ -51,7 +51,7 @@ none_before p b c (inl here) = absurd cc
 none_before p b c (inr later) = absurd cc
 
 -- a mapping's token is its own
-named : (n : MapId) → names n (token n) ≡ true
+pub named : (n : MapId) → names n (token n) ≡ true
 named n =
     and_from (n.label.0 == n.label.0) (nat_le n.entry n.entry && nat_lt n.entry (n.entry + 1)) (eq-eqb n.label.0 n.label.0 refl)
     (and_from (nat_le n.entry n.entry) (nat_lt n.entry (n.entry + 1)) (le-leb n.entry n.entry (omega arith)) (lt-ltb n.entry (n.entry + 1) (omega arith)))

@@ -2,6 +2,7 @@
 
 ghost use Rattle.nc_row_plans.specs.Begins.{RowsBegin};
 ghost use Rattle.nc_row_plans.specs.Laws.{RowsPlan};
+ghost use Rattle.nc_row_plans.specs.Plans.{PlansLend};
 
 /// An entry of a plan leaves its line, and a copy puts its byte there; with the full fence a mapping is the device's, or
 /// its blocks are dropped, and with the last copy its bytes are its hart's again.
@@ -16,4 +17,11 @@ pub fn rows_plan()
 #[tactic(auto, using(crate::proofs::PlanBegins::rows_begin))]
 pub fn rows_begin()
     ensures { RowsBegin }
+{}
+
+/// The plan that lends a lot is as the rows of its mappings want it: behind what it copies into a block comes the block's
+/// clean or flush, behind that a marker, and then the token, with full fences and with light ones.
+#[tactic(auto, using(crate::proofs::LendingPlans::plans_lend))]
+pub fn plans_lend()
+    ensures { PlansLend }
 {}

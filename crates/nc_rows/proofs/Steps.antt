@@ -46,14 +46,17 @@ bare_step n lot s other =
     let stays : gives_lot lot s.last ≡ false = elim (cases_Bool (gives_lot lot s.last)) [ inl is ↦ absurd (both_ways (turns_lot lot s.last) turned (gives_turns lot s.last is)) | inr not_so ↦ not_so ] in
     ap (λ (es : List Entry). act_coming s.act ++ es) (cond-false (gives_lot lot s.last) (token n ∷ []) [] stays) ∙ append_nil (act_coming s.act)
 
-next : (n : MapId) (lot : LotId) (s : Step) (rest : List Step) → ends lot s ≡ false → list_any (ends lot) rest ≡ true → coming n lot (s ∷ rest) ≡ act_coming s.act ++ coming n lot rest
+pub next : (n : MapId) (lot : LotId) (s : Step) (rest : List Step) → ends lot s ≡ false → list_any (ends lot) rest ≡ true → coming n lot (s ∷ rest) ≡ act_coming s.act ++ coming n lot rest
 next n lot s rest other some =
     ap (λ (ss : List Step). flat_map (step_coming n lot) ss) (upto_next (ends lot) s rest other some) ∙ ap (λ (es : List Entry). es ++ coming n lot rest) (bare_step n lot s other)
+
+pub last : (n : MapId) (lot : LotId) (s : Step) (rest : List Step) → ends lot s ≡ true → coming n lot (s ∷ rest) ≡ step_coming n lot s
+last n lot s rest is = ap (λ (ss : List Step). flat_map (step_coming n lot) ss) (upto_last (ends lot) s rest is) ∙ append_nil (step_coming n lot s)
 
 pub steps_ahead : StepsAhead
 steps_ahead = record {
   next = next;
-  last = λ n lot s rest is. ap (λ (ss : List Step). flat_map (step_coming n lot) ss) (upto_last (ends lot) s rest is) ∙ append_nil (step_coming n lot s);
+  last = last;
   none = λ n lot rest none. ap (λ (ss : List Step). flat_map (step_coming n lot) ss) (upto_none (ends lot) rest none);
   send_next = λ b s rest other some. ap (λ (ss : List Step). flat_map (λ (k : Step). act_coming k.act) ss) (upto_next (posts b) s rest other some);
   send_last = λ b s rest is. ap (λ (ss : List Step). flat_map (λ (k : Step). act_coming k.act) ss) (upto_last (posts b) s rest is) ∙ append_nil (act_coming s.act);
