@@ -51,7 +51,7 @@ append_assoc (e ∷ a) b c = ap (λ (l : List Entry). e ∷ l) (append_assoc a b
 
 -- ---- lines of a plan that lends
 
-stands_some : (w t : Entry → Bool) (y c : List Entry) → list_any w y ≡ true → list_any t y ≡ false → Stands w t (y ++ c)
+pub stands_some : (w t : Entry → Bool) (y c : List Entry) → list_any w y ≡ true → list_any t y ≡ false → Stands w t (y ++ c)
 stands_some w t [] c some none = absurd cc
 stands_some w t (a ∷ y) c some none =
     let parts = or_parts (t a) (list_any t y) none in
@@ -119,21 +119,21 @@ is_back (hart.Mark pred succ) = false
 abbrev pub Are : (HartOp → Bool) → List HartOp → Type 0
 Are p ops = All (λ o. p o ≡ true) ops
 
-are_append : (p : HartOp → Bool) (a b : List HartOp) → Are p a → Are p b → Are p (a ++ b)
+pub are_append : (p : HartOp → Bool) (a b : List HartOp) → Are p a → Are p b → Are p (a ++ b)
 are_append p [] b x y = y
 are_append p (o ∷ a) b x y = All-cons (λ (k : HartOp). p k ≡ true) o (a ++ b) (All-head (λ (k : HartOp). p k ≡ true) o a x) (are_append p a b (All-tail (λ (k : HartOp). p k ≡ true) o a x) y)
 
-are_flat : {A : Type 0} (p : HartOp → Bool) (f : A → List HartOp) (ps : List A) → ((a : A) → Are p (f a)) → Are p (flat_map f ps)
+pub are_flat : {A : Type 0} (p : HartOp → Bool) (f : A → List HartOp) (ps : List A) → ((a : A) → Are p (f a)) → Are p (flat_map f ps)
 are_flat p f [] each = All-nil (λ (k : HartOp). p k ≡ true)
 are_flat p f (a ∷ ps) each = are_append p (f a) (flat_map f ps) (each a) (are_flat p f ps each)
 
-copies_plain : (from to : Span) → Are is_plain (copies from to)
+pub copies_plain : (from to : Span) → Are is_plain (copies from to)
 copies_plain from to = are_flat is_plain (copy_piece from.at to.at) (pieces from)
     (λ piece.
     let store = hart.Store (plans.moved from.at to.at piece) Pma Last in
     All-cons (λ (k : HartOp). is_plain k ≡ true) (hart.Load piece Pma) (store ∷ []) refl (All-cons (λ (k : HartOp). is_plain k ≡ true) store [] refl (All-nil (λ (k : HartOp). is_plain k ≡ true))))
 
-if_plain : (t : Bool) (ops : List HartOp) → Are is_plain ops → Are is_plain (if t then ops else [])
+pub if_plain : (t : Bool) (ops : List HartOp) → Are is_plain ops → Are is_plain (if t then ops else [])
 if_plain true ops all = all
 if_plain false ops all = All-nil (λ (k : HartOp). is_plain k ≡ true)
 
@@ -141,7 +141,7 @@ copied_plain : (p : Part) → Are is_plain (copied_in p)
 unfolding copied_in
 copied_plain p = if_plain (is_bounced p) (copies p.buffer p.device) (copies_plain p.buffer p.device)
 
-cbos_are : (p : HartOp → Bool) (op : CboOp) (bs : List ℕ) → ((b : ℕ) → p (cbo op b) ≡ true) → Are p (map (cbo op) bs)
+pub cbos_are : (p : HartOp → Bool) (op : CboOp) (bs : List ℕ) → ((b : ℕ) → p (cbo op b) ≡ true) → Are p (map (cbo op) bs)
 cbos_are p op [] each = All-nil (λ (k : HartOp). p k ≡ true)
 cbos_are p op (b ∷ bs) each = All-cons (λ (k : HartOp). p k ≡ true) (cbo op b) (map (cbo op) bs) (each b) (cbos_are p op bs each)
 
@@ -174,7 +174,7 @@ no_zero cbos.Zero is = absurd cc
 abbrev pub LacksBack : (Entry → Bool) → Type 0
 LacksBack p = (o : HartOp) → is_back o ≡ true → list_any p (op_coming o) ≡ false
 
-none_of : (p : Entry → Bool) (q : HartOp → Bool) (ops : List HartOp) → ((o : HartOp) → q o ≡ true → list_any p (op_coming o) ≡ false) → Are q ops → list_any p (flat_map op_coming ops) ≡ false
+pub none_of : (p : Entry → Bool) (q : HartOp → Bool) (ops : List HartOp) → ((o : HartOp) → q o ≡ true → list_any p (op_coming o) ≡ false) → Are q ops → list_any p (flat_map op_coming ops) ≡ false
 none_of p q [] lacks all = refl
 none_of p q (o ∷ ops) lacks all =
     none_both p (op_coming o) (flat_map op_coming ops) (lacks o (All-head (λ (k : HartOp). q k ≡ true) o ops all)) (none_of p q ops lacks (All-tail (λ (k : HartOp). q k ≡ true) o ops all))
@@ -211,7 +211,7 @@ block_lacks m y (hart.Mark pred succ) is = absurd cc
 
 -- ---- the operation of the place's block
 
-flat_append : (a b : List HartOp) → flat_map op_coming (a ++ b) ≡ flat_map op_coming a ++ flat_map op_coming b
+pub flat_append : (a b : List HartOp) → flat_map op_coming (a ++ b) ≡ flat_map op_coming a ++ flat_map op_coming b
 flat_append [] b = refl
 flat_append (o ∷ a) b = ap (λ (es : List Entry). op_coming o ++ es) (flat_append a b) ∙ sym (append_assoc (op_coming o) (flat_map op_coming a) (flat_map op_coming b))
 
@@ -222,7 +222,7 @@ some_block op b (c ∷ bs) is (inl same) =
 some_block op b (c ∷ bs) is (inr later) =
     or_right (has_op writes_back b (entries.Cbo (record { 0 = c }) op)) (list_any (has_op writes_back b) (flat_map op_coming (map (cbo op) bs))) (some_block op b bs is later)
 
-some_append : (p : Entry → Bool) (a b : List Entry) → (list_any p a ≡ true) ⊎ (list_any p b ≡ true) → list_any p (a ++ b) ≡ true
+pub some_append : (p : Entry → Bool) (a b : List Entry) → (list_any p a ≡ true) ⊎ (list_any p b ≡ true) → list_any p (a ++ b) ≡ true
 some_append p a b (inl is) = list_any-append p a b ∙ or_left (list_any p a) (list_any p b) is
 some_append p a b (inr is) = list_any-append p a b ∙ or_right (list_any p a) (list_any p b) is
 

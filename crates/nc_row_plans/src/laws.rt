@@ -2,7 +2,7 @@
 
 ghost use Rattle.nc_row_plans.specs.Begins.{RowsBegin};
 ghost use Rattle.nc_row_plans.specs.Laws.{RowsPlan};
-ghost use Rattle.nc_row_plans.specs.Plans.{PlansLend};
+ghost use Rattle.nc_row_plans.specs.Plans.{PlansLend, PlansReturn};
 
 /// An entry of a plan leaves its line, and a copy puts its byte there; with the full fence a mapping is the device's, or
 /// its blocks are dropped, and with the last copy its bytes are its hart's again.
@@ -24,4 +24,11 @@ pub fn rows_begin()
 #[tactic(auto, using(crate::proofs::LendingPlans::plans_lend))]
 pub fn plans_lend()
     ensures { PlansLend }
+{}
+
+/// The plan that takes a lot back drops the block of each place that the device may have written, before the full fence,
+/// and copies behind it.
+#[tactic(auto, using(crate::proofs::ReturningPlans::plans_return))]
+pub fn plans_return()
+    ensures { PlansReturn }
 {}

@@ -7,7 +7,7 @@
 
 mod laws;
 
-pub use laws::{plans_lend, rows_begin, rows_plan};
+pub use laws::{plans_lend, plans_return, rows_begin, rows_plan};
 
 #[cfg(test)]
 mod tests;

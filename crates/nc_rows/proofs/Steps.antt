@@ -12,7 +12,7 @@ use Rattle.nc_rules.specs.declared.steps.Turn.TheVariants as turns
 use Rattle.nc_rows.specs.Ahead.{turns_lot, gives_lot, tokens_lot, stores_io, ends, posts, upto, token, act_coming, step_coming, coming, sending}
 use Rattle.nc_rows.specs.Laws.{StepsAhead}
 
-append_nil : (es : List Entry) → es ++ [] ≡ es
+pub append_nil : (es : List Entry) → es ++ [] ≡ es
 append_nil [] = refl
 append_nil (e ∷ es) = ap (λ (l : List Entry). e ∷ l) (append_nil es)
 
