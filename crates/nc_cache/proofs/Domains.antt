@@ -1,9 +1,9 @@
 -- What the calls need to know of the lines that they make.
-use Rattle.std.specs.Prelude.{Option, Some, None, slice_set, slice_index_or, if◌then◌else◌}
+use Rattle.std.specs.Prelude.{Option, Some, None, is_some, slice_set, slice_index_or, if◌then◌else◌}
 use Rattle.std.specs.List.{list_any}
 use Rattle.std.specs.Ordering.{nat_cmp}
 use Rattle.std.specs.FinMap as map
-use Rattle.std.proofs.Common.{◌≡◌, ◌≢◌, ℕ, zero, suc, ◌<◌, ◌≤◌, Bool, true, false, List, [], ◌∷◌, length, refl, inl, inr, sym, ap, ◌∙◌, arith}
+use Rattle.std.proofs.Common.{◌≡◌, ℕ, zero, suc, ◌<◌, ◌≤◌, Bool, true, false, List, [], ◌∷◌, length, refl, inl, inr, sym, ap, ◌∙◌, arith}
 use Rattle.std.proofs.lemmas.Bool.{cases_eq, cases_Bool}
 use Rattle.std.proofs.lemmas.Bool.Decides.{nat_tests}
 use Rattle.std.proofs.lemmas.List.{get_or-set_other}
@@ -13,15 +13,11 @@ use Rattle.nc_cache.specs.declared.line.Held.{Held}
 use Rattle.nc_cache.specs.declared.line.Held.TheVariants.{Shared, Dirty}
 use Rattle.nc_cache.specs.declared.line.Line.{Line}
 use Rattle.nc_cache.specs.Harts.{only}
-use Rattle.nc_cache.specs.Cache.{holds, held_by, holders, shared, without}
+use Rattle.nc_cache.specs.Cache.{holds, held_by, holders, shared, without, with_line}
 use Rattle.nc_cache.specs.Facts.{IsHeld, IsLine, IsLineOf}
-use Rattle.nc_cache.specs.HartLines.{HartCacheState, spread, copies_at, joined}
-use Rattle.nc_cache.specs.State.{Stays}
-use Rattle.nc_cache.specs.Caches.{IsCaches}
+use Rattle.nc_cache.specs.State.{DomainState, IsDomain, Stays}
 use Rattle.nc_cache.proofs.Lines.{line-with_same, line-with_other}
-use Rattle.nc_cache.proofs.Holders.{shared_only, shared_with, shared_holders, line_without}
-use Rattle.nc_cache.proofs.Joins.{joined-put, joined_lines, joined_empty}
-use Rattle.nc_cache.proofs.Rooms.{room_spare, room_stays, spare_put, spare_stays, spare_kept, spare_made, spare_full}
+use Rattle.nc_cache.proofs.Holders.{shared_only, shared_with, shared_holders, line_without, line_holder, held_in_four}
 
 -- new lines
 pub line_only : (s harts h : ℕ) (bs : List ℕ) → length bs ≡ s → harts ≤ 4 → h < harts → IsLine s harts (record { bytes = bs; held = Shared (only h) })
@@ -75,45 +71,27 @@ held_less bs (Dirty g) h k is = absurd (let p : false ≡ true = is in cc)
 pub stays_without : (o : Option Line) (bs : List ℕ) (d : Held) (h : ℕ) → o ≡ Some (record { bytes = bs; held = d }) → Stays o (without h bs d)
 stays_without o bs d h is = record { holder = λ k e. rw is (held_less bs d h k e) }
 
+-- whoever holds the new line holds an old one
+has_line : (o : Option Line) (g : ℕ) → held_by o g ≡ true → is_some o ≡ true
+has_line None g is = absurd (let p : false ≡ true = is in cc)
+has_line (Some l) g is = refl
+
+pub stays_there : (s harts : ℕ) (o : Option Line) (l : Line) → Stays o (Some l) → IsLine s harts l → is_some o ≡ true
+stays_there s harts o l stays is = let h = line_holder s harts l is in has_line o h.0 (stays.holder h.0 h.2)
+
 -- the domain after a line was put
-pub domain_put : (size harts : ℕ) (cs ds : List HartCacheState) (b : ℕ) (o : Option Line) → IsCaches size harts cs → length ds ≡ 4 → IsLineOf size harts o → copies_at ds b ≡ spread b o → ((q : ℕ) → q ≢ b → copies_at ds q ≡ copies_at cs q)
-    → IsCaches size harts ds
-domain_put size harts cs ds b o is four line here others = record {
-  four = four;
-  domain = record {
-    block_size = is.domain.block_size;
-    some = is.domain.some;
-    few = is.domain.few;
-    lines = λ k. rw (joined-put size harts cs ds b o is.domain.few line here others) (elim (cases_eq k b) [
-      | inl e ↦ rw (line-with_same (joined cs) b k o e) line
-      | inr ne ↦ rw (line-with_other (joined cs) b k o ne) (is.domain.lines k)
-    ]);
-  };
+pub domain_with : (d e : DomainState) (b : ℕ) (o : Option Line) → IsDomain d → IsLineOf d.size d.harts o → e.size ≡ d.size → e.harts ≡ d.harts → e.lines ≡ with_line d.lines b o → IsDomain e
+domain_with d e b o is line size harts lines = record {
+  block_size = rw size is.block_size;
+  some = rw harts is.some;
+  few = rw harts is.few;
+  lines = λ k. rw (size, harts, lines) (elim (cases_eq k b) [
+    | inl same ↦ rw (line-with_same d.lines b k o same) line
+    | inr ne ↦ rw (line-with_other d.lines b k o ne) (is.lines k)
+  ]);
 }
 
-pub domain_same : (size harts : ℕ) (cs ds : List HartCacheState) → IsCaches size harts cs → length ds ≡ 4 → ((g : ℕ) (d : HartCacheState) → (slice_index_or ds g d).lines ≡ (slice_index_or cs g d).lines) → IsCaches size harts ds
-domain_same size harts cs ds is four same = record {
-  four = four;
-  domain = record {
-    block_size = is.domain.block_size;
-    some = is.domain.some;
-    few = is.domain.few;
-    lines = λ k. rw (joined_lines cs ds is.four four same) (is.domain.lines k);
-  };
-}
-
-pub domain_start : (size harts : ℕ) (p q r s : HartCacheState) → IsBlockSize size → 1 ≤ harts → harts ≤ 4 → p.lines ≡ [] → q.lines ≡ [] → r.lines ≡ [] → s.lines ≡ [] → IsCaches size harts (p ∷ q ∷ r ∷ s ∷ [])
-domain_start size harts p q r s z some few ep eq er es = record {
-  four = refl;
-  domain = record { block_size = z; some = some; few = few; lines = λ k. rw (joined_empty p q r s ep eq er es, map.get-empty nat_cmp k) tt };
-}
-
-pub ruleset put_rules = (joined-put, domain_put, room_spare, spare_put)
-
-pub ruleset keep_rules = (joined-put, domain_put, room_stays, spare_stays)
-
-pub ruleset reserve_rules = (joined_lines, domain_same, spare_kept, spare_made, spare_full)
-
-pub ruleset start_rules = (joined_empty, domain_start)
+pub domain_start : (d : DomainState) → IsBlockSize d.size → 1 ≤ d.harts → d.harts ≤ 4 → d.lines ≡ map.empty → IsDomain d
+domain_start d size some few none = record { block_size = size; some = some; few = few; lines = λ k. rw (none, map.get-empty nat_cmp k) tt }
 
 pub ruleset call_rules = (line_only, line_with, line_dirty, line_without, stays_none, stays_only, stays_without)

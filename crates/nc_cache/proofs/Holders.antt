@@ -21,7 +21,7 @@ any_set [] h lt = absurd (omega arith)
 any_set (b ∷ by) zero lt = refl
 any_set (b ∷ by) (suc h) lt = ap (λ t. b || t) (any_set by h (omega arith)) ∙ or_true b
 
-nobody : (g : ℕ) → slice_index_or (false ∷ false ∷ false ∷ false ∷ []) g false ≡ false
+pub nobody : (g : ℕ) → slice_index_or (false ∷ false ∷ false ∷ false ∷ []) g false ≡ false
 nobody zero = refl
 nobody (suc zero) = refl
 nobody (suc (suc zero)) = refl
@@ -77,7 +77,7 @@ pub line_holder : (s harts : ℕ) (l : Line) → IsLine s harts l → (h : ℕ) 
 line_holder s harts l is = held_holder harts l.held is.held
 
 -- one of so many harts is one of four
-held_in_four : (harts : ℕ) (d : Held) → harts ≤ 4 → IsHeld harts d → IsHeld 4 d
+pub held_in_four : (harts : ℕ) (d : Held) → harts ≤ 4 → IsHeld harts d → IsHeld 4 d
 held_in_four harts (Shared by) few is = record { four = is.four; some = is.some; below = λ g le. is.below g (omega arith) }
 held_in_four harts (Dirty g) few is = omega arith
 

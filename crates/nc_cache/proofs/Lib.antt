@@ -4,7 +4,9 @@ pub mod Writes
 pub mod Holders
 pub mod Wholes
 pub mod LawProofs
-pub mod HartLineLaws
-pub mod Joins
-pub mod Rooms
+pub mod RowPlaces
+pub mod Masks
+pub mod RowMaps
+pub mod RowCells
+pub mod RowEdits
 pub mod Domains

@@ -3,6 +3,7 @@ pub mod Cache
 pub mod Bus
 pub mod Facts
 pub mod Laws
-pub mod HartLines
+pub mod Directory
+pub mod Slab
+pub mod Rows
 pub mod State
-pub mod Caches

@@ -1,16 +1,16 @@
 //! The cache domain: the caches of all harts, which are coherent.
 
-ghost use Rattle.std.specs.Prelude.{◌≡◌, ◌+◌, ◌*◌, ◌/◌, ◌%◌, ◌≤◌, ◌<◌, ℕ, List, Option, IfOk, OnOk, OnErr, length};
+ghost use Rattle.std.specs.Prelude.{◌≡◌, ◌+◌, ◌*◌, ◌/◌, ◌%◌, ◌≤◌, ◌<◌, ℕ, List, Option, Some, IfOk, OnOk, OnErr, length};
 ghost use Rattle.std.specs.FinMap as map;
 ghost use Rattle.nc_num.specs.Sizes.{IsBlockSize};
 ghost use Rattle.nc_cache.specs.Cache.{held_by, with_line, load, own, store, zero_block, clean, flush, inval, evict, bytes_at};
 ghost use Rattle.nc_cache.specs.Bus.{load_bus, fill_bus, own_bus, clean_bus, flush_bus, inval_bus, evict_bus};
-ghost use Rattle.nc_cache.specs.Facts.{IsLineOf};
+ghost use Rattle.nc_cache.specs.Facts.{IsLine, IsLineOf};
+ghost use Rattle.nc_cache.specs.Directory.{IsDirectory};
 ghost use Rattle.nc_cache.specs.State.{IsDomain, Stays};
 
 use crate::bus::BusList;
-use crate::caches::{line_at, put_all, reserve_all};
-use crate::hart_cache::HartCache;
+use crate::directory::{Directory, Row};
 use crate::line::{BusRec, Held, Line, Origin, only};
 use crate::transfers::{block_span, is_dirty_by, part_of, patched, to_own, write_back, zeros};
 use nc_mem::Ram;
@@ -22,7 +22,7 @@ use std::marker::Model;
 /// holds, and `spare`: for how many more of them there is room.
 #[derive(Drop)]
 pub struct Domain {
-    caches: Vec<HartCache>,
+    directory: Directory,
     harts: u8,
     block_size: u32,
 }
@@ -35,16 +35,15 @@ impl Model for Domain {
 
     ghost coded = { state_code line.the_row.coded };
 
-    ghost use Rattle.nc_cache.specs.Caches.{domain_of, IsCaches};
+    ghost use Rattle.nc_cache.specs.State.{IsDomain};
 
-    ghost view = { λ d. domain_of d.block_size d.harts d.caches.items };
+    ghost view = { λ d. record { size = d.block_size; harts = d.harts; lines = d.directory.lines; spare = d.directory.spare } };
 
-    ghost invariant = { λ d. IsCaches d.block_size d.harts d.caches.items };
+    ghost invariant = { λ d. IsDomain (record { size = d.block_size; harts = d.harts; lines = d.directory.lines; spare = d.directory.spare }) };
 }
 
 impl Domain {
     /// The caches of 1 to 4 harts, all empty, with blocks of 32, 64 or 128 bytes. Fails only for want of memory.
-    #[tactic(auto, using(crate::proofs::Domains::start_rules))]
     pub fn new(alloc: Global, harts: u8, block_size: u32) -> Result<Domain, NoMemory>
         requires some { 1 ≤ harts }
         requires few { harts ≤ 4 }
@@ -53,21 +52,14 @@ impl Domain {
         ensures harts { IfOk result (λ d. d.harts ≡ harts) }
         ensures lines { IfOk result (λ d. d.lines ≡ map.empty) }
     {
-        let caches = vec![in alloc;
-            HartCache::new(alloc),
-            HartCache::new(alloc),
-            HartCache::new(alloc),
-            HartCache::new(alloc),
-        ]?;
         Ok(Domain {
-            caches,
+            directory: Directory::new(alloc),
             harts,
             block_size,
         })
     }
 
     /// Makes room for one more block, so that the next call which gives a hart a copy takes no memory.
-    #[tactic(auto, using(crate::proofs::Domains::reserve_rules))]
     pub fn reserve(&mut self) -> Result<(), NoMemory>
         ensures ok { OnOk result (1 ≤ self.new.spare) }
         ensures size { self.new.size ≡ self.old.size }
@@ -76,7 +68,7 @@ impl Domain {
         ensures kept { self.old.spare ≤ self.new.spare }
         ensures err { OnErr result (self.new ≡ self.old) }
     {
-        reserve_all(&mut self.caches, self.harts)
+        self.directory.reserve()
     }
 
     /// The line of a block.
@@ -87,24 +79,24 @@ impl Domain {
         ensures whole { IsLineOf self.now.size self.now.harts result }
         ensures in_four { IsLineOf self.now.size 4 result }
     {
-        line_at(&self.caches, b)
+        self.directory.line(b)
     }
 
-    /// Gives a block a line, or none.
-    #[tactic(auto, using(crate::proofs::Domains::put_rules))]
-    fn put(&mut self, b: Block, line: &Option<Line>)
+    /// Gives a block a line.
+    #[tactic(auto, using(crate::proofs::Holders::held_in_four))]
+    fn put(&mut self, b: Block, line: &Line)
         requires spare { 1 ≤ self.old.spare }
-        requires whole { IsLineOf self.old.size self.old.harts line.now }
-        ensures lines { self.new.lines ≡ with_line self.old.lines b.0 line.now }
+        requires whole { IsLine self.old.size self.old.harts line.now }
+        ensures lines { self.new.lines ≡ with_line self.old.lines b.0 (Some line.now) }
         ensures size { self.new.size ≡ self.old.size }
         ensures harts { self.new.harts ≡ self.old.harts }
         ensures spare { self.old.spare ≤ self.new.spare + 1 }
     {
-        put_all(&mut self.caches, b, line);
+        self.directory.put(b, line);
     }
 
     /// Gives a block a line, or none, whose holders have copies already.
-    #[tactic(auto, using(crate::proofs::Domains::keep_rules))]
+    #[tactic(auto, using(crate::proofs::Holders::held_in_four))]
     fn keep(&mut self, b: Block, line: &Option<Line>)
         requires stays { Stays (map.get self.old.lines b.0) line.now }
         requires whole { IsLineOf self.old.size self.old.harts line.now }
@@ -113,7 +105,17 @@ impl Domain {
         ensures harts { self.new.harts ≡ self.old.harts }
         ensures spare { self.old.spare ≤ self.new.spare }
     {
-        put_all(&mut self.caches, b, line);
+        match line {
+            None => self.directory.remove(b),
+            Some(line) => self.directory.change(b, line),
+        }
+    }
+
+    /// The directory: a row for each block that some hart holds, ascending by block.
+    pub fn rows(&self) -> &[Row]
+        ensures { IsDirectory result.now self.now.lines }
+    {
+        self.directory.rows()
     }
 
     /// The block size.
@@ -170,7 +172,7 @@ impl Domain {
             None => {
                 let bytes = ram.read(block_span(ram, size, b));
                 let held = Held::Shared(only(h));
-                self.put(b, &Some(Line { bytes, held }));
+                self.put(b, &Line { bytes, held });
                 let from = Origin::Mem(bytes);
                 bus.push(BusRec::Fill {
                     hart: h,
@@ -187,7 +189,7 @@ impl Domain {
                 by[h.0 as usize] = true;
                 let bytes = line.bytes;
                 let held = Held::Shared(by);
-                self.put(b, &Some(Line { bytes, held }));
+                self.put(b, &Line { bytes, held });
                 let from = Origin::Hart(line.held.giver());
                 bus.push(BusRec::Fill {
                     hart: h,
@@ -238,7 +240,7 @@ impl Domain {
         }
         let (bytes, bus) = to_own(ram, self.size(), h, b, &line);
         let held = Held::Dirty(h);
-        self.put(b, &Some(Line { bytes, held }));
+        self.put(b, &Line { bytes, held });
         bus
     }
 
@@ -265,10 +267,10 @@ impl Domain {
         let held = Held::Dirty(h);
         self.put(
             b,
-            &Some(Line {
+            &Line {
                 bytes: changed,
                 held,
-            }),
+            },
         );
         bus
     }
@@ -290,7 +292,7 @@ impl Domain {
         let (_, bus) = to_own(ram, size, h, b, &self.line(b));
         let bytes = zeros(size);
         let held = Held::Dirty(h);
-        self.put(b, &Some(Line { bytes, held }));
+        self.put(b, &Line { bytes, held });
         bus
     }
 

@@ -6,21 +6,22 @@
 //! and `zero`.
 //!
 //! The contract for the crates above: each call makes the definition's change to the map of blocks and to memory, and
-//! tells of the definition's transfers, in order (`specs/Cache.antt`, `specs/Bus.antt`). Beside it stand the laws, of
-//! what each call keeps at one place of memory, on which the proof of flat memory stands (`specs/Laws.antt`).
+//! tells of the definition's transfers, in order (`specs/Cache.antt`, `specs/Bus.antt`). The map is kept as one
+//! directory, a vector of rows sorted by block, beside a slab of lines; `rows` gives it (`specs/Directory.antt`). Beside
+//! the calls stand the laws, of what each keeps at one place of memory, on which the proof of flat memory stands
+//! (`specs/Laws.antt`).
 #![tactic(auto)]
 
 mod bus;
-mod caches;
+mod directory;
 mod domain;
-mod hart_cache;
 mod laws;
 mod line;
-#[cfg(test)]
-mod tests;
+mod slab;
 mod transfers;
 
 pub use bus::BusList;
+pub use directory::Row;
 pub use domain::Domain;
 pub use laws::{
     bytes_are_seen, calls_keep_places, calls_keep_whole, calls_write_places, inval_drops,

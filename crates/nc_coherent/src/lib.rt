@@ -9,6 +9,3 @@ mod plans;
 
 pub use pages::{PagePool, lowest_run_is_lowest};
 pub use plans::{plan_alloc, plan_fence};
-
-#[cfg(test)]
-mod tests;

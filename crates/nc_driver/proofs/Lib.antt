@@ -1,2 +1,1 @@
 mod KeptLaws
-mod BenchLaws

@@ -1,5 +1,2 @@
-pub mod Shown
 pub mod Kept
 pub mod Rests
-pub mod Safe
-pub mod Kinds

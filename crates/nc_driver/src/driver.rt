@@ -1,39 +1,42 @@
 //! Where a script stands.
 
-ghost use Rattle.std.specs.Prelude.{◌≡◌, ◌+◌, ◌<◌, ◌≤◌, ◌^◌, true, false, length, drop, All, IfOk, IfSome, OnSome, OnErr, MatchOption, Some, None};
+ghost use Rattle.std.specs.Prelude.{ℕ, ◌≡◌, ◌+◌, ◌<◌, ◌≤◌, ◌^◌, [], true, false, length, drop, All, IfOk, IfSome, OnSome, OnErr, MatchOption, Some, None};
+ghost use Rattle.nc_coherent.specs.Pages.{PageMap};
 ghost use Rattle.nc_scen.specs.Accepted.{IsAccepted};
+ghost use Rattle.nc_ops.specs.declared.ops.Op.{Op};
 ghost use Rattle.nc_rules.specs.declared.steps.Next.TheVariants as nexts;
 ghost use Rattle.nc_rules.specs.declared.steps.Phase.TheVariants.{Steps, Work};
-ghost use Rattle.nc_rules.specs.declared.steps.Seen.TheVariants as seens;
-ghost use Rattle.nc_ops.specs.declared.ops.Op.{Op};
-ghost use Rattle.nc_rules.specs.Built.{IsBuilt};
+ghost use Rattle.nc_rules.specs.declared.steps.Turn.TheVariants as turns;
+ghost use Rattle.nc_rules.specs.Built.{IsBuilt, is_built_op};
 ghost use Rattle.nc_rules.specs.Driver as due;
-ghost use Rattle.nc_rules.specs.Driver.{moved};
 ghost use Rattle.nc_rules.specs.Operations as rules;
-ghost use Rattle.nc_rules.specs.Operations.{turned};
 ghost use Rattle.nc_rules.specs.Start.{first_driver};
-ghost use Rattle.nc_rules.specs.Scripts.{is_act};
-ghost use Rattle.nc_driver.specs.Kept.{IsKept};
-ghost use Rattle.nc_driver.specs.Rests.{is_nil, is_more};
-ghost use Rattle.nc_driver.specs.Safe.{IsSafe, IsShort};
-ghost use Rattle.nc_driver.specs.Shown.{seen_as};
+ghost use Rattle.nc_rules.specs.Turns.{moved, turned, given_up};
+ghost use Rattle.nc_scripts.specs.Scripts.{is_act};
+ghost use Rattle.nc_checks.specs.Due.{step_due};
+ghost use Rattle.nc_checks.specs.Safe.{IsSafe};
+ghost use Rattle.nc_driver.specs.Kept.{IsKept, due_of};
+ghost use Rattle.nc_driver.specs.Rests.{is_nil, made_first, made_last};
+ghost use Rattle.nc_moves.specs.Shown.{seen_as};
 
-use crate::checks::start_checks;
-use crate::moves::Moves;
-use crate::setup::Setup;
-use crate::turns::{busy, good_answer, has_start, opening, plan_of};
+use crate::answers::{bad_answer, busy, good_answer, kept, waited_label};
+use crate::coming::{is_more, next_rest, next_step};
+use nc_checks::{Setup, has_start};
 use nc_coherent::PagePool;
-use nc_num::{HartNo, NoMemory};
+use nc_moves::Moves;
+use nc_num::{HartNo, Label, NoMemory};
 use nc_own::Book;
-use nc_rules::{Act, Next, Phase, Refusal, Seen, Step, Turn};
+use nc_planned::plan_of;
+use nc_rules::{Answer, Next, Phase, Refusal, Seen, Step, Turn};
 use nc_scen::{Op, Scenario};
 use std::alloc::Global;
 use std::collections::VecDeque;
 use std::marker::Model;
 
 /// The control of one hart's script: it gives the script's steps one at a time. Contracts see what the written machine
-/// keeps of a driver: what it knows from the start, the number of the operation in hand, how many of its steps are
-/// done, and the rest of its plan.
+/// keeps of a driver: what it knows from the start, the number of the operation in hand, where it stands in it, the rest
+/// of its plan, its lots and what it saw. The step that is due is worked out once, when the driver comes to it. No
+/// operation that is built makes a lot.
 #[derive(Drop)]
 pub struct Driver {
     alloc: Global,
@@ -41,17 +44,20 @@ pub struct Driver {
     op: u32,
     phase: Phase,
     rest: VecDeque<Step>,
+    saw: Seen,
+    due: Result<Option<Step>, Refusal>,
 }
 
 impl Model for Driver {
+    ghost use Rattle.std.specs.Prelude.{[]};
     ghost use Rattle.nc_rules.specs.Driver.{DriverState};
-    ghost use Rattle.nc_driver.specs.Kept.{IsKept};
+    ghost use Rattle.nc_driver.specs.Kept.{IsReady};
 
     ghost Value = { DriverState };
 
-    ghost view = { λ d. record { fixed = d.setup; op = d.op; phase = d.phase; rest = d.rest.items } };
+    ghost view = { λ d. record { fixed = d.setup; op = d.op; phase = d.phase; rest = d.rest.items; lots = []; saw = d.saw } };
 
-    ghost invariant = { λ d. IsKept (record { fixed = d.setup; op = d.op; phase = d.phase; rest = d.rest.items }) };
+    ghost invariant = { λ d. IsReady (record { fixed = d.setup; op = d.op; phase = d.phase; rest = d.rest.items; lots = []; saw = d.saw }) d.due };
 }
 
 impl Driver {
@@ -64,12 +70,15 @@ impl Driver {
         ensures { IfOk result (λ d. d ≡ first_driver sc.now me) }
     {
         let setup = Setup::of(alloc, me, sc)?;
+        let due = setup.step_due(0, 0);
         Ok(Driver {
             alloc,
             setup,
             op: 0,
             phase: Phase::Steps(0),
             rest: VecDeque::new(alloc),
+            saw: Seen::Nothing,
+            due,
         })
     }
 
@@ -105,78 +114,195 @@ impl Driver {
     {
         match self.phase {
             Phase::Steps(_) => true,
-            Phase::Work => false,
+            Phase::Search(_) | Phase::Work => false,
+        }
+    }
+
+    /// The label whose token has to be out of the hart's queue before the next step; None where fences are full, and where
+    /// the next step is not the first of an operation that takes back, gives or ends what a token is still to lend.
+    #[tactic(auto, unfolding(nc_rules::specs::Driver::waits_for))]
+    pub fn waits_for(&self) -> Option<Label>
+        ensures { result ≡ due.waits_for self.now }
+    {
+        if !self.setup.light() {
+            return None;
+        }
+        match (self.in_hand(), self.phase) {
+            (Some(op), Phase::Steps(_)) => waited_label(op),
+            (None, _) | (_, Phase::Search(_) | Phase::Work) => None,
         }
     }
 
     /// Makes a step without an operation of the hart: the refusal of the operation in hand, or its start. The error is
     /// want of memory, for the plan.
-    #[tactic(auto, unfolding(nc_rules::specs::Driver::started, nc_rules::specs::Driver::start_moves))]
-    pub fn start(&mut self, book: &Book, _pages: &PagePool) -> Result<Moves, NoMemory>
+    pub fn start(&mut self, book: &Book, pages: &PagePool) -> Result<Moves, NoMemory>
         requires next { due.next_of self.old ≡ nexts.Start }
         requires book { All (λ b. b.at + b.len ≤ length book.now.owners) self.old.fixed.buffers }
-        ensures driver { IfOk result (λ m. self.new ≡ due.started self.old book.now.owners) }
-        ensures moves { IfOk result (λ m. seen_as m ≡ due.start_moves self.old book.now.owners) }
+        ensures driver { IfOk result (λ m. self.new ≡ (due.started self.old book.now.owners pages.now).driver) }
+        ensures moves { IfOk result (λ m. seen_as m ≡ (due.started self.old book.now.owners pages.now).moves) }
         ensures fixed { self.new.fixed ≡ self.old.fixed }
         ensures err { OnErr result (self.new ≡ self.old) }
     {
-        let alloc = self.alloc;
+        let _pages = pages;
         let Some(op) = self.in_hand() else {
-            return Ok(Moves::answer(None));
+            return Ok(Moves::answer(self.alloc, None));
         };
-        match self.tested(book, op) {
-            Ok(()) => {
-                let plan = plan_of(alloc, op)?;
-                let moves = self.opened(op, &plan);
-                self.go(plan);
-                Ok(moves)
-            }
-            Err(refusal) => {
-                self.close();
-                Ok(Moves::refusal(refusal))
-            }
+        if has_start(op) {
+            return self.begin(book);
+        }
+        match self.due {
+            Ok(_) => Ok(Moves::answer(self.alloc, None)),
+            Err(refusal) => Ok(self.give_up(refusal)),
         }
     }
 
-    /// Tells whether a slot word that was tried is got. No operation of today searches for a slot.
-    #[tactic(auto, unfolding(nc_rules::specs::Driver::told, nc_rules::specs::Driver::told_moves))]
+    /// Tells whether a slot word that was tried is got. No operation that is built searches for a slot.
+    #[tactic(auto, unfolding(nc_rules::specs::Driver::told))]
     pub fn told(&mut self, got: bool) -> Result<Moves, NoMemory>
-        ensures driver { IfOk result (λ m. self.new ≡ due.told self.old got) }
-        ensures moves { IfOk result (λ m. seen_as m ≡ due.told_moves self.old got) }
+        ensures driver { IfOk result (λ m. self.new ≡ (due.told self.old got).driver) }
+        ensures moves { IfOk result (λ m. seen_as m ≡ (due.told self.old got).moves) }
         ensures fixed { self.new.fixed ≡ self.old.fixed }
         ensures err { OnErr result (self.new ≡ self.old) }
     {
         let _got = got;
-        Ok(Moves::answer(None))
+        Ok(Moves::answer(self.alloc, None))
     }
 
     /// Tells what a step saw that the machine made: `Claimed` or `Busy` of a claim, `Control` of a poll, `Value` of a
-    /// load of a register, and `Nothing` of each other. It takes no memory.
-    #[tactic(auto, unfolding(nc_rules::specs::Driver::done, nc_rules::specs::Driver::done_moves, nc_rules::specs::Driver::next_of))]
+    /// load of a register, and `Nothing` of each other. The error is want of memory, where the step changes owners.
     pub fn done(&mut self, seen: Seen) -> Result<Moves, NoMemory>
         requires next { is_act (due.next_of self.old) ≡ true }
-        ensures driver { IfOk result (λ m. self.new ≡ due.done self.old seen) }
-        ensures moves { IfOk result (λ m. seen_as m ≡ due.done_moves self.old seen) }
+        ensures driver { IfOk result (λ m. self.new ≡ (due.done self.old seen).driver) }
+        ensures moves { IfOk result (λ m. seen_as m ≡ (due.done self.old seen).moves) }
         ensures fixed { self.new.fixed ≡ self.old.fixed }
         ensures err { OnErr result (self.new ≡ self.old) }
     {
-        let Some(op) = self.in_hand() else {
-            return Ok(Moves::answer(None));
-        };
         if let Some(refusal) = busy(seen) {
-            self.close();
-            return Ok(Moves::refusal(refusal));
+            return Ok(self.give_up(refusal));
         }
-        let moves = self.moved(op, seen);
-        self.advance();
+        let saw = kept(self.saw, seen);
+        match self.phase {
+            Phase::Steps(n) => self.step(n, saw),
+            Phase::Search(_) => Ok(Moves::answer(self.alloc, None)),
+            Phase::Work => self.work(saw),
+        }
+    }
+
+    /// The start step of the operation in hand, which has one: its refusal, or its opening turn and its plan.
+    fn begin(&mut self, book: &Book) -> Result<Moves, NoMemory>
+        requires start { (o : Op) → due.in_hand self.old ≡ Some o → rules.has_start o ≡ true }
+        requires book { All (λ b. b.at + b.len ≤ length book.now.owners) self.old.fixed.buffers }
+        ensures driver { (pages : PageMap) → IfOk result (λ m. self.new ≡ (due.started self.old book.now.owners pages).driver) }
+        ensures moves { (pages : PageMap) → IfOk result (λ m. seen_as m ≡ (due.started self.old book.now.owners pages).moves) }
+        ensures err { OnErr result (self.new ≡ self.old) }
+    {
+        let Some(op) = self.in_hand() else {
+            return Ok(Moves::answer(self.alloc, None));
+        };
+        if let Err(refusal) = self.setup().begin(book, op) {
+            return Ok(self.give_up(refusal));
+        }
+        let plan = plan_of(self.alloc, op)?;
+        let moves = self.opened(op, &plan)?;
+        self.go(plan);
         Ok(moves)
+    }
+
+    /// What the opening turn of the operation in hand changes, before this plan.
+    fn opened(&self, op: &Op, plan: &VecDeque<Step>) -> Result<Moves, NoMemory>
+        requires start { rules.has_start op.now ≡ true }
+        requires built { is_built_op op.now ≡ true }
+        ensures { IfOk result (λ m. seen_as m ≡ turned self.now.fixed [] (rules.opening self.now.fixed [] op.now) turns.Stay (due.answered self.now op.now self.now.saw plan.now.items)) }
+    {
+        let answer = if plan.is_empty() {
+            good_answer(op, self.saw)
+        } else {
+            None
+        };
+        let turn = self.setup.opening(op);
+        Moves::turn(self.alloc, self.setup.me(), turn, Turn::Stay, answer)
+    }
+
+    /// The operation in hand is refused, and over. It takes no memory.
+    fn give_up(&mut self, refusal: Refusal) -> Moves
+        requires { self.old.op < length self.old.fixed.script }
+        ensures driver { (o : Op) → due.in_hand self.old ≡ Some o → self.new ≡ (due.give_up self.old o refusal).driver }
+        ensures moves { (o : Op) → due.in_hand self.old ≡ Some o → seen_as result ≡ (due.give_up self.old o refusal).moves }
+    {
+        let answer = match self.in_hand() {
+            Some(op) => Some(bad_answer(op, refusal)),
+            None => None,
+        };
+        self.close();
+        Moves::answer(self.alloc, answer)
+    }
+
+    /// Step n of the operation in hand, which is due, is made.
+    fn step(&mut self, n: u32, saw: Seen) -> Result<Moves, NoMemory>
+        requires phase { self.old.phase ≡ Steps n }
+        requires next { is_act (due.next_of self.old) ≡ true }
+        ensures driver { (o : Op) → due.in_hand self.old ≡ Some o → IfOk result (λ m. self.new ≡ (due.done_in self.old o saw (Steps n)).driver) }
+        ensures moves { (o : Op) → due.in_hand self.old ≡ Some o → IfOk result (λ m. seen_as m ≡ (due.done_in self.old o saw (Steps n)).moves) }
+        ensures err { OnErr result (self.new ≡ self.old) }
+    {
+        let after = self.setup().step_due(self.op, n + 1);
+        let moves = self.stepped(&after, saw)?;
+        if is_more(&after) {
+            self.count(n + 1, after, saw);
+        } else {
+            self.close();
+        }
+        Ok(moves)
+    }
+
+    /// What the step that is due changes, where this one is behind it.
+    fn stepped(&self, after: &Result<Option<Step>, Refusal>, saw: Seen) -> Result<Moves, NoMemory>
+        ensures { (o : Op) → due.in_hand self.now ≡ Some o → IfOk result (λ m. seen_as m ≡ turned self.now.fixed [] (made_first (due_of self.now)) (made_last (due_of self.now)) (due.step_answer self.now o saw after.now)) }
+    {
+        let answer = match (self.in_hand(), after) {
+            (Some(op), Ok(None)) => good_answer(op, saw),
+            (None, _) | (_, Ok(Some(_)) | Err(_)) => None,
+        };
+        let (first, last) = match self.due {
+            Ok(Some(step)) => (step.first, step.last),
+            Ok(None) | Err(_) => (Turn::Stay, Turn::Stay),
+        };
+        Moves::turn(self.alloc, self.setup.me(), first, last, answer)
+    }
+
+    /// The first step of the rest is made.
+    fn work(&mut self, saw: Seen) -> Result<Moves, NoMemory>
+        requires phase { self.old.phase ≡ Work }
+        requires next { is_act (due.next_of self.old) ≡ true }
+        ensures driver { (o : Op) → due.in_hand self.old ≡ Some o → IfOk result (λ m. self.new ≡ (due.worked self.old o saw self.old.rest).driver) }
+        ensures moves { (o : Op) → due.in_hand self.old ≡ Some o → IfOk result (λ m. seen_as m ≡ (due.worked self.old o saw self.old.rest).moves) }
+        ensures err { OnErr result (self.new ≡ self.old) }
+    {
+        let Some(step) = self.rest.front() else {
+            return Ok(Moves::answer(self.alloc, None));
+        };
+        let (first, last) = (step.first, step.last);
+        let answer = self.last_answer(saw);
+        let moves = Moves::turn(self.alloc, self.setup.me(), first, last, answer)?;
+        self.drop_step(saw);
+        Ok(moves)
+    }
+
+    /// The answer of the operation in hand, where the rest has no second step.
+    fn last_answer(&self, saw: Seen) -> Option<Answer>
+        ensures { (o : Op) → due.in_hand self.now ≡ Some o → result ≡ due.answered self.now o saw (drop 1 self.now.rest) }
+    {
+        match self.in_hand() {
+            Some(op) if self.is_last() => good_answer(op, saw),
+            Some(_) | None => None,
+        }
     }
 
     /// The operation in hand, or None at the script's end.
     fn in_hand(&self) -> Option<&Op>
         ensures op { MatchOption result (due.in_hand self.now ≡ None) (λ o. due.in_hand self.now ≡ Some o.now) }
-        ensures short { IfSome result (λ o. IsShort o.now) }
         ensures here { OnSome result (self.now.op < length self.now.fixed.script) }
+        ensures built { IfSome result (λ o. is_built_op o.now ≡ true) }
     {
         self.setup.op(self.op)
     }
@@ -200,84 +326,17 @@ impl Driver {
         }
     }
 
-    /// What comes next in an operation.
+    /// What comes next in the operation in hand.
     fn next_in(&self, op: &Op) -> Next
-        requires { IsShort op.now }
+        requires { due.in_hand self.now ≡ Some op.now }
         ensures { result ≡ due.next_in self.now op.now self.now.phase }
     {
         match self.phase {
             Phase::Steps(_) if has_start(op) => Next::Start,
-            Phase::Steps(n) => next_step(self.setup().step_at(op, n)),
+            Phase::Steps(_) => next_step(&self.due),
+            Phase::Search(k) => Next::Search(k),
             Phase::Work => next_rest(&self.rest),
         }
-    }
-
-    /// What a start step tests: the refusals of an operation that has one, or else the next step.
-    fn tested(&self, book: &Book, op: &Op) -> Result<(), Refusal>
-        requires short { IsShort op.now }
-        requires book { All (λ b. b.at + b.len ≤ length book.now.owners) self.now.fixed.buffers }
-        ensures { result ≡ due.tested self.now book.now.owners op.now }
-    {
-        if has_start(op) {
-            return start_checks(self.setup(), book, op);
-        }
-        match self.setup().step_at(op, steps_done(self.phase)) {
-            Ok(_) => Ok(()),
-            Err(refusal) => Err(refusal),
-        }
-    }
-
-    /// What the start of an operation changes, before this plan.
-    fn opened(&self, op: &Op, plan: &VecDeque<Step>) -> Moves
-        ensures { seen_as result ≡ moved (turned self.now.fixed.me (rules.opening self.now.fixed op.now)) (due.answered op.now seens.Nothing plan.now.items) }
-    {
-        let answer = if plan.is_empty() {
-            good_answer(op, Seen::Nothing)
-        } else {
-            None
-        };
-        Moves::turn(self.setup.me(), opening(&self.setup, op), answer)
-    }
-
-    /// What a step changes, once it is made.
-    fn moved(&self, op: &Op, seen: Seen) -> Moves
-        requires short { IsShort op.now }
-        requires next { is_act (due.next_in self.now op.now self.now.phase) ≡ true }
-        ensures { seen_as result ≡ due.done_moves_in self.now op.now seen self.now.phase }
-    {
-        match self.phase {
-            Phase::Steps(n) => self.step_moved(op, n, seen),
-            Phase::Work => self.rest_moved(op, seen),
-        }
-    }
-
-    /// What step n changes, once it is made.
-    fn step_moved(&self, op: &Op, n: u32, seen: Seen) -> Moves
-        requires short { IsShort op.now }
-        requires small { n + 1 < 2 ^ 32 }
-        ensures { seen_as result ≡ due.done_moves_in self.now op.now seen (Steps n) }
-    {
-        let setup = self.setup();
-        let answer = match setup.step_at(op, n + 1) {
-            Ok(None) => good_answer(op, seen),
-            Ok(Some(_)) | Err(_) => None,
-        };
-        Moves::turn(setup.me(), turn_of(setup.step_at(op, n)), answer)
-    }
-
-    /// What the first step of the rest changes, once it is made.
-    fn rest_moved(&self, op: &Op, seen: Seen) -> Moves
-        ensures { seen_as result ≡ due.rest_moves self.now op.now seen self.now.rest }
-    {
-        let Some(step) = self.rest.front() else {
-            return Moves::answer(None);
-        };
-        let answer = if self.is_last() {
-            good_answer(op, seen)
-        } else {
-            None
-        };
-        Moves::turn(self.setup.me(), step.turn, answer)
     }
 
     /// The rest is one step, or none.
@@ -290,125 +349,55 @@ impl Driver {
     /// The operation in hand is over.
     fn close(&mut self)
         requires { self.old.op < length self.old.fixed.script }
-        ensures { self.new ≡ due.over self.old }
+        ensures { self.new ≡ due.over self.old [] }
     {
+        let due = self.setup().step_due(self.op + 1, 0);
         self.op += 1;
         self.phase = Phase::Steps(0);
         self.rest.clear();
+        self.saw = Seen::Nothing;
+        self.due = due;
     }
 
-    /// So many steps of the operation in hand are done.
-    fn count(&mut self, n: u32)
-        requires { n ≤ 4096 }
-        ensures { self.new ≡ due.counted self.old n }
+    /// So many steps of the operation in hand are done, and this one is due.
+    fn count(&mut self, n: u32, step: Result<Option<Step>, Refusal>, saw: Seen)
+        requires few { n ≤ 4096 }
+        requires step { step ≡ step_due self.old.fixed self.old.op n }
+        ensures { self.new ≡ due.stands self.old (Steps n) [] [] saw }
     {
         self.phase = Phase::Steps(n);
         self.rest.clear();
+        self.saw = saw;
+        self.due = step;
     }
 
     /// On with this plan; the operation in hand is over where nothing is left of it.
     fn go(&mut self, rest: VecDeque<Step>)
         requires here { self.old.op < length self.old.fixed.script }
-        requires kept { IsKept (due.went self.old rest.items) }
-        ensures { self.new ≡ due.went self.old rest.items }
+        requires kept { IsKept (due.went_to self.old [] self.old.saw rest.items) }
+        ensures { self.new ≡ due.went_to self.old [] self.old.saw rest.items }
     {
         if rest.is_empty() {
             self.close();
             return;
         }
+        self.due = self.setup().step_due(self.op, 0);
         self.phase = Phase::Work;
         self.rest = rest;
     }
 
-    /// On to the next step; the operation in hand is over where it has no other.
-    #[tactic(auto, unfolding(nc_rules::specs::Driver::next_of))]
-    fn advance(&mut self)
-        requires next { is_act (due.next_of self.old) ≡ true }
-        ensures { (o : Op) → due.in_hand self.old ≡ Some o → self.new ≡ due.done_in self.old o self.old.phase }
-    {
-        match self.phase {
-            Phase::Steps(n) => {
-                if self.has_step(n + 1) {
-                    self.count(n + 1);
-                } else {
-                    self.close();
-                }
-            }
-            Phase::Work => self.drop_step(),
-        }
-    }
-
-    /// Whether the operation in hand has a step n, be it refused.
-    fn has_step(&self, n: u32) -> bool
-        ensures { (o : Op) → due.in_hand self.now ≡ Some o → result ≡ is_more (rules.step_at self.now.fixed o n) }
-    {
-        match self.in_hand() {
-            Some(op) => !matches!(self.setup().step_at(op, n), Ok(None)),
-            None => false,
-        }
-    }
-
     /// The first step of the rest is done.
-    fn drop_step(&mut self)
+    fn drop_step(&mut self, saw: Seen)
         requires here { self.old.op < length self.old.fixed.script }
         requires work { self.old.phase ≡ Work }
         requires some { is_nil self.old.rest ≡ false }
-        ensures { self.new ≡ due.done_rest self.old self.old.rest }
+        ensures { self.new ≡ due.went_to self.old [] saw (drop 1 self.old.rest) }
     {
         if self.is_last() {
             self.close();
             return;
         }
         self.rest.pop_front();
-    }
-}
-
-/// What a step leaves to do next: a refused step is a start.
-fn next_step(step: Result<Option<Step>, Refusal>) -> Next
-    ensures { result ≡ due.next_step step }
-{
-    match step {
-        Ok(Some(step)) => next_act(step.act),
-        Ok(None) | Err(_) => Next::Start,
-    }
-}
-
-/// The first step of a rest.
-fn next_rest(rest: &VecDeque<Step>) -> Next
-    ensures { result ≡ due.next_rest rest.now.items }
-{
-    match rest.front() {
-        Some(step) => next_act(step.act),
-        None => Next::Start,
-    }
-}
-
-fn next_act(act: Act) -> Next
-    ensures { result ≡ due.next_act act }
-{
-    match act {
-        Act::Op(op) => Next::Op(op),
-        Act::Claim(chan) => Next::Claim(chan),
-        Act::Poll(chan) => Next::Poll(chan),
-        Act::Take(buf) => Next::Take(buf),
-    }
-}
-
-/// What a step turns.
-fn turn_of(step: Result<Option<Step>, Refusal>) -> Turn
-    ensures { result ≡ due.turn_of step }
-{
-    match step {
-        Ok(Some(step)) => step.turn,
-        Ok(None) | Err(_) => Turn::Stay,
-    }
-}
-
-fn steps_done(phase: Phase) -> u32
-    ensures { result ≡ due.steps_done phase }
-{
-    match phase {
-        Phase::Steps(n) => n,
-        Phase::Work => 0,
+        self.saw = saw;
     }
 }

@@ -142,6 +142,3 @@ fn s_field(op: CboOp) -> Field
         CboOp::Zero => Field::SCbze,
     }
 }
-
-#[cfg(test)]
-mod tests;

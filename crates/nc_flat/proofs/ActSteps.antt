@@ -30,17 +30,17 @@ use Rattle.nc_rules.specs.Handing.{take_step}
 use Rattle.nc_rules.specs.Driver.{DriverState, Went, in_hand, next_of, next_act, is_script, done}
 use Rattle.nc_rules.specs.Events.{may_go_on}
 use Rattle.nc_rules.specs.Flat.{all_marks}
-use Rattle.nc_rules.specs.MachineLaws.{SameShape}
+use Rattle.nc_calls.specs.MachineLaws.{SameShape}
 use Rattle.nc_rules.specs.Calls.{issue_answer, control_of}
 use Rattle.nc_rules.specs.Outcomes.{seen_of, claim_seen, op_outcome, claim_outcome, poll_outcome, take_outcome, step_outcome}
-use Rattle.nc_rules.specs.Scripts.{NextIsThere, is_act}
+use Rattle.nc_scripts.specs.Scripts.{NextIsThere, is_act}
 use Rattle.nc_rules.specs.Sound.{IsMachine, OpIsThere}
 use Rattle.nc_rules.specs.Records.{op_records}
 use Rattle.nc_rules.specs.Watched.{op_touch, issue_touch, poll_touch}
 use Rattle.nc_rules.specs.World.{WorldState, driver_of, owners_moved}
-use Rattle.nc_rules.proofs.SoundIssue.{sound_issue}
-use Rattle.nc_rules.proofs.SoundSteps.{sound_claim, shape_claim, sound_take, shape_take}
-use Rattle.nc_rules.proofs.SoundWith.{shape_same}
+use Rattle.nc_calls.proofs.SoundIssue.{sound_issue}
+use Rattle.nc_calls.proofs.SoundSteps.{sound_claim, shape_claim, sound_take, shape_take}
+use Rattle.nc_calls.proofs.SoundWith.{shape_same}
 use Rattle.nc_flat.specs.Invariant.{mark_step, mail_step, buffer_at}
 use Rattle.nc_flat.proofs.CacheEvents.{SameMemory}
 use Rattle.nc_flat.proofs.Pushes.{pushes_issued}

@@ -13,11 +13,11 @@ use Rattle.nc_scen.specs.declared.scenario.Scenario.{Scenario}
 use Rattle.nc_rules.specs.Machine.{MachineState, no_hart, queue_of, with_cache}
 use Rattle.nc_rules.specs.Calls.{may_fill, fill_next, evict_next}
 use Rattle.nc_rules.specs.Driver.{DriverState}
-use Rattle.nc_rules.specs.MachineLaws.{SameShape}
-use Rattle.nc_rules.specs.PlaceLaws.{BothAt}
+use Rattle.nc_calls.specs.MachineLaws.{SameShape}
+use Rattle.nc_calls.specs.PlaceLaws.{BothAt}
 use Rattle.nc_rules.specs.Sound.{IsMachine, IsBlockIn}
 use Rattle.nc_rules.specs.View.{middle}
-use Rattle.nc_rules.proofs.SoundSteps.{sound_fill, shape_fill, sound_evict, shape_evict}
+use Rattle.nc_calls.proofs.SoundSteps.{sound_fill, shape_fill, sound_evict, shape_evict}
 use Rattle.nc_flat.specs.Rows.{given}
 use Rattle.nc_flat.specs.Invariant.{Plain, Flatness, buffer_at}
 use Rattle.nc_flat.proofs.Views.{Carries, carries_same}

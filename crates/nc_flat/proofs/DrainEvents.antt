@@ -15,9 +15,9 @@ use Rattle.nc_scen.specs.declared.scenario.Scenario.{Scenario}
 use Rattle.nc_rules.specs.Machine.{MachineState, queue_of, box_of}
 use Rattle.nc_rules.specs.Calls.{leaving, drain_next, performed}
 use Rattle.nc_rules.specs.Driver.{DriverState}
-use Rattle.nc_rules.specs.MachineLaws.{SameShape}
-use Rattle.nc_rules.proofs.MachineParts.{box_here, box_away}
-use Rattle.nc_rules.proofs.SoundDrain.{without, leaving_is, shape_drain}
+use Rattle.nc_calls.specs.MachineLaws.{SameShape}
+use Rattle.nc_calls.proofs.MachineParts.{box_here, box_away}
+use Rattle.nc_calls.proofs.SoundDrain.{without, leaving_is, shape_drain}
 use Rattle.nc_flat.specs.Messages.{is_mail, mails, pending, Queued, Waiting, Stage, Passed, Status, IsHeld, IsPassed}
 use Rattle.nc_flat.specs.Invariant.{Flatness, buffer_at, driver_at}
 use Rattle.nc_flat.proofs.Views.{row_carried}

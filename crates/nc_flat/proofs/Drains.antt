@@ -11,11 +11,11 @@ use Rattle.nc_queue.proofs.GivesLaws.{gives-remove_none, entry_gives-none}
 use Rattle.nc_rules.specs.Machine.{MachineState, hart_of, queue_of}
 use Rattle.nc_rules.specs.Calls.{leaving, without_entry, left_with, drain_next, performed}
 use Rattle.nc_rules.specs.Sound.{EntryIsThere, IsMachine}
-use Rattle.nc_rules.specs.PlaceLaws.{BothAt}
+use Rattle.nc_calls.specs.PlaceLaws.{BothAt}
 use Rattle.nc_rules.specs.View.{middle}
-use Rattle.nc_rules.proofs.PerformedPlaces.{both_performed}
-use Rattle.nc_rules.proofs.SoundParts.{there_same}
-use Rattle.nc_rules.proofs.SoundDrain.{LeavesFrom, leaving_is, without, sound_without, shape_without, sound_performed}
+use Rattle.nc_calls.proofs.PerformedPlaces.{both_performed}
+use Rattle.nc_calls.proofs.SoundParts.{there_same}
+use Rattle.nc_calls.proofs.SoundDrain.{LeavesFrom, leaving_is, without, sound_without, shape_without, sound_performed}
 use Rattle.nc_flat.specs.Rows.{given}
 use Rattle.nc_flat.specs.Invariant.{IsPlain, Plain}
 use Rattle.nc_flat.proofs.Views.{Carries, view_is}

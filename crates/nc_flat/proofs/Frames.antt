@@ -9,7 +9,7 @@ use Rattle.nc_own.specs.Books.{owner_in}
 use Rattle.nc_scen.specs.declared.scenario.Scenario.{Scenario}
 use Rattle.nc_rules.specs.Machine.{MachineState, queue_of, box_of}
 use Rattle.nc_rules.specs.Driver.{DriverState}
-use Rattle.nc_rules.specs.MachineLaws.{SameShape}
+use Rattle.nc_calls.specs.MachineLaws.{SameShape}
 use Rattle.nc_rules.specs.World as worlds
 use Rattle.nc_flat.specs.Rows.{Row}
 use Rattle.nc_flat.specs.Messages.{pending, Status}

@@ -24,12 +24,12 @@ use Rattle.nc_rules.specs.Machine.{MachineState, queue_of, box_of, with_hart}
 use Rattle.nc_rules.specs.Lots.{Fixed}
 use Rattle.nc_rules.specs.Refusals.{buffer_of}
 use Rattle.nc_rules.specs.Driver.{DriverState, in_hand}
-use Rattle.nc_rules.specs.Scripts.{IsDriver}
+use Rattle.nc_scripts.specs.Scripts.{IsDriver}
 use Rattle.nc_rules.specs.Sound.{IsMachine}
 use Rattle.nc_rules.specs.Start.{hart_spec}
 use Rattle.nc_rules.specs.World as worlds
-use Rattle.nc_rules.proofs.DriverLaws.{in_hand_is}
-use Rattle.nc_rules.proofs.SoundWith.{shape_hart}
+use Rattle.nc_scripts.proofs.DriverLaws.{in_hand_is}
+use Rattle.nc_calls.proofs.SoundWith.{shape_hart}
 use Rattle.nc_flat.specs.Messages.{is_mail, is_marked, pending, pending_in}
 use Rattle.nc_flat.specs.Invariant.{IsPlain, Flatness, Drives, PlanIs, mark_step, mail_step, buffer_at, driver_at, StatusOf}
 use Rattle.nc_flat.proofs.Views.{row_carried}

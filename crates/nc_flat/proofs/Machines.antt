@@ -24,8 +24,8 @@ use Rattle.nc_rules.specs.Machine.{MachineState, queue_of, with_hart, with_cache
 use Rattle.nc_rules.specs.Calls.{operated, performed}
 use Rattle.nc_rules.specs.Sound.{EntryIsThere, IsBlockIn, IsMachine}
 use Rattle.nc_rules.specs.View.{middle}
-use Rattle.nc_rules.proofs.MachineParts.{hart_here, hart_away}
-use Rattle.nc_rules.proofs.SoundIssue.{block_in}
+use Rattle.nc_calls.proofs.MachineParts.{hart_here, hart_away}
+use Rattle.nc_calls.proofs.SoundIssue.{block_in}
 use Rattle.nc_flat.specs.Rows.{given}
 use Rattle.nc_flat.specs.Invariant.{IsNoInval, IsPlain, Plain}
 use Rattle.nc_flat.proofs.Views.{Carries, carries_same}

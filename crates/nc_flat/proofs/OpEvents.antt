@@ -39,8 +39,8 @@ use Rattle.nc_rules.specs.Records.{transfer_records, op_records, load_record}
 use Rattle.nc_rules.specs.View.{seen, bytes_seen}
 use Rattle.nc_rules.specs.Watched.{op_touch}
 use Rattle.nc_rules.specs.World.{WorldState}
-use Rattle.nc_rules.proofs.SoundIssue.{piece_block, whole_loaded, sound_issue}
-use Rattle.nc_rules.proofs.SoundWith.{shape_same, shape_cache, sound_cache}
+use Rattle.nc_calls.proofs.SoundIssue.{piece_block, whole_loaded, sound_issue}
+use Rattle.nc_calls.proofs.SoundWith.{shape_same, shape_cache, sound_cache}
 use Rattle.nc_flat.specs.Rows.{ThreadRow, Row}
 use Rattle.nc_flat.specs.Messages.{is_mail}
 use Rattle.nc_flat.specs.Invariant.{IsPma, IsPlain, Flatness}

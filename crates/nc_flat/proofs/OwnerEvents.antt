@@ -18,10 +18,10 @@ use Rattle.nc_rules.specs.declared.steps.Phase.TheVariants.{Steps, Work}
 use Rattle.nc_rules.specs.Machine.{MachineState, queue_of, box_of, with_box}
 use Rattle.nc_rules.specs.Calls.{is_for, may_take, take_next}
 use Rattle.nc_rules.specs.Driver.{DriverState, in_hand}
-use Rattle.nc_rules.specs.MachineLaws.{SameShape}
+use Rattle.nc_calls.specs.MachineLaws.{SameShape}
 use Rattle.nc_rules.specs.Sound.{IsMachine}
 use Rattle.nc_rules.specs.View.{middle}
-use Rattle.nc_rules.proofs.MachineParts.{box_here, box_away}
+use Rattle.nc_calls.proofs.MachineParts.{box_here, box_away}
 use Rattle.nc_flat.specs.Rows.{ThreadRow, PassingRow, Row}
 use Rattle.nc_flat.specs.Messages.{is_marked, pending, Quiet, IsHeld}
 use Rattle.nc_flat.specs.Invariant.{Flatness, Drives, mark_step, mail_step, buffer_at, driver_at, no_buffer, StatusOf}

@@ -18,7 +18,7 @@ use Rattle.nc_scen.specs.declared.scenario.Scenario.{Scenario}
 use Rattle.nc_rules.specs.Machine.{MachineState, queue_of, with_hart}
 use Rattle.nc_rules.specs.Driver.{DriverState}
 use Rattle.nc_rules.specs.Sound.{IsMachine}
-use Rattle.nc_rules.proofs.SoundWith.{shape_hart}
+use Rattle.nc_calls.proofs.SoundWith.{shape_hart}
 use Rattle.nc_flat.specs.Rows.{Row}
 use Rattle.nc_flat.specs.Messages.{mails, is_mail}
 use Rattle.nc_flat.specs.Invariant.{IsPlain, Flatness, buffer_at, no_buffer}

@@ -20,7 +20,7 @@ use Rattle.nc_rules.specs.Next.{performed, counted, next, event_records}
 use Rattle.nc_rules.specs.Run.{after}
 use Rattle.nc_rules.specs.Outcomes.{step_outcome, try_outcome, told_outcome, outcome}
 use Rattle.nc_rules.specs.World.{WorldState, driver_of}
-use Rattle.nc_rules.proofs.DriverLaws.{drivers_stay}
+use Rattle.nc_scripts.proofs.DriverLaws.{drivers_stay}
 use Rattle.nc_flat.specs.Invariant.{Inv}
 use Rattle.nc_flat.proofs.Steps.{Follows, Before}
 use Rattle.nc_flat.proofs.Situations.{situation}

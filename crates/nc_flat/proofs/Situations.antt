@@ -21,7 +21,7 @@ use Rattle.nc_rules.specs.declared.steps.Turn.TheVariants as turns
 use Rattle.nc_rules.specs.declared.lots.Lot.{Lot}
 use Rattle.nc_rules.specs.Lots.{Fixed}
 use Rattle.nc_rules.specs.Refusals.{◌>>=◌, buffer_of, owned}
-use Rattle.nc_rules.specs.Turns.{lots_after_both, turned, given_up, without_wanted}
+use Rattle.nc_rules.specs.Turns.{lots_after_both, turned, turned_by, given_up, without_wanted}
 use Rattle.nc_rules.specs.Handing.{take_step}
 use Rattle.nc_rules.specs.Handing as handing
 use Rattle.nc_rules.specs.Operations.{meaning, step_at, has_start, begin, opening, plan_of}
@@ -108,24 +108,24 @@ gives_up : (d : DriverState) (o : Op) (r : Refusal) → GoesIdle d (give_up d o 
 gives_up d o r = record { driver = over_idles d (without_wanted d.lots); transfers = refl }
 
 -- what a step changes that was made
-abbrev pub turned_by : DriverState → Step → List (Span × Owner)
-turned_by d s = (turned d.fixed d.lots s.first s.last None).transfers
+abbrev pub turned_when : DriverState → Step → List (Span × Owner)
+turned_when d s = (turned d.fixed d.lots s.first s.last None).transfers
 
-in_idles : (d : DriverState) (o : Op) (n : ℕ) (s : Step) (saw : Seen) → d.phase ≡ Steps n → step_at d.fixed d.lots o n ≡ Ok (Some s) → GoesIdle d (done_in d o saw d.phase) (turned_by d s)
-unfolding turned
+in_idles : (d : DriverState) (o : Op) (n : ℕ) (s : Step) (saw : Seen) → d.phase ≡ Steps n → step_at d.fixed d.lots o n ≡ Ok (Some s) → GoesIdle d (done_in d o saw d.phase) (turned_when d s)
+unfolding turned_by
 in_idles d o n s saw phase is =
     let next = step_at d.fixed d.lots o (n + 1) in
-    subst (λ (p : Phase). GoesIdle d (done_in d o saw p) (turned_by d s)) (sym phase)
-    (subst (λ (r : Result (Option Step) Refusal). GoesIdle d (stepped d o (n + 1) saw r next) (turned_by d s)) (sym is)
+    subst (λ (p : Phase). GoesIdle d (done_in d o saw p) (turned_when d s)) (sym phase)
+    (subst (λ (r : Result (Option Step) Refusal). GoesIdle d (stepped d o (n + 1) saw r next) (turned_when d s)) (sym is)
     (record { driver = stepped_idles d (n + 1) (lots_after_both s.first s.last d.lots) saw next; transfers = refl }))
 
-unless_idles : (d : DriverState) (o : Op) (n : ℕ) (s : Step) (saw : Seen) (r : Option Refusal) → d.phase ≡ Steps n → step_at d.fixed d.lots o n ≡ Ok (Some s) → turned_by d s ≡ [] → GoesIdle d (done_unless d o saw r) []
+unless_idles : (d : DriverState) (o : Op) (n : ℕ) (s : Step) (saw : Seen) (r : Option Refusal) → d.phase ≡ Steps n → step_at d.fixed d.lots o n ≡ Ok (Some s) → turned_when d s ≡ [] → GoesIdle d (done_unless d o saw r) []
 unless_idles d o n s saw (Some r) phase is none = gives_up d o r
 unless_idles d o n s saw None phase is none =
     subst (λ (ts : List (Span × Owner)). GoesIdle d (done_in d o (kept d.saw saw) d.phase) ts) none (in_idles d o n s (kept d.saw saw) phase is)
 
-none_turned : (d : DriverState) (s : Step) → IsOwn s → turned_by d s ≡ []
-unfolding turned
+none_turned : (d : DriverState) (s : Step) → IsOwn s → turned_when d s ≡ []
+unfolding turned_by
 none_turned d s own = rw (own.first, own.last) refl
 
 pub done_idles : (d : DriverState) (saw : Seen) (o : Op) (n : ℕ) (s : Step) → in_hand d ≡ Some o → d.phase ≡ Steps n → step_at d.fixed d.lots o n ≡ Ok (Some s) → IsOwn s → GoesIdle d (done d saw) []
@@ -135,7 +135,7 @@ done_idles d saw o n s hand phase is own =
 
 pub done_takes : (d : DriverState) (buf n : ℕ) → in_hand d ≡ Some (ops.Take buf) → d.phase ≡ Steps n → step_at d.fixed d.lots (ops.Take buf) n ≡ Ok (Some (take_step d.fixed buf))
     → GoesIdle d (done d seen.Nothing) ((buffer_of d.fixed buf, Thread d.fixed.me) ∷ [])
-unfolding done turned
+unfolding done turned_by
 done_takes d buf n hand phase is =
     subst (λ (k : Option Op). GoesIdle d (done_of d seen.Nothing k) ((buffer_of d.fixed buf, Thread d.fixed.me) ∷ [])) (sym hand)
     (in_idles d (ops.Take buf) n (take_step d.fixed buf) d.saw phase is)
@@ -160,7 +160,7 @@ pub record IsStill (s : Step) : Type 0 where
   pub last : s.last ≡ turns.Stay
 
 pub done_stays : (d : DriverState) (o : Op) (s : Step) (rest : List Step) → in_hand d ≡ Some o → d.phase ≡ Work → d.rest ≡ s ∷ rest → IsStill s → (done d seen.Nothing).moves.transfers ≡ []
-unfolding turned
+unfolding turned_by
 done_stays d o s rest hand phase is still = ap (λ (w : Went). w.moves.transfers) (done_works d o s rest hand phase is) ∙ rw (still.first, still.last) refl
 
 pub done_goes_on : (d : DriverState) (o : Op) (s t : Step) (rest : List Step) → in_hand d ≡ Some o → d.phase ≡ Work → d.rest ≡ s ∷ t ∷ rest → Works d (done d seen.Nothing).driver (t ∷ rest)
@@ -200,7 +200,7 @@ unfolding plan_of opening meaning handing.hand
 open_works d buf to = record { fixed = refl; hand = refl; phase = refl; rest = refl }
 
 open_passes : (d : DriverState) (buf : ℕ) (to : HartNo) → (opened (with_lots d []) (ops.Hand buf to)).moves.transfers ≡ (buffer_of d.fixed buf, Passing d.fixed.me to) ∷ []
-unfolding plan_of opening meaning handing.hand turned
+unfolding plan_of opening meaning handing.hand turned_by
 open_passes d buf to = refl
 
 hand_by : (d : DriverState) (owners : List Owner) (buf : ℕ) (to : HartNo) (r : Result (Unit {0}) Refusal) → d.lots ≡ [] → in_hand d ≡ Some (ops.Hand buf to) → owned d.fixed.me owners (buffer_of d.fixed buf) ≡ r

@@ -8,7 +8,7 @@ use Rattle.nc_model.specs.declared.owners.Owner.TheVariants.{Thread, Passing, Le
 use Rattle.nc_own.specs.Books.{owner_in, transferred}
 use Rattle.nc_own.proofs.Follows.{length-transferred}
 use Rattle.nc_scen.specs.declared.scenario.BufferSpec.{BufferSpec}
-use Rattle.nc_rules.proofs.SoundStart.{blank}
+use Rattle.nc_calls.proofs.SoundStart.{blank}
 use Rattle.nc_rules.specs.World.{owned_by_harts}
 use Rattle.nc_flat.specs.Invariant.{no_buffer}
 use Rattle.nc_flat.proofs.Shifts.{moved_in, moved_out}

@@ -26,12 +26,12 @@ use Rattle.nc_rules.specs.declared.steps.Phase.TheVariants.{Steps}
 use Rattle.nc_rules.specs.Built.{IsBuilt}
 use Rattle.nc_rules.specs.Driver.{DriverState}
 use Rattle.nc_rules.specs.Machine.{MachineState, no_hart, fresh_hart, queue_of, box_of}
-use Rattle.nc_rules.specs.PlaceLaws.{BothAt}
+use Rattle.nc_calls.specs.PlaceLaws.{BothAt}
 use Rattle.nc_rules.specs.Start.{memory, first_machine, first_driver}
 use Rattle.nc_rules.specs.World as worlds
 use Rattle.nc_rules.specs.World.{first_owners, start}
-use Rattle.nc_rules.proofs.DriverLaws.{first_drivers}
-use Rattle.nc_rules.proofs.SoundStart.{blank, length-memory, sound_start}
+use Rattle.nc_scripts.proofs.DriverLaws.{first_drivers}
+use Rattle.nc_calls.proofs.SoundStart.{blank, length-memory, sound_start}
 use Rattle.nc_flat.specs.Rows.{given, PoolRow, Row}
 use Rattle.nc_flat.specs.Messages.{mails, IsHeld}
 use Rattle.nc_flat.specs.Invariant.{IsPlain, Plain, IsOf, Drives, driver_at, buffer_at, no_buffer, StatusOf, Flatness}

@@ -24,15 +24,15 @@ use Rattle.nc_rules.specs.Turns.{Moved, moved}
 use Rattle.nc_rules.specs.Driver.{DriverState, Went, in_hand, started}
 use Rattle.nc_rules.specs.Events.{may_go_on}
 use Rattle.nc_rules.specs.Flat.{all_marks}
-use Rattle.nc_rules.specs.MachineLaws.{SameShape}
+use Rattle.nc_calls.specs.MachineLaws.{SameShape}
 use Rattle.nc_rules.specs.Next.{after_outcome}
 use Rattle.nc_rules.specs.Outcomes.{Outcome, goes, runs, nothing, start_outcome, step_outcome}
 use Rattle.nc_rules.specs.Records.{touch_records, moves_records}
-use Rattle.nc_rules.specs.Scripts.{IsDriver, IsDriven, Keeps, StaysDriver}
+use Rattle.nc_scripts.specs.Scripts.{IsDriver, IsDriven, Keeps, StaysDriver}
 use Rattle.nc_rules.specs.Sound.{IsMachine}
 use Rattle.nc_rules.specs.World.{WorldState, driver_of, owners_moved, with_moves}
-use Rattle.nc_rules.proofs.DriverLaws.{in_hand_is}
-use Rattle.nc_rules.proofs.SoundWith.{shape_same}
+use Rattle.nc_scripts.proofs.DriverLaws.{in_hand_is}
+use Rattle.nc_calls.proofs.SoundWith.{shape_same}
 use Rattle.nc_flat.specs.Invariant.{Flatness, Drives, buffer_at}
 use Rattle.nc_flat.proofs.CacheEvents.{SameMemory, flat_devices}
 use Rattle.nc_flat.proofs.Frames.{DriversMove, drivers_set}

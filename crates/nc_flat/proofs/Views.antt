@@ -5,7 +5,7 @@ use Rattle.std.proofs.lemmas.Bool.{cases_eq}
 use Rattle.nc_model.specs.declared.owners.Owner.{Owner}
 use Rattle.nc_model.specs.declared.owners.Owner.TheVariants.{Thread, Passing, Lending, Device, Returning, Synced, Pool}
 use Rattle.nc_rules.specs.Machine.{MachineState}
-use Rattle.nc_rules.specs.PlaceLaws.{BothAt}
+use Rattle.nc_calls.specs.PlaceLaws.{BothAt}
 use Rattle.nc_rules.specs.View.{middle, seen, view}
 use Rattle.nc_flat.specs.Rows.{given, ThreadRow, PoolRow, Row}
 

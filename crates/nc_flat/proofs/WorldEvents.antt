@@ -28,13 +28,13 @@ use Rattle.nc_rules.specs.Driver.{DriverState, stays, with_lots, searching, lent
 use Rattle.nc_rules.specs.Lots.{lot_id}
 use Rattle.nc_rules.specs.Flat.{all_marks}
 use Rattle.nc_rules.specs.Outcomes.{Outcome, runs, at_word, leaves, drain_outcome}
-use Rattle.nc_rules.specs.Turns.{moved, lots_after, turned}
+use Rattle.nc_rules.specs.Turns.{moved, lots_after, turned, turned_by}
 use Rattle.nc_rules.specs.Records.{transfer_records, answer_records, drain_records, read_records, write_records}
 use Rattle.nc_rules.specs.Watched.{owner_of, drain_touch, transaction_touch}
 use Rattle.nc_rules.specs.World.{WorldState, no_driver, driver_of}
-use Rattle.nc_rules.specs.MachineLaws.{SameShape}
+use Rattle.nc_calls.specs.MachineLaws.{SameShape}
 use Rattle.nc_rules.specs.Sound.{IsMachine}
-use Rattle.nc_rules.proofs.SoundSteps.{sound_chan_read, shape_chan_read, sound_chan_write, shape_chan_write}
+use Rattle.nc_calls.proofs.SoundSteps.{sound_chan_read, shape_chan_read, sound_chan_write, shape_chan_write}
 use Rattle.nc_flat.specs.Laws.{GoesTo, EventGoes}
 use Rattle.nc_flat.specs.Invariant.{Flatness, Inv}
 use Rattle.nc_flat.proofs.CacheEvents.{SameMemory, flat_fill, flat_evict, flat_devices}
@@ -57,7 +57,7 @@ drain_silent w h e =
 
 -- without a lot a token lends nothing
 lent_is : (d : DriverState) (label : Label) (first : ℕ) → d.lots ≡ [] → lent d label first ≡ stays d
-unfolding lent turned
+unfolding lent turned_by
 lent_is d label first none =
     ap (λ (lots : List Lot). record {
       driver = with_lots d (lots_after (turns.Give (lot_id label first)) lots);

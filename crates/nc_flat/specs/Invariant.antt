@@ -28,7 +28,7 @@ use Rattle.nc_rules.specs.Machine.{MachineState, queue_of, box_of}
 use Rattle.nc_rules.specs.Sound.{IsMachine}
 use Rattle.nc_rules.specs.Plans.{hart_step}
 use Rattle.nc_rules.specs.Driver.{DriverState, in_hand}
-use Rattle.nc_rules.specs.Scripts.{IsDriver}
+use Rattle.nc_scripts.specs.Scripts.{IsDriver}
 use Rattle.nc_rules.specs.Start.{fixed_of, hart_spec}
 use Rattle.nc_rules.specs.World as worlds
 use Rattle.nc_rules.specs.World.{WorldState}

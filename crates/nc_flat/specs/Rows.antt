@@ -5,7 +5,7 @@ use Rattle.nc_queue.specs.Rules.{gives}
 use Rattle.nc_model.specs.declared.owners.Owner.{Owner}
 use Rattle.nc_model.specs.declared.owners.Owner.TheVariants.{Thread, Passing, Lending, Device, Returning, Synced, Pool}
 use Rattle.nc_rules.specs.Machine.{MachineState, queue_of}
-use Rattle.nc_rules.specs.PlaceLaws.{BothAt}
+use Rattle.nc_calls.specs.PlaceLaws.{BothAt}
 use Rattle.nc_rules.specs.View.{view}
 
 -- what hart h's queue gives at a place

@@ -9,6 +9,3 @@
 mod laws;
 
 pub use laws::{events_keep_flat, kept_law, latest_law, runs_keep_flat, start_is_flat};
-
-#[cfg(test)]
-mod tests;

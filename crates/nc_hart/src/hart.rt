@@ -76,6 +76,13 @@ impl Hart {
         self.last = bytes;
     }
 
+    /// The bytes of the last load; none before the first.
+    pub fn last(&self) -> &Bytes
+        ensures { result.now ≡ self.now.last }
+    {
+        &self.last
+    }
+
     /// The store queue.
     pub fn queue(&self) -> &Queue
         ensures { result.now ≡ self.now.queue }

@@ -8,6 +8,3 @@ mod hart;
 mod ops;
 
 pub use hart::Hart;
-
-#[cfg(test)]
-mod tests;

@@ -17,6 +17,3 @@ pub use sink::{Sink, Stop, write_all};
 pub use source::{Failed, Source};
 pub use stream::{StdSink, StdSource};
 pub use sure::{SureSink, SureSource};
-
-#[cfg(test)]
-mod tests;

@@ -9,6 +9,3 @@
 mod laws;
 
 pub use laws::{lines_cover, lines_drain, lines_gain};
-
-#[cfg(test)]
-mod tests;

@@ -8,7 +8,7 @@ use Rattle.nc_hart.specs.HartState.{HartState}
 use Rattle.nc_hart.specs.Issue.{marks, marker, pushed, issued}
 use Rattle.nc_rules.specs.Machine.{MachineState, hart_of, queue_of}
 use Rattle.nc_rules.specs.Calls.{issue_next}
-use Rattle.nc_rules.proofs.MachineParts.{hart_here}
+use Rattle.nc_calls.proofs.MachineParts.{hart_here}
 
 grown : (q : QueueState) (e : Entry) (b : Bool) → length q.entries < length (pushed q (if b then Some e else None)).entries → b ≡ true
 grown q e true lt = refl

@@ -9,10 +9,10 @@ use Rattle.nc_hart.specs.HartState.{HartState}
 use Rattle.nc_rules.specs.Machine.{MachineState, hart_of, with_cache, with_hart}
 use Rattle.nc_rules.specs.Calls.{leaving, without_entry}
 use Rattle.nc_rules.specs.Sound.{IsMachine, EntryIsThere}
-use Rattle.nc_rules.specs.MachineLaws.{SameShape}
-use Rattle.nc_rules.proofs.SoundParts.{there_same}
-use Rattle.nc_rules.proofs.SoundWith.{sound_cache, shape_cache, shape_hart}
-use Rattle.nc_rules.proofs.SoundDrain.{leaving_is, sound_without, shape_without, without}
+use Rattle.nc_calls.specs.MachineLaws.{SameShape}
+use Rattle.nc_calls.proofs.SoundParts.{there_same}
+use Rattle.nc_calls.proofs.SoundWith.{sound_cache, shape_cache, shape_hart}
+use Rattle.nc_calls.proofs.SoundDrain.{leaving_is, sound_without, shape_without, without}
 use Rattle.nc_machine.specs.State.{IsKept}
 
 -- the machine p, which has the shape of m

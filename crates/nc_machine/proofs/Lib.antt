@@ -3,4 +3,3 @@ pub mod Claims
 pub mod Loads
 pub mod Keeps
 pub mod Fences
-pub mod Benches

@@ -14,6 +14,3 @@ mod start;
 
 pub use machine::Machine;
 pub use nc_rules::Issued;
-
-#[cfg(test)]
-mod tests;

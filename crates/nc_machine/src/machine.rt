@@ -323,6 +323,26 @@ impl Machine {
         self.queue(h).lends(label)
     }
 
+    /// The bytes of hart h's last load; none before the first.
+    pub fn last(&self, h: HartNo) -> &Bytes
+        requires { h.0 < length self.now.machine.harts }
+        ensures value { result.now ≡ (hart_of self.now.machine h.0).last }
+        ensures sound { IsMachine self.now.machine }
+    {
+        self.harts[usize::from(h.0)].last()
+    }
+
+    /// The value of a channel's register of this width at an offset, both in bytes; 0 where there is none.
+    pub fn register(&self, chan: ChanNo, off: u16, width: u8) -> u64
+        requires { chan.0 < 4 }
+        ensures value { result ≡ register_value self.now.machine chan.0 off width }
+        ensures sound { IsMachine self.now.machine }
+    {
+        self.channels[usize::from(chan.0)]
+            .read(off, width)
+            .unwrap_or(0)
+    }
+
     /// The bytes of a span in one block of RAM: the caches', else memory's.
     #[tactic(auto, unfolding(nc_rules::specs::View::middle))]
     pub fn bytes(&self, span: Span) -> Bytes
@@ -333,6 +353,14 @@ impl Machine {
         ensures sound { IsMachine self.now.machine }
     {
         self.domain.bytes(&self.ram, span)
+    }
+
+    /// Does nothing: its clause says that every machine is sound.
+    pub fn sound(&self)
+        ensures { IsMachine self.now.machine }
+    {
+        // the invariant is known where a field is named
+        let _ = &self.size;
     }
 
     // ---- what the calls are made of
@@ -424,16 +452,6 @@ impl Machine {
         let bus = self.bring(h, span, kind);
         harts::give(&mut self.harts, h, bytes);
         Issued::Loaded { bytes, bus }
-    }
-
-    /// What a register holds; there is one of this width at the offset.
-    fn register(&self, chan: ChanNo, off: u16, width: u8) -> u64
-        requires { chan.0 < 4 }
-        ensures { result ≡ register_value self.now.machine chan.0 off width }
-    {
-        self.channels[usize::from(chan.0)]
-            .read(off, width)
-            .unwrap_or(0)
     }
 
     /// Puts the entry of an operation that is no load, where it has one, behind the others of hart h's queue.

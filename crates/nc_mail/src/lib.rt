@@ -8,6 +8,3 @@
 mod mail;
 
 pub use mail::Mail;
-
-#[cfg(test)]
-mod tests;

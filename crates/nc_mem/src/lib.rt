@@ -12,9 +12,6 @@ use nc_num::{Bytes, NoMemory, Span};
 use std::alloc::Global;
 use std::marker::Model;
 
-#[cfg(test)]
-mod tests;
-
 /// Main memory, fewer than 2^32 bytes. Contracts see the list of the bytes, by place.
 #[derive(Debug, Drop)]
 pub struct Ram {

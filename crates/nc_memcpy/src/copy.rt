@@ -54,6 +54,24 @@ pub fn copy_plan(
     Ok(steps)
 }
 
+/// The steps between the lending of a copy's ranges and their return: the registers of the channel are set, it is
+/// started, polled and released. The copy and its registers are this project's own.
+pub fn transfer_plan(
+    alloc: Global,
+    chan: ChanNo,
+    src: Part,
+    dst: Part,
+    cfg: u32,
+) -> Result<Vec<CopyStep>, NoMemory>
+    requires src { IsPart src }
+    requires dst { IsPart dst }
+    ensures { IfOk result (λ steps. steps.items ≡ transfer chan src dst cfg) }
+{
+    let mut steps = Vec::new(alloc);
+    push_transfer(&mut steps, chan, src, dst, cfg)?;
+    Ok(steps)
+}
+
 /// Sets the registers of the channel, starts it, polls it and releases it.
 fn push_transfer(
     steps: &mut Vec<CopyStep>,

@@ -2,12 +2,9 @@
 //!
 //! The contract for the crates above: `copy_plan` is exactly the list of `specs/Copy.antt`: the source is lent, then
 //! the destination, the channel's registers are set, it is started, polled and released, and then the destination and
-//! the source are taken back. The driver stands above.
+//! the source are taken back; `transfer_plan` is the part in the middle. The driver stands above.
 #![tactic(auto)]
 
 mod copy;
 
-pub use copy::{CopyStep, copy_plan};
-
-#[cfg(test)]
-mod tests;
+pub use copy::{CopyStep, copy_plan, transfer_plan};

@@ -19,6 +19,3 @@ pub use laws::{
 };
 pub use owners::{Access, Actor, Grant, Owner};
 pub use touches::{Touch, TouchKind};
-
-#[cfg(test)]
-mod tests;

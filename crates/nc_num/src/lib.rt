@@ -13,6 +13,3 @@ mod places;
 pub use bytes::Bytes;
 pub use names::{ChanNo, Dir, HartNo, Label, MapId, MemType, NoMemory};
 pub use places::{Block, Place, Span, block_of, first_piece, pieces_tile};
-
-#[cfg(test)]
-mod tests;

@@ -14,6 +14,3 @@ mod texts;
 pub use arguments::Room;
 pub use operations::read_op;
 pub use ops::{BusArg, HexBytes, Op, Ops, SgEntries, SgEntry, Spot};
-
-#[cfg(test)]
-mod tests;

@@ -1,10 +1,10 @@
 //! The operations of a hart's script. All of them are this project's own; the calls that they stand for are those of
 //! the Linux DMA API and the cache-block operations of RISC-V CMO 1.0.
 
-ghost use Rattle.std.specs.Prelude.{◌≡◌, ◌<◌, All};
+ghost use Rattle.std.specs.Prelude.{◌≡◌, ◌<◌, All, IfOk};
 
 use nc_env::CboOp;
-use nc_num::{ChanNo, Dir, HartNo, Label};
+use nc_num::{ChanNo, Dir, HartNo, Label, NoMemory};
 use std::marker::Model;
 
 /// What a load or a store names.
@@ -43,7 +43,7 @@ pub struct SgEntry {
 }
 
 /// The entries of a scatter list, at most 16, in order.
-#[derive(Debug, Drop)]
+#[derive(Clone, Debug, Drop)]
 pub struct SgEntries {
     items: Vec<SgEntry>,
 }
@@ -74,7 +74,7 @@ impl SgEntries {
 }
 
 /// The bytes that a store writes, at most 4,096.
-#[derive(Debug, Drop)]
+#[derive(Clone, Debug, Drop)]
 pub struct HexBytes {
     items: Vec<u8>,
 }
@@ -105,7 +105,7 @@ impl HexBytes {
 }
 
 /// An operation of a hart's script. Offsets and lengths are in bytes; labels are 0 to 999, channels 0 to 3.
-#[derive(Debug, Drop)]
+#[derive(Clone, Debug, Drop)]
 pub enum Op {
     /// A load.
     Ld {
@@ -262,6 +262,15 @@ pub enum Op {
         /// The value of NextConfig, without the repeat bit.
         cfg: u32,
     },
+}
+
+impl Op {
+    /// Returns a copy of the operation. The error is want of memory, for the bytes of a store and the entries of a list.
+    pub fn try_clone(&self) -> Result<Op, NoMemory>
+        ensures { IfOk result (λ o. o ≡ self.now) }
+    {
+        Ok(self.clone()?)
+    }
 }
 
 /// The operations of a script, in order.

@@ -1,7 +1,7 @@
 -- The list of owners follows the transfers.
-use Rattle.std.proofs.Common.{◌≡◌, ℕ, zero, suc, ◌+◌, ◌<◌, ◌≤◌, Bool, true, false, List, [], ◌∷◌, Option, Some, None, length, replicate, map, cond, refl, sym, ap, ◌∙◌, arith}
+use Rattle.std.proofs.Common.{◌≡◌, ℕ, zero, suc, ◌+◌, ◌<◌, ◌≤◌, List, [], ◌∷◌, length, replicate, map, cond, refl, ap, ◌∙◌, arith}
 use Rattle.std.proofs.lemmas.List.FromFn.{get_or-map-range_with_len, length-map-range_with_len}
-use Rattle.std.specs.List.{find, range_with_len}
+use Rattle.std.specs.List.{range_with_len}
 use Rattle.nc_num.specs.Places.{covers}
 use Rattle.nc_num.specs.declared.places.Span.{Span}
 use Rattle.nc_model.specs.Owners.{owner_at}
@@ -43,28 +43,10 @@ transferred-owners_of ram ts span owner =
     (map_agree (λ x. cond (covers span x) owner (owner_in (owners_of ram ts) x)) (owner_at ((span, owner) ∷ ts)) 0 ram (λ x le lt. ap (λ (o : Owner). cond (covers span x) owner o) (owner_in-owners_of ram ts x (omega arith)))
     ∙ map_of ram ((span, owner) ∷ ts))
 
--- the owner by a search
-found_owner : Option (Span × Owner) → Owner
-found_owner None = Pool
-found_owner (Some t) = t.1
-
-by_test : (b : Bool) (t : Span × Owner) (o : Option (Span × Owner)) (rest : Owner) → rest ≡ found_owner o → cond b t.1 rest ≡ found_owner (cond b (Some t) o)
-unfolding found_owner
-by_test true t o rest e = refl
-by_test false t o rest e = e
-
-owner_at-found : (ts : List (Span × Owner)) (x : ℕ) → owner_at ts x ≡ found_owner (find (λ t. covers t.0 x) ts)
-unfolding found_owner
-owner_at-found [] x = refl
-owner_at-found (t ∷ ts) x = by_test (covers t.0 x) t (find (λ k. covers k.0 x) ts) (owner_at ts x) (owner_at-found ts x)
-
-pub owner_at_none : (ts : List (Span × Owner)) (x : ℕ) → None ≡ find (λ t. covers t.0 x) ts → Pool ≡ owner_at ts x
-unfolding found_owner
-owner_at_none ts x e = ap found_owner e ∙ sym (owner_at-found ts x)
-
-pub owner_at_some : (ts : List (Span × Owner)) (x : ℕ) (t : Span × Owner) → Some t ≡ find (λ k. covers k.0 x) ts → t.1 ≡ owner_at ts x
-unfolding found_owner
-owner_at_some ts x t e = ap found_owner e ∙ sym (owner_at-found ts x)
+-- transfers that give each place of RAM one owner
+pub owners_of-same : (ram : ℕ) (ts us : List (Span × Owner)) → ((x : ℕ) → x < ram → owner_at ts x ≡ owner_at us x) → owners_of ram ts ≡ owners_of ram us
+unfolding owners_of
+owners_of-same ram ts us h = map_agree (owner_at ts) (owner_at us) 0 ram (λ x le lt. h x (omega arith))
 
 -- the owner of each place after a change
 pub length-transferred : (owners : List Owner) (span : Span) (owner : Owner) → length (transferred owners span owner) ≡ length owners

@@ -1,6 +1,6 @@
 //! The book.
 
-ghost use Rattle.std.specs.Prelude.{◌≡◌, ◌+◌, ◌^◌, ◌<◌, ◌≤◌, true, [], ◌∷◌, ◌++◌, length, replicate, Option, Some, None, IfOk, IfErr, IfSome, OnOk};
+ghost use Rattle.std.specs.Prelude.{◌≡◌, ◌+◌, ◌^◌, ◌<◌, ◌≤◌, true, [], ◌∷◌, ◌++◌, length, replicate, Option, Some, None, IfOk, IfErr, IfSome, MatchOption, OnOk, OnErr, false};
 ghost use Rattle.std.specs.List.{find};
 ghost use Rattle.std.specs.Option.{option_map};
 ghost use Rattle.nc_num.specs.Places.{covers};
@@ -8,12 +8,14 @@ ghost use Rattle.nc_model.specs.Grants.{FitsIn, IsGrants, CanAdd, without};
 ghost use Rattle.nc_model.specs.Rights.{hart_may, synced_may, channel_may, grant_of, has_device, served_by, stands_for, resolve};
 ghost use Rattle.nc_model.specs.Touches.{first_fault, rights_touch, channel_touch, owner_touch};
 ghost use Rattle.nc_model.specs.declared.owners.Owner.TheVariants as owner;
-ghost use Rattle.nc_own.specs.Books.{owner_in, transferred};
+ghost use Rattle.nc_own.specs.Books.{owner_in, transferred, AreIntervals, IsAround, Reaches};
 
 use crate::finds::{
-    buffer_place, cpu_may, device_may, grant_for_channel, grant_over, grant_with_id, newest_owner,
+    buffer_place, cpu_may, grant_allows, grant_for_channel, grant_over, grant_with_id,
     remove_with_id,
 };
+use crate::guesses::Guesses;
+use crate::intervals::{Interval, end_of, give, index_of, interval_near, push_run};
 use nc_model::{Access, Actor, Grant, Owner, Touch, TouchKind};
 use nc_num::{ChanNo, HartNo, MapId, NoMemory, Place, Span};
 use std::alloc::Global;
@@ -26,19 +28,22 @@ use std::marker::Model;
 #[derive(Drop)]
 pub struct Book {
     ram: u32,
-    transfers: Vec<(Span, Owner)>,
+    intervals: Vec<Interval>,
     grants: Vec<Grant>,
+    room: u32,
+    guesses: Guesses,
 }
 
 impl Model for Book {
-    ghost use Rattle.std.specs.Prelude.{◌-◌, min, reverse, vec_len, vec_capacity};
+    ghost use Rattle.std.specs.Prelude.{◌-◌, vec_len, vec_capacity};
+    ghost use Rattle.nc_own.specs.Tiles.{made};
     ghost use Rattle.nc_own.specs.Books.{Shown, IsBook, owners_of};
 
     ghost Value = { Shown };
 
-    ghost view = { λ b. record { owners = owners_of b.ram (reverse b.transfers.items); grants = b.grants.items; spare = min (vec_capacity b.transfers - vec_len b.transfers) (vec_capacity b.grants - vec_len b.grants) } };
+    ghost view = { λ b. record { owners = owners_of b.ram (made b.intervals.items); grants = b.grants.items; spare = b.room } };
 
-    ghost invariant = { λ b. IsBook b.ram b.grants.items };
+    ghost invariant = { λ b. IsBook b.ram b.room (vec_capacity b.intervals - vec_len b.intervals) (vec_capacity b.grants - vec_len b.grants) b.intervals.items b.grants.items };
 }
 
 impl Book {
@@ -47,10 +52,14 @@ impl Book {
         ensures owners { IfOk result (λ b. b.owners ≡ replicate ram owner.Pool) }
         ensures grants { IfOk result (λ b. b.grants ≡ []) }
     {
+        let mut intervals = Vec::with_capacity(alloc, 1)?;
+        push_run(&mut intervals, 0, ram, Owner::Pool);
         Ok(Book {
             ram,
-            transfers: Vec::new(alloc),
+            intervals,
             grants: Vec::new(alloc),
+            room: 0,
+            guesses: Guesses::new(),
         })
     }
 
@@ -58,12 +67,23 @@ impl Book {
     pub fn reserve(&mut self, n: u32) -> Result<(), NoMemory>
         ensures room { OnOk result (n ≤ self.new.spare) }
         ensures kept { self.old.spare ≤ self.new.spare }
+        ensures failed { OnErr result (self.new.spare ≡ self.old.spare) }
         ensures owners { self.new.owners ≡ self.old.owners }
         ensures grants { self.new.grants ≡ self.old.grants }
     {
-        self.transfers.reserve(n as usize)?;
-        self.grants.reserve(n as usize)?;
+        if self.room < n {
+            self.intervals.reserve(3 * n as usize)?;
+            self.grants.reserve(n as usize)?;
+            self.room = n;
+        }
         Ok(())
+    }
+
+    /// Returns the intervals of RAM by owner, ascending: each as long as its places have one owner. It takes no memory.
+    pub fn intervals(&self) -> &[Interval]
+        ensures { AreIntervals self.now.owners result.now }
+    {
+        &self.intervals
     }
 
     /// The owner of a place of RAM.
@@ -71,7 +91,7 @@ impl Book {
         requires { at.0 < length self.now.owners }
         ensures { result ≡ owner_in self.now.owners at.0 }
     {
-        newest_owner(&self.transfers, at.0)
+        self.interval(at.0).owner
     }
 
     /// Gives the bytes of a span another owner. It takes no memory, and one unit of room.
@@ -84,7 +104,10 @@ impl Book {
         ensures grants { self.new.grants ≡ self.old.grants }
         ensures room { self.old.spare ≤ self.new.spare + 1 }
     {
-        self.transfers.push_reserved((span, owner));
+        give(&mut self.intervals, self.ram, span, owner);
+        let number = index_of(&self.intervals, span.at);
+        self.guesses.note(span, number);
+        self.room -= 1;
     }
 
     /// Grants to a channel what a mapping lends it, behind all other grants. It takes no memory, and one unit of room.
@@ -96,6 +119,7 @@ impl Book {
         ensures room { self.old.spare ≤ self.new.spare + 1 }
     {
         self.grants.push_reserved(g);
+        self.room -= 1;
     }
 
     /// Takes the grant of a mapping away.
@@ -181,10 +205,14 @@ impl Book {
         ensures first { option_map (λ p. p.0) result ≡ first_fault (λ x. hart_may self.now.grants h access (owner_in self.now.owners x)) span }
         ensures inside { IfSome result (λ p. p.0 < length self.now.owners) }
     {
-        for x in span.at..self.end_of(span) {
-            if !self.hart_may(h, access, Place(x)) {
-                return Some(Place(x));
+        let end = self.end_of(span);
+        let mut at = span.at;
+        while at < end {
+            let interval = self.interval(at);
+            if !self.hart_may(h, access, interval.owner) {
+                return Some(Place(at));
             }
+            at = end_of(interval.span);
         }
         None
     }
@@ -195,9 +223,12 @@ impl Book {
         ensures first { option_map (λ p. p.0) result ≡ first_fault (channel_may (owner_in self.now.owners) self.now.grants c access) span }
         ensures inside { IfSome result (λ p. p.0 < length self.now.owners) }
     {
-        for x in span.at..self.end_of(span) {
-            if !self.channel_may(c, access, Place(x)) {
-                return Some(Place(x));
+        let end = self.end_of(span);
+        let mut at = span.at;
+        while at < end {
+            match self.channel_reach(c, access, at) {
+                None => return Some(Place(at)),
+                Some(next) => at = next,
             }
         }
         None
@@ -212,12 +243,20 @@ impl Book {
         span.at + span.len
     }
 
-    /// Whether a hart may use a byte.
-    fn hart_may(&self, h: HartNo, access: Access, at: Place) -> bool
-        requires { at.0 < length self.now.owners }
-        ensures { result ≡ hart_may self.now.grants h access (owner_in self.now.owners at.0) }
+    /// The interval that has a place of RAM.
+    fn interval(&self, at: u32) -> Interval
+        requires { at < length self.now.owners }
+        ensures around { IsAround self.now.owners at result }
+        ensures size { length self.now.owners < 2 ^ 32 }
     {
-        match self.owner(at) {
+        interval_near(&self.intervals, self.guesses.at(at), at)
+    }
+
+    /// Whether a hart may use a byte of this owner.
+    fn hart_may(&self, h: HartNo, access: Access, owner: Owner) -> bool
+        ensures { result ≡ hart_may self.now.grants h access owner }
+    {
+        match owner {
             Owner::Thread(g) => g == h,
             Owner::Synced(m) => m.hart == h && self.synced_may(access, m),
             _ => false,
@@ -234,16 +273,19 @@ impl Book {
         }
     }
 
-    /// Whether a channel may use a place.
-    fn channel_may(&self, c: ChanNo, access: Access, at: Place) -> bool
-        ensures { result ≡ channel_may (owner_in self.now.owners) self.now.grants c access at.0 }
+    /// The place before which a channel may use all from a place on, None where it may not use that place.
+    fn channel_reach(&self, c: ChanNo, access: Access, at: u32) -> Option<u32>
+        ensures { MatchOption result (channel_may (owner_in self.now.owners) self.now.grants c access at ≡ false) (Reaches (channel_may (owner_in self.now.owners) self.now.grants c access) at) }
     {
-        match self.serving(c, at.0) {
-            None => false,
-            Some(g) => match self.owner(Place(buffer_place(g, at.0))) {
-                Owner::Device(m) => m == g.id && device_may(access, g.dir),
-                _ => false,
-            },
+        let g = self.serving(c, at)?;
+        let place = buffer_place(g, at);
+        let interval = self.interval(place);
+        if grant_allows(g, access, interval.owner) {
+            let granted = end_of(g.device) - at;
+            let owned = end_of(interval.span) - place;
+            Some(at + granted.min(owned))
+        } else {
+            None
         }
     }
 

@@ -1,11 +1,10 @@
-//! Look-ups in lists of transfers and grants.
+//! Look-ups in lists of grants, and what a grant allows.
 
-ghost use Rattle.std.specs.Prelude.{◌≡◌, ◌<◌, ◌≤◌, ◌+◌, ◌^◌, true, reverse, vec_len, vec_capacity};
+ghost use Rattle.std.specs.Prelude.{◌≡◌, ◌<◌, ◌≤◌, ◌+◌, ◌^◌, ◌&&◌, true, vec_len, vec_capacity};
 ghost use Rattle.std.specs.List.{find};
 ghost use Rattle.nc_num.specs.Places.{covers as span_covers};
 ghost use Rattle.nc_model.specs.Grants.{without};
-ghost use Rattle.nc_model.specs.Owners.{owner_at};
-ghost use Rattle.nc_model.specs.Rights.{grant_of, served_by, has_device, buffer_place as place_of_buffer, cpu_may as may_by_cpu, device_may as may_by_device};
+ghost use Rattle.nc_model.specs.Rights.{grant_of, served_by, has_device, is_device, buffer_place as place_of_buffer, cpu_may as may_by_cpu, device_may as may_by_device};
 
 use nc_model::{Access, Grant, Owner};
 use nc_num::{ChanNo, Dir, MapId, Span};
@@ -15,23 +14,6 @@ fn covers(span: Span, at: u32) -> bool
     ensures { result ≡ span_covers span at }
 {
     span.at <= at && at - span.at < span.len
-}
-
-/// The newest transfer over a place, of a list with the newest last.
-fn newest_over(transfers: &[(Span, Owner)], at: u32) -> Option<(Span, Owner)>
-    ensures { result ≡ find (λ t. span_covers t.0 at) (reverse transfers.now) }
-{
-    transfers.iter().rev().copied().find(|t| covers(t.0, at))
-}
-
-/// The owner of a place by a list of transfers, the newest last.
-pub fn newest_owner(transfers: &[(Span, Owner)], at: u32) -> Owner
-    ensures { result ≡ owner_at (reverse transfers.now) at }
-{
-    match newest_over(transfers, at) {
-        None => Owner::Pool,
-        Some(t) => t.1,
-    }
 }
 
 /// The grant of a mapping.
@@ -85,6 +67,16 @@ pub fn device_may(access: Access, dir: Dir) -> bool
     match access {
         Access::Read => dir != Dir::FromDev,
         Access::Write => dir != Dir::ToDev,
+    }
+}
+
+/// Whether a channel may use through a grant a byte of the buffer that has this owner.
+pub fn grant_allows(g: Grant, access: Access, owner: Owner) -> bool
+    ensures { result ≡ (is_device g.id owner && may_by_device access g.dir) }
+{
+    match owner {
+        Owner::Device(m) => m == g.id && device_may(access, g.dir),
+        _ => false,
     }
 }
 

@@ -8,11 +8,11 @@
 
 mod book;
 mod finds;
+mod guesses;
+mod intervals;
 mod laws;
 
 pub use book::Book;
+pub use intervals::Interval;
 pub use laws::{book_is_transfers, same_touches};
 pub use nc_model::{Access, Actor, Grant, Owner, Touch, TouchKind};
-
-#[cfg(test)]
-mod tests;

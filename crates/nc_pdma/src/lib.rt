@@ -13,6 +13,3 @@ pub use channel::{ChanStep, Channel};
 pub use laws::{
     channels_stay_sound, claim_by_control, reads_take_the_next_bytes, writes_give_the_first_bytes,
 };
-
-#[cfg(test)]
-mod tests;

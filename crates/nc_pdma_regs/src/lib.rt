@@ -14,6 +14,3 @@ mod table;
 pub use config::Transfer;
 pub use regs::{Regs, claim_by_control, runs_are_claimed};
 pub use table::{BadMmio, known};
-
-#[cfg(test)]
-mod tests;

@@ -23,8 +23,3 @@ pub use plans::{
     push_cbos, push_full,
 };
 pub use segments::{SegList, Segment};
-
-#[cfg(test)]
-mod plan_tests;
-#[cfg(test)]
-mod tests;

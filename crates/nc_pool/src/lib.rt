@@ -11,6 +11,3 @@ mod view;
 
 pub use pool::{NewSeat, Pool, PoolRoot, PoolSeat, PoolTry};
 pub use view::{PoolKey, PoolRule, PoolView, each_slot_is_owned_once};
-
-#[cfg(test)]
-mod tests;

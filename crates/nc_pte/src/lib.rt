@@ -9,6 +9,3 @@
 mod translation;
 
 pub use translation::{PageFault, is_pte_word, places_lie_in_ram, translate, valid_words};
-
-#[cfg(test)]
-mod tests;

@@ -1,9 +1,12 @@
 -- Every entry of a queue meets the condition of a push.
-use Rattle.std.specs.Prelude.{Some, None, slice_get, remove}
-use Rattle.std.proofs.Common.{◌≡◌, ℕ, zero, suc, ◌+◌, ◌-◌, ◌<◌, ◌≤◌, get_or, ◌∙◌, List, [], ◌∷◌, ◌++◌, take, length, refl, subst, arith}
-use Rattle.std.specs.Prelude.{slice_set}
-use Rattle.std.proofs.lemmas.List.{take_more_set, length-set, length-take}
-use Rattle.nc_queue.specs.QueueState.{IsKept}
+use Rattle.std.specs.Prelude.{Some, None, slice_get, slice_set, remove}
+use Rattle.std.proofs.Common.{◌≡◌, ℕ, zero, suc, ◌+◌, ◌-◌, ◌%◌, ◌<◌, ◌≤◌, get_or, ◌∙◌, sym, ap, List, [], ◌∷◌, ◌++◌, length, refl, subst, arith}
+use Rattle.std.proofs.lemmas.List.{length-set}
+use Rattle.nc_num.specs.Sizes.{IsBlockSize}
+use Rattle.nc_queue.proofs.Drained.{get_some, get_none}
+use Rattle.nc_queue.proofs.Rings.{length-window, get_or-window, window-push}
+use Rattle.nc_queue.specs.QueueState.{QueueState, IsKept}
+use Rattle.nc_queue.specs.Ring.{window}
 use Rattle.nc_queue.specs.Entries.{Fits, AllFit}
 use Rattle.nc_queue.specs.declared.entry.Entry.{Entry}
 
@@ -23,42 +26,52 @@ fits-remove s (a ∷ q) zero fit = fit.1
 fits-remove s (a ∷ q) (suc i) fit = (fit.0, fits-remove s q i fit.1)
 
 -- the cells after a push, and after a drain
-pub kept-push : (cells : List Entry) (len size : ℕ) (e : Entry) → IsKept cells len size → len < 8 → Fits size e → IsKept (slice_set cells len e) (len + 1) size
-kept-push cells len size e kept lt fits = record {
+pub kept-push : (cells : List Entry) (start len size : ℕ) (e : Entry) → IsKept cells start len size → len < 8 → Fits size e → IsKept (slice_set cells ((start + len) % 8) e) start (len + 1) size
+kept-push cells start len size e kept lt fits = record {
+  start_in = kept.start_in;
   few = omega arith;
-  room = length-set cells len e ∙ kept.room;
+  room = length-set cells ((start + len) % 8) e ∙ kept.room;
   known = kept.known;
-  fit = rw (take_more_set cells len e (omega (arith, kept.room))) (fits-push size (take len cells) e kept.fit fits);
+  fit = rw (window-push start len cells e kept.start_in lt kept.room) (fits-push size (window start len cells) e kept.fit fits);
 }
 
-pub kept-remove : (cells after : List Entry) (len size i : ℕ) → IsKept cells len size → i < len → length after ≡ length cells → take (len - 1) after ≡ remove (take len cells) i → IsKept after (len - 1) size
-kept-remove cells after len size i kept lt long is = record {
+pub kept-remove : (cells after : List Entry) (start from len size i : ℕ) → IsKept cells start len size → i < len → length after ≡ length cells → from < 8
+    → window from (len - 1) after ≡ remove (window start len cells) i → IsKept after from (len - 1) size
+kept-remove cells after start from len size i kept lt long inside is = record {
+  start_in = inside;
   few = omega (arith, kept.few);
   room = long ∙ kept.room;
   known = kept.known;
-  fit = rw is (fits-remove size (take len cells) i kept.fit);
+  fit = rw is (fits-remove size (window start len cells) i kept.fit);
 }
 
-get-take : (n : ℕ) (xs : List Entry) (i : ℕ) (d : Entry) → i < n → n ≤ length xs → slice_get (take n xs) i ≡ Some (get_or xs i d)
-get-take zero xs i d lt le = absurd (omega arith)
-get-take (suc n) [] i d lt le = absurd (omega arith)
-get-take (suc n) (x ∷ xs) zero d lt le = refl
-get-take (suc n) (x ∷ xs) (suc i) d lt le = get-take n xs i d (omega arith) (omega arith)
+pub kept-length : (cells : List Entry) (start len size : ℕ) → IsKept cells start len size → length (window start len cells) ≡ len
+kept-length cells start len size kept = length-window start len cells kept.start_in kept.few kept.room
 
-pub kept-get : (cells : List Entry) (len size i : ℕ) (d : Entry) → IsKept cells len size → i < len → slice_get (take len cells) i ≡ Some (get_or cells i d)
-kept-get cells len size i d kept lt = get-take len cells i d lt (omega (arith, kept.room, kept.few))
+-- entry i, from its cell
+pub kept-get : (cells : List Entry) (start len size i p : ℕ) (d : Entry) → IsKept cells start len size → i < len → p ≡ (start + i) % 8 → slice_get (window start len cells) i ≡ Some (get_or cells p d)
+kept-get cells start len size i p d kept lt at =
+    get_some (window start len cells) i d (omega (arith, kept-length cells start len size kept))
+    ∙ ap Some (get_or-window start len cells i d kept.start_in kept.few kept.room lt ∙ ap (λ n. get_or cells n d) (sym at))
 
-pub kept-fits : (cells : List Entry) (len size i : ℕ) (d : Entry) → IsKept cells len size → i < len → Fits size (get_or cells i d)
-kept-fits cells len size i d kept lt = fits_at size (take len cells) i (get_or cells i d) kept.fit (kept-get cells len size i d kept lt)
+pub kept-fits : (cells : List Entry) (start len size i p : ℕ) (d : Entry) → IsKept cells start len size → i < len → p ≡ (start + i) % 8 → Fits size (get_or cells p d)
+kept-fits cells start len size i p d kept lt at = fits_at size (window start len cells) i (get_or cells p d) kept.fit (kept-get cells start len size i p d kept lt at)
 
-pub shorter : (cells : List Entry) (len i : ℕ) → i < length (take len cells) → i < len
-shorter cells len i lt = omega (arith, length-take len cells)
+pub kept-past : (cells : List Entry) (start len size i : ℕ) → IsKept cells start len size → len ≤ i → None ≡ slice_get (window start len cells) i
+kept-past cells start len size i kept le = get_none (window start len cells) i (omega (arith, kept-length cells start len size kept))
 
-get_past : (n : ℕ) (xs : List Entry) (i : ℕ) → n ≤ i → None ≡ slice_get (take n xs) i
-get_past zero xs i le = refl
-get_past (suc n) [] i le = refl
-get_past (suc n) (x ∷ xs) zero le = absurd (omega arith)
-get_past (suc n) (x ∷ xs) (suc i) le = get_past n xs i (omega arith)
+-- the entries that are listed are those of the cells
+pub kept-listed : (cells : List Entry) (start len size : ℕ) (q : List Entry) (now : QueueState) → q ≡ now.entries → record { size = size; entries = window start len cells } ≡ now → q ≡ window start len cells
+kept-listed cells start len size q now same is = same ∙ sym (ap (λ (k : QueueState). k.entries) is)
 
-pub kept-past : (cells : List Entry) (len i : ℕ) → len ≤ i → None ≡ slice_get (take len cells) i
-kept-past cells len i le = get_past len cells i le
+pub kept-there : (cells : List Entry) (start len size i : ℕ) (q : List Entry) (now : QueueState) → IsKept cells start len size → q ≡ now.entries → record { size = size; entries = window start len cells } ≡ now → i < length q → i < len
+kept-there cells start len size i q now kept same is lt = omega (arith, ap length (kept-listed cells start len size q now same is), kept-length cells start len size kept)
+
+-- a queue of no entries
+pub kept-none : (cells : List Entry) (size : ℕ) → length cells ≡ 8 → IsBlockSize size → IsKept cells 0 0 size
+unfolding window
+kept-none cells size eight known = record { start_in = omega arith; few = omega arith; room = eight; known = known; fit = tt }
+
+pub window-none : (start : ℕ) (cells : List Entry) → window start 0 cells ≡ []
+unfolding window
+window-none start cells = refl

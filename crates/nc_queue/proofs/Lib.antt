@@ -1,4 +1,3 @@
-pub mod Gap
 pub mod Held
 pub mod Newest
 pub mod Fit
@@ -7,3 +6,4 @@ pub mod TestLaws
 pub mod GivesLaws
 pub mod FenceLaws
 pub mod DrainLaws
+pub mod Rings

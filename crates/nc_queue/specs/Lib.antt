@@ -1,3 +1,4 @@
+pub mod Ring
 pub mod Entries
 pub mod Rules
 pub mod QueueState

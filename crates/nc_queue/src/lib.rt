@@ -9,11 +9,9 @@
 mod entry;
 mod laws;
 mod queue;
+mod ring;
 mod rules;
 
 pub use entry::{Entry, Full};
 pub use laws::{drain_law, marker_law, output_law, push_law};
 pub use queue::Queue;
-
-#[cfg(test)]
-mod tests;

@@ -1,35 +1,35 @@
-//! The queue: an array of eight places, of which the first hold the entries, the oldest first.
+//! The queue: a ring of eight places, with a start and a length.
 
 ghost use Rattle.std.specs.Prelude.{◌≡◌, ◌↔◌, ◌≤◌, ◌<◌, List, [], ◌∷◌, ◌++◌, length, remove, slice_get, Ok, Err, IsNone, IsErr, OnOk, OnErr, IfErr, IfSome, IfNone};
 ghost use Rattle.nc_num.specs.Sizes.{IsBlockSize};
 ghost use Rattle.nc_queue.specs.Entries.{Fits, AllFit};
+ghost use Rattle.nc_queue.specs.Ring.{listed};
 ghost use Rattle.nc_queue.specs.Rules.{gives, newest, given_at, any_in, may_drain, drained, may_load, lends};
 
 use crate::entry::{Entry, Full, is_io};
+use crate::ring::{Entries, ROOM, entries_of, place, take_out};
 use crate::rules;
 use nc_num::{Label, MemType, Place};
 use std::marker::Model;
-
-/// The entries that a queue has room for.
-const ROOM: u8 = 8;
 
 /// A hart's store queue. Contracts see the block size and the list of the entries, the oldest first.
 #[derive(Clone, Debug, Drop)]
 pub struct Queue {
     cells: [Entry; 8],
+    start: u8,
     len: u8,
     size: u32,
 }
 
 impl Model for Queue {
-    ghost use Rattle.std.specs.Prelude.{take};
+    ghost use Rattle.nc_queue.specs.Ring.{window};
     ghost use Rattle.nc_queue.specs.QueueState.{QueueState, IsKept};
 
     ghost Value = { QueueState };
 
-    ghost view = { λ q. record { size = q.size; entries = take q.len q.cells } };
+    ghost view = { λ q. record { size = q.size; entries = window q.start q.len q.cells } };
 
-    ghost invariant = { λ q. IsKept q.cells q.len q.size };
+    ghost invariant = { λ q. IsKept q.cells q.start q.len q.size };
 }
 
 impl Queue {
@@ -40,6 +40,7 @@ impl Queue {
     {
         Queue {
             cells: [Entry::Mark { pred: 0, succ: 0 }; 8],
+            start: 0,
             len: 0,
             size: block_size,
         }
@@ -67,7 +68,7 @@ impl Queue {
         if self.len == ROOM {
             return Err(Full(e));
         }
-        self.cells[self.len as usize] = e;
+        self.cells[place(self.start, self.len)] = e;
         self.len += 1;
         Ok(())
     }
@@ -88,13 +89,11 @@ impl Queue {
         ensures size { self.new.size ≡ self.old.size }
         ensures some { IfSome result (λ _. self.new ≡ record { size = self.old.size; entries = remove self.old.entries i }) }
     {
-        let i = i as usize;
-        let len = self.len as usize;
-        if !rules::may_drain(&self.cells[..len], i, self.size) {
+        if !rules::may_drain(self.entries(), i as usize, self.size) {
             return None;
         }
-        let e = self.cells[i];
-        rules::close_gap(&mut self.cells, i, len);
+        let e = self.cells[place(self.start, i)];
+        self.start = take_out(&mut self.cells, self.start, i, self.len);
         self.len -= 1;
         Some(e)
     }
@@ -124,7 +123,7 @@ impl Queue {
         ensures fits { IfSome result (Fits self.now.size) }
     {
         if i < self.len {
-            Some(self.cells[i as usize])
+            Some(self.cells[place(self.start, i)])
         } else {
             None
         }
@@ -144,9 +143,10 @@ impl Queue {
         rules::any_lends(self.entries(), label)
     }
 
-    fn entries(&self) -> &[Entry]
-        ensures { result.now ≡ self.now.entries }
+    fn entries(&self) -> Entries<'_>
+        ensures entries { listed result ≡ self.now.entries }
+        ensures few { length (listed result) ≤ 8 }
     {
-        &self.cells[..self.len as usize]
+        entries_of(&self.cells, self.start, self.len)
     }
 }

@@ -14,6 +14,3 @@ pub use after::tail;
 pub use faults::refused;
 pub use lines::{event_line, line};
 pub use steps::step_out;
-
-#[cfg(test)]
-mod tests;

@@ -7,7 +7,7 @@ ghost use Rattle.nc_io.specs.Causes.{Rose};
 ghost use Rattle.nc_io.specs.Streams.{GrowsByFront};
 ghost use Rattle.nc_scen.specs.Events.{IsThere};
 ghost use Rattle.nc_rules.specs.Lines.{line};
-ghost use Rattle.nc_rules.specs.MachineLaws.{SameShape};
+ghost use Rattle.nc_calls.specs.MachineLaws.{SameShape};
 ghost use Rattle.nc_rules.specs.Next.{next};
 ghost use Rattle.nc_rules.specs.Told.{told};
 ghost use Rattle.nc_world.specs.Shown.{answer as stepped};

@@ -9,10 +9,10 @@ use Rattle.nc_num.specs.declared.places.Span.{Span}
 use Rattle.nc_model.specs.declared.owners.Owner.{Owner}
 use Rattle.nc_model.specs.declared.owners.Owner.TheVariants.{Device}
 use Rattle.nc_rules.specs.Machine.{MachineState}
-use Rattle.nc_rules.specs.PlaceLaws.{NotHeld, Stays, WritesSpan}
-use Rattle.nc_rules.specs.MachineLaws.{SameShape}
+use Rattle.nc_calls.specs.PlaceLaws.{NotHeld, Stays, WritesSpan}
+use Rattle.nc_calls.specs.MachineLaws.{SameShape}
 use Rattle.nc_rules.specs.View.{middle}
-use Rattle.nc_rules.proofs.StartPlaces.{loads_show}
+use Rattle.nc_calls.proofs.StartPlaces.{loads_show}
 use Rattle.nc_rows.specs.Places.{QuietRow, PoolRow, OpenRow}
 use Rattle.nc_rows.specs.Rows.{Loan, Book, device_place, DeviceTo, DeviceFrom, Either, ByDir, DeviceRow, Row}
 use Rattle.nc_rows.specs.Laws.{SameQueues, FrameAt, seen_at, place_of}

@@ -6,8 +6,8 @@ use Rattle.nc_num.specs.declared.places.Span.{Span}
 use Rattle.nc_model.specs.declared.owners.Owner.{Owner}
 use Rattle.nc_model.specs.declared.owners.Owner.TheVariants.{Device}
 use Rattle.nc_rules.specs.Machine.{MachineState}
-use Rattle.nc_rules.specs.PlaceLaws.{NotHeld, Stays, WritesSpan}
-use Rattle.nc_rules.specs.MachineLaws.{SameShape}
+use Rattle.nc_calls.specs.PlaceLaws.{NotHeld, Stays, WritesSpan}
+use Rattle.nc_calls.specs.MachineLaws.{SameShape}
 use Rattle.nc_rows.specs.Rows.{Loan, Book, device_place, Either, ByDir, Row}
 use Rattle.nc_rows.specs.Laws.{seen_at}
 

@@ -6,6 +6,3 @@
 mod laws;
 
 pub use laws::rows_of_channels;
-
-#[cfg(test)]
-mod tests;

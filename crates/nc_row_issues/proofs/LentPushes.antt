@@ -10,7 +10,7 @@ use Rattle.nc_queue.specs.declared.entry.Entry.{Entry}
 use Rattle.nc_lines.specs.Lines.{bare, line, gives_at, Marked}
 use Rattle.nc_rules.specs.declared.steps.Step.{Step}
 use Rattle.nc_rules.specs.Machine.{MachineState, queue_of}
-use Rattle.nc_rules.specs.PlaceLaws.{FreshAt, NotHeld, parts}
+use Rattle.nc_calls.specs.PlaceLaws.{FreshAt, NotHeld, parts}
 use Rattle.nc_rows.specs.Ahead.{names, is_full, is_mail, sending}
 use Rattle.nc_rows.specs.Places.{given, ThreadRow, QuietRow, PoolRow, OpenRow}
 use Rattle.nc_rows.specs.Rows.{back, drop, flushes, gives_here, gives_block, PassingRow, SlotRow, LendingRow, LendingTo, LendingFrom, AllocatingRow, GivingRow, DeviceTo, DeviceFrom, DroppingRow, HomeRow, ComingRow}

@@ -12,8 +12,8 @@ use Rattle.nc_queue.specs.declared.entry.Entry.{Entry}
 use Rattle.nc_model.specs.declared.owners.Owner.{Owner}
 use Rattle.nc_model.specs.declared.owners.Owner.TheVariants.{Thread, Passing, Lending, Device, Returning, Synced, Pool}
 use Rattle.nc_rules.specs.Machine.{MachineState}
-use Rattle.nc_rules.specs.PlaceLaws.{Loads}
-use Rattle.nc_rules.specs.MachineLaws.{SameShape}
+use Rattle.nc_calls.specs.PlaceLaws.{Loads}
+use Rattle.nc_calls.specs.MachineLaws.{SameShape}
 use Rattle.nc_rows.specs.Ahead.{is_full, settling}
 use Rattle.nc_rows.specs.Places.{ThreadRow}
 use Rattle.nc_rows.specs.Rows.{Loan, Book, device_place, ahead_of, LentRow, DeviceRow, BackRow, SyncedRow, Row}

@@ -13,8 +13,8 @@ use Rattle.nc_lines.specs.Lines.{bare}
 use Rattle.nc_model.specs.declared.owners.Owner.{Owner}
 use Rattle.nc_model.specs.declared.owners.Owner.TheVariants.{Thread, Passing, Lending, Device, Returning, Synced, Pool}
 use Rattle.nc_rules.specs.Machine.{MachineState, queue_of}
-use Rattle.nc_rules.specs.PlaceLaws.{Loads, Pushes, parts}
-use Rattle.nc_rules.specs.MachineLaws.{SameShape}
+use Rattle.nc_calls.specs.PlaceLaws.{Loads, Pushes, parts}
+use Rattle.nc_calls.specs.MachineLaws.{SameShape}
 use Rattle.nc_rows.specs.Ahead.{names, is_full, is_mail, settling}
 use Rattle.nc_rows.specs.Places.{ThreadRow}
 use Rattle.nc_rows.specs.Rows.{Loan, Book, device_place, back, ahead_of, Either, ByDir, Row}

@@ -6,6 +6,3 @@
 mod laws;
 
 pub use laws::rows_issue;
-
-#[cfg(test)]
-mod tests;

@@ -16,9 +16,9 @@ use Rattle.nc_lines.specs.Laws.{OfBlock}
 use Rattle.nc_lines.proofs.LineLaws as lines
 use Rattle.nc_lines.proofs.Marks.{stands_or_not, uncovered}
 use Rattle.nc_rules.specs.Machine.{MachineState, queue_of}
-use Rattle.nc_rules.specs.PlaceLaws.{NotHeld, LosesNone, parts, brings, drops_copies}
+use Rattle.nc_calls.specs.PlaceLaws.{NotHeld, LosesNone, parts, brings, drops_copies}
 use Rattle.nc_rules.specs.View.{middle}
-use Rattle.nc_rules.proofs.StartPlaces.{loads_show}
+use Rattle.nc_calls.proofs.StartPlaces.{loads_show}
 use Rattle.nc_rows.proofs.PlaceFrames.{view_is}
 use Rattle.nc_rows.specs.Ahead.{names}
 use Rattle.nc_rows.specs.Places.{given, ThreadRow, PoolRow, Alone}

@@ -12,7 +12,7 @@ use Rattle.nc_queue.specs.declared.entry.Entry.{Entry}
 use Rattle.nc_lines.specs.Lines.{bare, line, gives_at}
 use Rattle.nc_rules.specs.declared.steps.Step.{Step}
 use Rattle.nc_rules.specs.Machine.{MachineState, queue_of}
-use Rattle.nc_rules.specs.PlaceLaws.{FreshAt, NotHeld, LosesNone, parts, drops_copies}
+use Rattle.nc_calls.specs.PlaceLaws.{FreshAt, NotHeld, LosesNone, parts, drops_copies}
 use Rattle.nc_rows.specs.Ahead.{is_full, is_mail, sending}
 use Rattle.nc_rows.specs.Places.{given, ThreadRow, QuietRow, PoolRow, OpenRow}
 use Rattle.nc_rows.specs.Rows.{drop, gives_here, PassingRow, DeviceTo, DeviceFrom, DroppingRow, HomeRow, ComingRow}

@@ -17,7 +17,7 @@ use Rattle.nc_lines.proofs.LineLaws.{line_loses}
 use Rattle.nc_lines.proofs.LineLaws as lines
 use Rattle.nc_lines.proofs.Marks.{stands_or_not, uncovered}
 use Rattle.nc_rules.specs.Machine.{MachineState, queue_of}
-use Rattle.nc_rules.specs.PlaceLaws.{NotHeld, LosesNone, parts}
+use Rattle.nc_calls.specs.PlaceLaws.{NotHeld, LosesNone, parts}
 use Rattle.nc_rules.specs.View.{middle, view}
 use Rattle.nc_rows.specs.Ahead.{names}
 use Rattle.nc_rows.specs.Places.{given, ThreadRow, PoolRow, CalmRow, OpenRow, Alone}

@@ -18,11 +18,11 @@ use Rattle.nc_model.specs.declared.owners.Owner.TheVariants.{Lending}
 use Rattle.nc_rules.specs.Machine.{MachineState, hart_of, no_hart, queue_of}
 use Rattle.nc_rules.specs.Calls.{drain_next, fill_next, evict_next}
 use Rattle.nc_rules.specs.Sound.{IsMachine}
-use Rattle.nc_rules.specs.MachineLaws.{SameShape, IsMove}
-use Rattle.nc_rules.specs.PlaceLaws.{NotHeld, Moves, brings}
-use Rattle.nc_rules.proofs.SoundDrain.{shape_drain}
-use Rattle.nc_rules.proofs.SoundSteps.{shape_fill, shape_evict}
-use Rattle.nc_rules.proofs.StepPlaces.{fill_is, fill_not_held, evict_is, evict_not_held}
+use Rattle.nc_calls.specs.MachineLaws.{SameShape, IsMove}
+use Rattle.nc_calls.specs.PlaceLaws.{NotHeld, Moves, brings}
+use Rattle.nc_calls.proofs.SoundDrain.{shape_drain}
+use Rattle.nc_calls.proofs.SoundSteps.{shape_fill, shape_evict}
+use Rattle.nc_calls.proofs.StepPlaces.{fill_is, fill_not_held, evict_is, evict_not_held}
 use Rattle.nc_rows.specs.Ahead.{settling}
 use Rattle.nc_rows.specs.Rows.{Loan, Book}
 use Rattle.nc_rows.specs.Parts.{IsQueued, IsZeroed, Queued, Uncached, MayBeHeld, IsAllocating, LastIs, Lasts, rest_last}

@@ -12,10 +12,10 @@ use Rattle.nc_queue.proofs.TestLaws.{none_at}
 use Rattle.nc_rules.specs.Machine.{MachineState, queue_of}
 use Rattle.nc_rules.specs.Calls.{leaving, drain_next}
 use Rattle.nc_rules.specs.Sound.{IsMachine}
-use Rattle.nc_rules.specs.PlaceLaws.{FreshAt, NotHeld, LosesNone, Drains, parts}
+use Rattle.nc_calls.specs.PlaceLaws.{FreshAt, NotHeld, LosesNone, Drains, parts}
 use Rattle.nc_rules.specs.View.{middle, view}
-use Rattle.nc_rules.proofs.DrainPlaces.{drain_is}
-use Rattle.nc_rules.proofs.SoundDrain.{shape_drain}
+use Rattle.nc_calls.proofs.DrainPlaces.{drain_is}
+use Rattle.nc_calls.proofs.SoundDrain.{shape_drain}
 use Rattle.nc_rows.specs.Places.{given, ThreadRow, QuietRow, PoolRow, CalmRow, OpenRow, Alone}
 use Rattle.nc_rows.proofs.PlaceFrames.{view_is}
 use Rattle.nc_row_moves.specs.Laws.{IsDrain}

@@ -13,7 +13,7 @@ use Rattle.nc_model.specs.declared.owners.Owner.{Owner}
 use Rattle.nc_model.specs.declared.owners.Owner.TheVariants.{Thread, Passing, Lending, Device, Returning, Synced, Pool}
 use Rattle.nc_rules.specs.Machine.{MachineState, queue_of}
 use Rattle.nc_rules.specs.Calls.{drain_next}
-use Rattle.nc_rules.specs.PlaceLaws.{NotHeld, LosesNone}
+use Rattle.nc_calls.specs.PlaceLaws.{NotHeld, LosesNone}
 use Rattle.nc_rows.specs.Ahead.{names, is_full, settling}
 use Rattle.nc_rows.specs.Places.{ThreadRow, PoolRow, OpenRow}
 use Rattle.nc_rows.specs.Rows.{Loan, Book, device_place, back, LendingRow, LendingTo, LendingFrom, AllocatingRow, GivingRow, DeviceTo, DeviceFrom, Either, ByDir, ahead_of, LentRow, DeviceRow, BackRow, SyncedRow, Row}

@@ -5,10 +5,10 @@ use Rattle.nc_model.specs.declared.owners.Owner.{Owner}
 use Rattle.nc_rules.specs.Machine.{MachineState}
 use Rattle.nc_rules.specs.Calls.{is_pooled, fill_next, evict_next}
 use Rattle.nc_rules.specs.Sound.{IsMachine}
-use Rattle.nc_rules.specs.MachineLaws.{SameShape, IsMove}
-use Rattle.nc_rules.specs.PlaceLaws.{NotHeld, Moves}
-use Rattle.nc_rules.proofs.SoundSteps.{shape_fill, shape_evict}
-use Rattle.nc_rules.proofs.StepPlaces.{fill_is, fill_not_held, evict_is, evict_not_held}
+use Rattle.nc_calls.specs.MachineLaws.{SameShape, IsMove}
+use Rattle.nc_calls.specs.PlaceLaws.{NotHeld, Moves}
+use Rattle.nc_calls.proofs.SoundSteps.{shape_fill, shape_evict}
+use Rattle.nc_calls.proofs.StepPlaces.{fill_is, fill_not_held, evict_is, evict_not_held}
 use Rattle.nc_rows.specs.Rows.{Book, Row}
 use Rattle.nc_rows.specs.Laws.{FrameAt, is_lent_area, seen_at}
 use Rattle.nc_rows.proofs.PlaceFrames.{of_keeps}

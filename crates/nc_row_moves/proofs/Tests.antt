@@ -19,7 +19,7 @@ use Rattle.nc_queue.proofs.GivesLaws.{gives-other, gives_is_w}
 use Rattle.nc_lines.specs.Lines.{bare, gives_at}
 use Rattle.nc_lines.specs.Laws.{InBlock}
 use Rattle.nc_rules.specs.Machine.{MachineState}
-use Rattle.nc_rules.specs.PlaceLaws.{drops_copies, brings, op_parts, parts}
+use Rattle.nc_calls.specs.PlaceLaws.{drops_copies, brings, op_parts, parts}
 use Rattle.nc_rows.specs.Ahead.{names, is_full, is_mail}
 
 -- ---- without bytes

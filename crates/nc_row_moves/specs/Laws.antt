@@ -9,8 +9,8 @@ use Rattle.nc_model.specs.declared.owners.Owner.TheVariants.{Thread, Passing, Le
 use Rattle.nc_rules.specs.Machine.{MachineState}
 use Rattle.nc_rules.specs.Calls.{leaving, drain_next, is_pooled, fill_next, evict_next}
 use Rattle.nc_rules.specs.Sound.{IsMachine, IsBlockIn}
-use Rattle.nc_rules.specs.PlaceLaws.{NotHeld, LosesNone}
-use Rattle.nc_rules.specs.MachineLaws.{IsMove}
+use Rattle.nc_calls.specs.PlaceLaws.{NotHeld, LosesNone}
+use Rattle.nc_calls.specs.MachineLaws.{IsMove}
 use Rattle.nc_rows.specs.Ahead.{names, settling}
 use Rattle.nc_rows.specs.Rows.{Loan, Book, device_place, gives_here, gives_block, ahead_of, Either, ByDir, Row}
 use Rattle.nc_rows.specs.Laws.{is_lent_area}

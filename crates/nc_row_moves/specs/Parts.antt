@@ -6,7 +6,7 @@ use Rattle.nc_model.specs.declared.owners.Owner.{Owner}
 use Rattle.nc_rules.specs.Machine.{MachineState}
 use Rattle.nc_rules.specs.Calls.{drain_next, is_pooled, fill_next, evict_next}
 use Rattle.nc_rules.specs.Sound.{IsMachine}
-use Rattle.nc_rules.specs.MachineLaws.{IsMove}
+use Rattle.nc_calls.specs.MachineLaws.{IsMove}
 use Rattle.nc_rows.specs.Rows.{Book}
 use Rattle.nc_rows.specs.Parts.{Queued, Uncached, Lasts}
 use Rattle.nc_row_moves.specs.Laws.{IsDrain}

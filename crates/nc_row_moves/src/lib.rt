@@ -7,6 +7,3 @@
 mod laws;
 
 pub use laws::{parts_stay, rows_drain, rows_move};
-
-#[cfg(test)]
-mod tests;

@@ -13,7 +13,7 @@ use Rattle.nc_lines.specs.Lines.{bare, line, Marked}
 use Rattle.nc_lines.proofs.Bared.{any_bare}
 use Rattle.nc_rules.specs.declared.steps.Step.{Step}
 use Rattle.nc_rules.specs.Machine.{MachineState, queue_of}
-use Rattle.nc_rules.specs.PlaceLaws.{NotHeld, parts}
+use Rattle.nc_calls.specs.PlaceLaws.{NotHeld, parts}
 use Rattle.nc_rules.specs.View.{middle}
 use Rattle.nc_rows.specs.Ahead.{names, is_full, is_mail, sending}
 use Rattle.nc_rows.specs.Places.{given, ThreadRow, PoolRow, CalmRow, OpenRow, Alone}

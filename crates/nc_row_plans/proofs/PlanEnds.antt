@@ -18,9 +18,9 @@ use Rattle.nc_queue.specs.Rules.{gives}
 use Rattle.nc_hart.specs.HartState.{HartState}
 use Rattle.nc_rules.specs.Machine.{MachineState, no_hart, queue_of}
 use Rattle.nc_rules.specs.Sound.{IsMachine}
-use Rattle.nc_rules.specs.PlaceLaws.{FreshAt, NotHeld, drops_copies}
+use Rattle.nc_calls.specs.PlaceLaws.{FreshAt, NotHeld, drops_copies}
 use Rattle.nc_rules.specs.View.{middle}
-use Rattle.nc_rules.proofs.StartPlaces.{loads_show}
+use Rattle.nc_calls.proofs.StartPlaces.{loads_show}
 use Rattle.nc_rows.specs.Ahead.{names, token, is_full}
 use Rattle.nc_rows.specs.Places.{given, ThreadRow, QuietRow, PoolRow, OpenRow}
 use Rattle.nc_rows.specs.Rows.{is_flush, back, drop, flushes, gives_here, LendingTo, LendingFrom, AllocatingRow, GivingRow, DeviceTo, DeviceFrom, DroppingRow, HomeRow, ComingRow}

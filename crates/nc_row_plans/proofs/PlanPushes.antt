@@ -16,7 +16,7 @@ use Rattle.nc_lines.proofs.Gains.{push_line}
 use Rattle.nc_rules.specs.declared.steps.Step.{Step}
 use Rattle.nc_rules.specs.Machine.{MachineState, queue_of}
 use Rattle.nc_rules.specs.Sound.{IsMachine}
-use Rattle.nc_rules.specs.PlaceLaws.{FreshAt, NotHeld, parts}
+use Rattle.nc_calls.specs.PlaceLaws.{FreshAt, NotHeld, parts}
 use Rattle.nc_rules.specs.View.{view}
 use Rattle.nc_rows.specs.Ahead.{names, is_full, is_mail, sending}
 use Rattle.nc_rows.specs.Places.{given, ThreadRow, QuietRow, PoolRow, CalmRow, OpenRow}

@@ -25,7 +25,7 @@ use Rattle.nc_rules.specs.declared.steps.Step.{Step}
 use Rattle.nc_rules.specs.declared.steps.Turn.{Turn}
 use Rattle.nc_rules.specs.Lots.{Fixed, parts}
 use Rattle.nc_rules.specs.Machine.{MachineState}
-use Rattle.nc_rules.specs.PlaceLaws.{drops_copies}
+use Rattle.nc_calls.specs.PlaceLaws.{drops_copies}
 use Rattle.nc_rules.specs.Plans.{hart_step, op_steps, turning, ending, return_steps}
 use Rattle.nc_rows.specs.Ahead.{ends, is_full, turns_lot, gives_lot, op_coming, token, coming}
 use Rattle.nc_rows.specs.Rows.{drop}

@@ -8,7 +8,7 @@ use Rattle.nc_queue.specs.declared.entry.Entry.{Entry}
 use Rattle.nc_lines.specs.Lines.{line, bare, Marked}
 use Rattle.nc_rules.specs.declared.steps.Step.{Step}
 use Rattle.nc_rules.specs.Machine.{MachineState, queue_of}
-use Rattle.nc_rules.specs.PlaceLaws.{NotHeld, parts}
+use Rattle.nc_calls.specs.PlaceLaws.{NotHeld, parts}
 use Rattle.nc_rows.specs.Ahead.{names, is_full, is_mail, sending}
 use Rattle.nc_rows.specs.Places.{ThreadRow, PoolRow, CalmRow, Alone}
 use Rattle.nc_rows.specs.Rows.{back, drop, flushes, gives_here, gives_block, PassingRow, LendingTo, LendingFrom, AllocatingRow, GivingRow, DeviceFrom, DroppingRow}

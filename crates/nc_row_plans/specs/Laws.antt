@@ -10,7 +10,7 @@ use Rattle.nc_lines.specs.Lines.{bare}
 use Rattle.nc_rules.specs.declared.steps.Step.{Step}
 use Rattle.nc_rules.specs.Machine.{MachineState, queue_of}
 use Rattle.nc_rules.specs.Sound.{IsMachine}
-use Rattle.nc_rules.specs.PlaceLaws.{NotHeld, parts}
+use Rattle.nc_calls.specs.PlaceLaws.{NotHeld, parts}
 use Rattle.nc_rows.specs.Ahead.{token, sending}
 use Rattle.nc_rows.specs.Places.{ThreadRow, PoolRow}
 use Rattle.nc_rows.specs.Rows.{gives_here, zeroes, PassingRow, LendingTo, LendingFrom, AllocatingRow, GivingRow, DeviceTo, DeviceFrom, DroppingRow, ComingRow}

@@ -15,7 +15,7 @@ use Rattle.nc_queue.specs.Laws.{Stands}
 use Rattle.nc_queue.specs.declared.entry.Entry.TheVariants.{Mark}
 use Rattle.nc_rules.specs.declared.lots.LotId.{LotId}
 use Rattle.nc_rules.specs.declared.steps.Turn.{Turn}
-use Rattle.nc_rules.specs.PlaceLaws.{drops_copies}
+use Rattle.nc_calls.specs.PlaceLaws.{drops_copies}
 use Rattle.nc_rules.specs.Plans.{lend_steps, return_steps, ending}
 use Rattle.nc_rows.specs.Ahead.{turns_lot, gives_lot, is_full, op_coming, coming}
 use Rattle.nc_rows.specs.Rows.{back, drop, gives_here, gives_block}

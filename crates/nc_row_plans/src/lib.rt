@@ -8,6 +8,3 @@
 mod laws;
 
 pub use laws::{plans_lend, plans_return, rows_begin, rows_plan};
-
-#[cfg(test)]
-mod tests;

@@ -12,7 +12,7 @@ use Rattle.nc_model.specs.declared.owners.Owner.{Owner}
 use Rattle.nc_model.specs.declared.owners.Owner.TheVariants.{Thread, Passing, Lending, Device, Returning, Synced, Pool}
 use Rattle.nc_rules.specs.declared.steps.Step.{Step}
 use Rattle.nc_rules.specs.Machine.{MachineState}
-use Rattle.nc_rules.specs.PlaceLaws.{NotHeld}
+use Rattle.nc_calls.specs.PlaceLaws.{NotHeld}
 use Rattle.nc_rows.specs.Places.{QuietRow, PoolRow, OpenRow}
 use Rattle.nc_rows.specs.Ahead.{is_full, settling}
 use Rattle.nc_rows.specs.Rows.{Loan, Book, device_place, gives_here, gives_block, PassingRow, SlotRow, LendingRow, LendingTo, LendingFrom, AllocatingRow, GivingRow, DeviceTo, DeviceFrom, DroppingRow, HomeRow, ComingRow, Either, ByDir, ahead_of, LentRow, DeviceRow, BackRow, SyncedRow, Row}

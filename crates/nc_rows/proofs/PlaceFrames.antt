@@ -3,7 +3,7 @@ use Rattle.std.specs.Prelude.{Option, unwrap_or}
 use Rattle.std.proofs.Common.{◌≡◌, ℕ, refl, sym, ap, ◌∙◌, subst}
 use Rattle.nc_num.specs.Memory.{byte}
 use Rattle.nc_rules.specs.Machine.{MachineState}
-use Rattle.nc_rules.specs.PlaceLaws.{SameAt, KeepsAt}
+use Rattle.nc_calls.specs.PlaceLaws.{SameAt, KeepsAt}
 use Rattle.nc_rules.specs.View.{middle, seen, view}
 use Rattle.nc_rows.specs.Places.{given, ThreadRow, QuietRow, PoolRow, CalmRow, OpenRow, Alone}
 use Rattle.nc_rows.specs.Laws.{FrameAt, SameQueues}

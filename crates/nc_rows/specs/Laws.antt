@@ -8,7 +8,7 @@ use Rattle.nc_num.specs.declared.names.MapId.{MapId}
 use Rattle.nc_rules.specs.declared.lots.LotId.{LotId}
 use Rattle.nc_rules.specs.declared.steps.Step.{Step}
 use Rattle.nc_rules.specs.Machine.{MachineState, queue_of}
-use Rattle.nc_rules.specs.PlaceLaws.{FreshAt, ClearAt, BothAt, NotHeld, SameAt, KeepsAt}
+use Rattle.nc_calls.specs.PlaceLaws.{FreshAt, ClearAt, BothAt, NotHeld, SameAt, KeepsAt}
 use Rattle.nc_rules.specs.View.{middle}
 use Rattle.nc_rows.specs.Ahead.{ends, posts, act_coming, step_coming, coming, sending}
 use Rattle.nc_rows.specs.Rows.{Loan, Book, device_place, Row}

@@ -22,7 +22,7 @@ use Rattle.nc_rules.specs.declared.steps.Act.{Act}
 use Rattle.nc_rules.specs.declared.steps.Act.TheVariants as acts
 use Rattle.nc_rules.specs.declared.steps.Step.{Step}
 use Rattle.nc_rules.specs.Machine.{MachineState, hart_of, queue_of}
-use Rattle.nc_rules.specs.PlaceLaws.{NotHeld}
+use Rattle.nc_calls.specs.PlaceLaws.{NotHeld}
 use Rattle.nc_rows.specs.Ahead.{is_full, settling}
 use Rattle.nc_rows.specs.Rows.{Loan, Book, device_place, ahead_of}
 

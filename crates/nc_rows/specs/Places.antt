@@ -5,7 +5,7 @@ use Rattle.nc_num.specs.Memory.{byte}
 use Rattle.nc_queue.specs.Entries.{gives_in}
 use Rattle.nc_queue.specs.Rules.{gives}
 use Rattle.nc_rules.specs.Machine.{MachineState, queue_of}
-use Rattle.nc_rules.specs.PlaceLaws.{FreshAt, ClearAt, BothAt}
+use Rattle.nc_calls.specs.PlaceLaws.{FreshAt, ClearAt, BothAt}
 use Rattle.nc_rules.specs.View.{view}
 
 -- what hart h's queue gives at a place

@@ -17,7 +17,7 @@ use Rattle.nc_model.specs.declared.owners.Owner.TheVariants.{Thread, Passing, Le
 use Rattle.nc_rules.specs.declared.lots.LotId.{LotId}
 use Rattle.nc_rules.specs.declared.steps.Step.{Step}
 use Rattle.nc_rules.specs.Machine.{MachineState, queue_of}
-use Rattle.nc_rules.specs.PlaceLaws.{FreshAt, NotHeld, drops_copies, parts}
+use Rattle.nc_calls.specs.PlaceLaws.{FreshAt, NotHeld, drops_copies, parts}
 use Rattle.nc_rows.specs.Places.{given, ThreadRow, QuietRow, PoolRow, CalmRow, OpenRow, Alone}
 use Rattle.nc_rows.specs.Ahead.{names, is_full, coming, settling, sending, is_mail}
 

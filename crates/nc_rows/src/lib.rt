@@ -8,6 +8,3 @@
 mod laws;
 
 pub use laws::{rows_keep, steps_ahead};
-
-#[cfg(test)]
-mod tests;

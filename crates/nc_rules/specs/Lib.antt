@@ -19,7 +19,6 @@ pub mod Operations
 pub mod Driver
 pub mod Start
 pub mod Built
-pub mod Scripts
 pub mod World
 pub mod Watched
 pub mod Events
@@ -30,6 +29,3 @@ pub mod Run
 pub mod Schedule
 pub mod Lines
 pub mod Flat
-pub mod MachineLaws
-pub mod PlaceLaws
-pub mod CallLaws

@@ -65,16 +65,16 @@ abbrev pub map_id : HartNo → LotId → ℕ → MapId
 map_id me id i = record { hart = me; label = id.label; entry = id.first + i }
 
 -- what an entry is as the mapping of a channel
-abbrev pub grant_of : Fixed → Lot → MapId → Entry → Grant
-grant_of f lot id e = record { id = id; buffer = e.span; device = sg.device f.slots_at e; dir = lot.list.dir; chan = lot.chan }
+abbrev pub grant_of : ℕ → Lot → MapId → Entry → Grant
+grant_of slots_at lot id e = record { id = id; buffer = e.span; device = sg.device slots_at e; dir = lot.list.dir; chan = lot.chan }
 
 -- one value for each entry, by its mapping
 abbrev pub each_from : {A : Type 0} → HartNo → LotId → ℕ → (MapId → Entry → A) → List Entry → List A
 each_from me id i f [] = []
 each_from me id i f (e ∷ es) = f (map_id me id i) e ∷ each_from me id (i + 1) f es
 
-abbrev pub each_entry : {A : Type 0} → Fixed → Lot → (MapId → Entry → A) → List A
-each_entry f lot g = each_from f.me lot.id 0 g lot.list.entries
+abbrev pub each_entry : {A : Type 0} → HartNo → Lot → (MapId → Entry → A) → List A
+each_entry me lot g = each_from me lot.id 0 g lot.list.entries
 
 -- the ranges of a lot as they are lent
 abbrev pub parts : Fixed → Lot → List Part

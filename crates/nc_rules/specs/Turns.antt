@@ -45,18 +45,18 @@ abbrev pub last_owner : HartNo → Lot → Owner
 last_owner me lot = if is_area lot.kind then owners.Pool else owners.Thread me
 
 -- the bytes of each entry get this owner
-abbrev pub to_side : Fixed → Side → Lot → List (Span × Owner)
-to_side f side lot = each_entry f lot (λ id e. (e.span, owner_of_side id side))
+abbrev pub to_side : HartNo → Side → Lot → List (Span × Owner)
+to_side me side lot = each_entry me lot (λ id e. (e.span, owner_of_side id side))
 
-abbrev pub to_end : Fixed → Lot → List (Span × Owner)
-to_end f lot = map (λ e. (e.span, last_owner f.me lot)) lot.list.entries
+abbrev pub to_end : HartNo → Lot → List (Span × Owner)
+to_end me lot = map (λ e. (e.span, last_owner me lot)) lot.list.entries
 
 -- a lot that was not lent before is granted to its channel
-abbrev pub granted : Fixed → Lot → List Grant
-granted f lot = if is_wanted lot.side then each_entry f lot (grant_of f lot) else []
+abbrev pub granted : HartNo → ℕ → Lot → List Grant
+granted me slots_at lot = if is_wanted lot.side then each_entry me lot (grant_of slots_at lot) else []
 
-abbrev pub ids : Fixed → Lot → List MapId
-ids f lot = each_entry f lot (λ id e. id)
+abbrev pub ids : HartNo → Lot → List MapId
+ids me lot = each_entry me lot (λ id e. id)
 
 -- the pages of an area that was not lent before
 abbrev pub pages_taken : Lot → PageMove
@@ -105,40 +105,40 @@ lots_after (turns.Settle id) lots = set_side sides.Own id lots
 lots_after (turns.End id) lots = filter (λ lot. not (is_lot id lot)) lots
 
 -- the changes of owners, in order of entries
-abbrev pub transfers_of : Fixed → List Lot → Turn → List (Span × Owner)
-transfers_of f lots turns.Stay = []
-transfers_of f lots (turns.Pass range to) = (range, owners.Passing f.me to) ∷ []
-transfers_of f lots (turns.Own range) = (range, owners.Thread f.me) ∷ []
-transfers_of f lots (turns.Lend id) = of_those (to_side f sides.Lending) id lots
-transfers_of f lots (turns.Give id) = of_those (to_side f sides.Device) id lots
-transfers_of f lots (turns.Return id) = of_those (to_side f sides.Returning) id lots
-transfers_of f lots (turns.Sync id) = of_those (to_side f sides.Synced) id lots
-transfers_of f lots (turns.Settle id) = of_those (to_side f sides.Own) id lots
-transfers_of f lots (turns.End id) = of_those (to_end f) id lots
+abbrev pub transfers_of : HartNo → List Lot → Turn → List (Span × Owner)
+transfers_of me lots turns.Stay = []
+transfers_of me lots (turns.Pass range to) = (range, owners.Passing me to) ∷ []
+transfers_of me lots (turns.Own range) = (range, owners.Thread me) ∷ []
+transfers_of me lots (turns.Lend id) = of_those (to_side me sides.Lending) id lots
+transfers_of me lots (turns.Give id) = of_those (to_side me sides.Device) id lots
+transfers_of me lots (turns.Return id) = of_those (to_side me sides.Returning) id lots
+transfers_of me lots (turns.Sync id) = of_those (to_side me sides.Synced) id lots
+transfers_of me lots (turns.Settle id) = of_those (to_side me sides.Own) id lots
+transfers_of me lots (turns.End id) = of_those (to_end me) id lots
 
 -- the new grants
-abbrev pub grants_of : Fixed → List Lot → Turn → List Grant
-grants_of f lots turns.Stay = []
-grants_of f lots (turns.Pass range to) = []
-grants_of f lots (turns.Own range) = []
-grants_of f lots (turns.Lend id) = of_those (granted f) id lots
-grants_of f lots (turns.Give id) = []
-grants_of f lots (turns.Return id) = []
-grants_of f lots (turns.Sync id) = []
-grants_of f lots (turns.Settle id) = []
-grants_of f lots (turns.End id) = []
+abbrev pub grants_of : HartNo → ℕ → List Lot → Turn → List Grant
+grants_of me slots_at lots turns.Stay = []
+grants_of me slots_at lots (turns.Pass range to) = []
+grants_of me slots_at lots (turns.Own range) = []
+grants_of me slots_at lots (turns.Lend id) = of_those (granted me slots_at) id lots
+grants_of me slots_at lots (turns.Give id) = []
+grants_of me slots_at lots (turns.Return id) = []
+grants_of me slots_at lots (turns.Sync id) = []
+grants_of me slots_at lots (turns.Settle id) = []
+grants_of me slots_at lots (turns.End id) = []
 
 -- the mappings whose grants end
-abbrev pub ended_of : Fixed → List Lot → Turn → List MapId
-ended_of f lots turns.Stay = []
-ended_of f lots (turns.Pass range to) = []
-ended_of f lots (turns.Own range) = []
-ended_of f lots (turns.Lend id) = []
-ended_of f lots (turns.Give id) = []
-ended_of f lots (turns.Return id) = []
-ended_of f lots (turns.Sync id) = []
-ended_of f lots (turns.Settle id) = []
-ended_of f lots (turns.End id) = of_those (ids f) id lots
+abbrev pub ended_of : HartNo → List Lot → Turn → List MapId
+ended_of me lots turns.Stay = []
+ended_of me lots (turns.Pass range to) = []
+ended_of me lots (turns.Own range) = []
+ended_of me lots (turns.Lend id) = []
+ended_of me lots (turns.Give id) = []
+ended_of me lots (turns.Return id) = []
+ended_of me lots (turns.Sync id) = []
+ended_of me lots (turns.Settle id) = []
+ended_of me lots (turns.End id) = of_those (ids me) id lots
 
 -- the slots that are given back, in order of entries
 abbrev pub backs_of : List Lot → Turn → List ℕ
@@ -168,15 +168,18 @@ pages_of lots (turns.End id) = page_moves pages_given (those id lots)
 abbrev pub lots_after_both : Turn → Turn → List Lot → List Lot
 lots_after_both first last lots = lots_after last (lots_after first lots)
 
-unfoldable pub turned : Fixed → List Lot → Turn → Turn → Option Answer → Moved
-turned f lots first last answer = record {
-  transfers = transfers_of f lots first ++ transfers_of f (lots_after first lots) last;
-  grants = grants_of f lots first ++ grants_of f (lots_after first lots) last;
-  ended = ended_of f lots first ++ ended_of f (lots_after first lots) last;
+unfoldable pub turned_by : HartNo → ℕ → List Lot → Turn → Turn → Option Answer → Moved
+turned_by me slots_at lots first last answer = record {
+  transfers = transfers_of me lots first ++ transfers_of me (lots_after first lots) last;
+  grants = grants_of me slots_at lots first ++ grants_of me slots_at (lots_after first lots) last;
+  ended = ended_of me lots first ++ ended_of me (lots_after first lots) last;
   backs = backs_of lots first ++ backs_of (lots_after first lots) last;
   pages = page_move (pages_of lots first) (pages_of (lots_after first lots) last);
   answer = answer;
 }
+
+abbrev pub turned : Fixed → List Lot → Turn → Turn → Option Answer → Moved
+turned f lots first last answer = turned_by f.me f.slots_at lots first last answer
 
 -- ---- giving up before anything is lent
 

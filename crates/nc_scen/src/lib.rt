@@ -5,8 +5,6 @@
 //! the machine, the driver and the schedule take for granted of a scenario. All of it is this project's own.
 #![tactic(auto)]
 
-#[cfg(test)]
-mod cases;
 mod events;
 mod format;
 mod harts;
@@ -23,6 +21,3 @@ pub use nc_ops::{BusArg, HexBytes, Op, Ops, SgEntries, SgEntry, Spot};
 pub use nc_values::{Path, Refused, ScenFault};
 pub use reading::read;
 pub use scenario::{BufferSpec, BufferSpecs, Events, HartSpec, HartSpecs, Plan, Scenario, Words};
-
-#[cfg(test)]
-mod tests;

@@ -10,6 +10,3 @@ mod sched;
 
 pub use laws::replay_law;
 pub use sched::{Phase, Sched};
-
-#[cfg(test)]
-mod tests;

@@ -1,14 +1,14 @@
 -- The laws of scatter lists: their entries, and the bytes of their segments.
-use Rattle.std.proofs.Common.{◌≡◌, ℕ, zero, suc, ◌+◌, ◌<◌, Bool, true, false, List, [], ◌∷◌, ◌++◌, map, flat_map, length, take, drop, refl, sym, ap, ◌∙◌, arith, append_assoc, Some}
-use Rattle.std.specs.Prelude.{All, if◌then◌else◌, slice_set, slice_index_or, unwrap_or}
+use Rattle.std.proofs.Common.{◌≡◌, ℕ, zero, suc, ◌+◌, ◌<◌, ◌≤◌, Bool, true, false, List, [], ◌∷◌, ◌++◌, map, flat_map, length, take, drop, refl, sym, ap, ◌∙◌, arith, append_assoc, subst, Some}
+use Rattle.std.specs.Prelude.{All, if◌then◌else◌, slice_set, slice_index_or}
 use Rattle.std.specs.List.{range_with_len}
 use Rattle.std.proofs.lemmas.Bool.Decides.{nat_tests}
+use Rattle.std.proofs.lemmas.List.{length-map}
 use Rattle.std.proofs.lemmas.List.Quantifiers.{position-Some}
 use Rattle.nc_num.specs.declared.places.Span.{Span}
 use Rattle.nc_num.specs.declared.names.Dir.{Dir}
 use Rattle.nc_plan.specs.declared.segments.Segment.{Segment}
 use Rattle.nc_sg.specs.declared.list.Entry.{Entry}
-use Rattle.nc_sg.specs.declared.list.Run.{Run}
 use Rattle.nc_sg.specs.Lists.{IsRange, IsEntry, fresh, waits, next_waiting, give_slot, forgotten, on_bus, segment_of, joins, run_on, bytes_of, SegmentsKeepTheBytes}
 
 -- the entries stay entries
@@ -18,10 +18,18 @@ all_fresh dir size reach [] h k d lt = absurd (omega arith)
 all_fresh dir size reach (x ∷ xs) h zero d lt = record { range = h zero x (omega arith); slot = omega arith }
 all_fresh dir size reach (x ∷ xs) h (suc k) d lt = all_fresh dir size reach xs (λ j e lt'. h (suc j) e (omega arith)) k d (omega arith)
 
-pub all_forgotten : (es : List Entry) → All IsEntry es → All IsEntry (map forgotten es)
+all_forgotten : (es : List Entry) → All IsEntry es → All IsEntry (map forgotten es)
 all_forgotten [] h k d lt = absurd (omega arith)
 all_forgotten (x ∷ xs) h zero d lt = record { range = (h zero x (omega arith)).range; slot = omega arith }
 all_forgotten (x ∷ xs) h (suc k) d lt = all_forgotten xs (λ j e lt'. h (suc j) e (omega arith)) k d (omega arith)
+
+-- a list stays one when its slots are forgotten
+pub kept_forgotten : (es : List Entry) → (length es ≤ 16) × All IsEntry es → (length (map forgotten es) ≤ 16) × All IsEntry (map forgotten es)
+kept_forgotten es h = (omega (arith, length-map es forgotten, h.0), all_forgotten es h.1)
+
+-- the entries after the first
+pub all_after : (es xs : List Entry) (x : Entry) → es ≡ x ∷ xs → All IsEntry es → All IsEntry xs
+all_after es xs x e h k d lt = subst (All IsEntry) e h (suc k) d (omega arith)
 
 with_front : (e : Entry) (es : List Entry) → IsEntry e → All IsEntry es → All IsEntry (e ∷ es)
 with_front e es h all zero d lt = h
@@ -123,6 +131,3 @@ pub gives_at : (slot : ℕ) (es : List Entry) (i : ℕ) (v : Entry) → next_wai
 gives_at slot es i v found e =
     let p = position-Some waits es i v found in
     ap (λ w. slice_set es i (record w { slot = Some slot })) e ∙ given_at slot es i v p.0 p.1 p.2
-
-pub run_is : (r x : Run) → Some r ≡ Some x → r ≡ x
-run_is r x e = ap (λ o. unwrap_or o r) e

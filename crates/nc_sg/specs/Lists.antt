@@ -7,7 +7,6 @@ use Rattle.nc_plan.specs.declared.parts.Part.{Part}
 use Rattle.nc_plan.specs.declared.segments.Segment.{Segment}
 use Rattle.nc_plan.specs.Parts.{bounces, in_slot, slot_len}
 use Rattle.nc_sg.specs.declared.list.Entry.{Entry}
-use Rattle.nc_sg.specs.declared.list.Run.{Run}
 
 -- what a caller sees of a list
 pub record SgView : Type 0 where
@@ -77,11 +76,6 @@ run_on slots_at s e (f ∷ fs) = if joins e f then run_on slots_at (record s { l
 abbrev pub segments : ℕ → List Entry → List Segment
 segments slots_at [] = []
 segments slots_at (e ∷ es) = run_on slots_at (segment_of slots_at e) e es
-
--- the segments of a run, where there is one, and of the entries after it
-abbrev pub segments_from : ℕ → Option Run → List Entry → List Segment
-segments_from slots_at None es = segments slots_at es
-segments_from slots_at (Some r) es = run_on slots_at r.segment r.last es
 
 -- the bytes of a segment, by their places on the bus
 abbrev pub bytes_of : Segment → List ℕ

@@ -7,8 +7,5 @@
 
 mod list;
 
-pub use list::{SgList, segments_keep_the_bytes};
-pub use nc_plan::Segment;
-
-#[cfg(test)]
-mod tests;
+pub use list::{Entry, SgList, device, segments_keep_the_bytes};
+pub use nc_plan::{SegList, Segment};

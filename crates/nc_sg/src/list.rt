@@ -1,14 +1,14 @@
 //! A scatter list while it is mapped.
 
-ghost use Rattle.std.specs.Prelude.{◌≡◌, ◌+◌, ◌*◌, ◌<◌, ◌≤◌, ◌^◌, ◌++◌, [], ◌∷◌, IfOk, OnOk, OnErr, IfSome, IsSome, ℕ, All, map, length, true, is_some};
-ghost use Rattle.std.specs.Option.{ForSome};
+ghost use Rattle.std.specs.Prelude.{◌≡◌, ◌+◌, ◌*◌, ◌<◌, ◌≤◌, ◌^◌, ◌++◌, [], ◌∷◌, IfOk, OnOk, OnErr, IfSome, IsSome, All, map, length, slice_get, take};
+ghost use Rattle.std.specs.Option.{option_to_list};
 ghost use Rattle.nc_num.specs.Sizes.{IsBlockSize};
 ghost use Rattle.std.specs.Prelude.{List};
 ghost use Rattle.nc_sg.specs.declared.list.Entry.{Entry};
-ghost use Rattle.nc_sg.specs.Lists.{device, IsRange, IsEntry, fresh, list_of, waits, next_waiting, give_slot, segments_from, held, forgotten, part_of, segment_of, joins, run_on, segments, SegmentsKeepTheBytes};
+ghost use Rattle.nc_sg.specs.Lists.{device, IsRange, IsEntry, fresh, list_of, next_waiting, give_slot, held, forgotten, part_of, segment_of, joins, run_on, segments, SegmentsKeepTheBytes};
 
 use nc_num::{Dir, NoMemory, Span};
-use nc_plan::{Part, Segment, bounces};
+use nc_plan::{Part, SegList, Segment, bounces};
 use std::alloc::Global;
 use std::marker::Model;
 
@@ -92,6 +92,22 @@ impl SgList {
         give(&mut self.entries, slot);
     }
 
+    /// The entries, in order.
+    pub fn entries(&self) -> &[Entry]
+        ensures value { result.now ≡ self.now.entries }
+        ensures few { length result.now ≤ 16 }
+        ensures each { All IsEntry result.now }
+    {
+        &self.entries
+    }
+
+    /// No entry holds a slot any more. The slots that they held are read from `entries`, or given by `unwind`.
+    pub fn forget(&mut self)
+        ensures { self.new ≡ record self.old { entries = map forgotten self.old.entries } }
+    {
+        forget(&mut self.entries);
+    }
+
     /// The slots that the list holds, in order of its entries; it holds none afterwards.
     pub fn unwind(&mut self) -> Result<Vec<u32>, NoMemory>
         ensures slots { IfOk result (λ slots. slots.items ≡ held self.old.entries) }
@@ -121,7 +137,27 @@ impl SgList {
         requires all { next_waiting self.now.entries ≡ None }
         ensures { IfOk result (λ ss. ss.items ≡ segments slots_at self.now.entries) }
     {
-        segments_of(alloc, slots_at, &self.entries)
+        let merged = self.seg_list(slots_at);
+        Ok(Vec::from_slice(alloc, merged.as_slice())?)
+    }
+
+    /// The same segments, in place: it takes no memory.
+    pub fn seg_list(&self, slots_at: u32) -> SegList
+        requires slots { slots_at ≤ 1048576 }
+        requires all { next_waiting self.now.entries ≡ None }
+        ensures { result ≡ segments slots_at self.now.entries }
+    {
+        merged(slots_at, &self.entries)
+    }
+
+    /// The segment of this number, from 0. None exactly where there are not so many.
+    pub fn segment(&self, slots_at: u32, number: u32) -> Option<Segment>
+        requires slots { slots_at ≤ 1048576 }
+        requires all { next_waiting self.now.entries ≡ None }
+        ensures { result ≡ slice_get (segments slots_at self.now.entries) number }
+    {
+        let merged = self.seg_list(slots_at);
+        merged.as_slice().get(number as usize).copied()
     }
 }
 
@@ -188,8 +224,9 @@ fn forget(entries: &mut Vec<Entry>)
     }
 }
 
-/// The range by which the channel sees an entry.
-fn device(slots_at: u32, entry: &Entry) -> Span
+/// The range of RAM by which the channel sees an entry: its own, or that in its slot. The slots start at the place
+/// `slots_at`, which is at most 1,048,576.
+pub fn device(slots_at: u32, entry: &Entry) -> Span
     requires slots { slots_at ≤ 1048576 }
     requires entry { IsEntry entry.now }
     ensures value { result ≡ device slots_at entry.now }
@@ -251,52 +288,62 @@ fn parts_of(
     Ok(parts)
 }
 
-fn segments_of(alloc: Global, slots_at: u32, entries: &[Entry]) -> Result<Vec<Segment>, NoMemory>
+/// The segments of entries.
+fn merged(slots_at: u32, entries: &[Entry]) -> SegList
     requires slots { slots_at ≤ 1048576 }
     requires few { length entries.now ≤ 16 }
     requires entries { All IsEntry entries.now }
-    ensures { IfOk result (λ ss. ss.items ≡ segments slots_at entries.now) }
+    ensures { result ≡ segments slots_at entries.now }
 {
-    let mut done = Vec::new(alloc);
-    let mut run = None;
-    for entry in entries {
-        run = Some(go_on(&mut done, slots_at, run, entry)?);
+    let Some((first, rest)) = entries.split_first() else {
+        return SegList::of(&[]);
+    };
+    let mut cells = [Segment { bus: 0, len: 0 }; 16];
+    let mut done = 0;
+    let mut run = begun(slots_at, first);
+    for entry in rest {
+        let (ended, next) = go_on(slots_at, run, entry);
+        done = add(&mut cells, done, ended);
+        run = next;
     }
-    if let Some(last) = run {
-        done.push(last.segment)?;
-    }
-    Ok(done)
+    done = add(&mut cells, done, Some(run.segment));
+    SegList::of(&cells[..done])
 }
 
-/// The run after one entry more: the entry joins it, or it is done and the entry begins one.
-fn go_on(
-    done: &mut Vec<Segment>,
-    slots_at: u32,
-    run: Option<Run>,
-    entry: &Entry,
-) -> Result<Run, NoMemory>
-    requires slots { slots_at ≤ 1048576 }
-    requires room { ForSome run (λ r. r.segment.len ≤ 16777216) }
-    requires last { ForSome run (λ r. IsEntry r.last) }
-    requires entry { IsEntry entry.now }
-    ensures all { IfOk result (λ r. (es : List Entry) → done.new.items ++ run_on slots_at r.segment r.last es ≡ done.old.items ++ segments_from slots_at run (entry.now ∷ es)) }
-    ensures len { IfOk result (λ r. (m : ℕ) → ForSome run (λ q. q.segment.len ≤ m) → r.segment.len ≤ m + 1048576) }
-    ensures last { IfOk result (λ r. r.last ≡ entry.now) }
+/// Puts a segment, where there is one, behind the first so many cells. Returns how many have segments then.
+fn add(cells: &mut [Segment; 16], done: usize, segment: Option<Segment>) -> usize
+    requires { done < 16 }
+    ensures cells { take result cells.new ≡ take done cells.old ++ option_to_list segment }
+    ensures few { result ≤ done + 1 }
 {
-    match run {
-        Some(run) if joins(&run.last, entry) => Ok(Run {
-            segment: Segment {
-                bus: run.segment.bus,
-                len: run.segment.len + entry.span.len,
-            },
-            last: *entry,
-        }),
-        Some(run) => {
-            done.push(run.segment)?;
-            Ok(begun(slots_at, entry))
+    match segment {
+        Some(segment) => {
+            cells[done] = segment;
+            done + 1
         }
-        None => Ok(begun(slots_at, entry)),
+        None => done,
     }
+}
+
+/// What one entry more makes of a run: the entry joins it, or it has ended, as the segment before the new run.
+fn go_on(slots_at: u32, run: Run, entry: &Entry) -> (Option<Segment>, Run)
+    requires slots { slots_at ≤ 1048576 }
+    requires room { run.segment.len ≤ 16777216 }
+    requires last { IsEntry run.last }
+    requires entry { IsEntry entry.now }
+    ensures all { (es : List Entry) → option_to_list result.0 ++ run_on slots_at result.1.segment result.1.last es ≡ run_on slots_at run.segment run.last (entry.now ∷ es) }
+    ensures len { result.1.segment.len ≤ run.segment.len + 1048576 }
+    ensures last { result.1.last ≡ entry.now }
+{
+    if !joins(&run.last, entry) {
+        return (Some(run.segment), begun(slots_at, entry));
+    }
+    let segment = Segment {
+        bus: run.segment.bus,
+        len: run.segment.len + entry.span.len,
+    };
+    let last = *entry;
+    (None, Run { segment, last })
 }
 
 /// The run that an entry begins.

@@ -8,6 +8,3 @@
 mod slots;
 
 pub use slots::{Slots, TryAnswer};
-
-#[cfg(test)]
-mod tests;

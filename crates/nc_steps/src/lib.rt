@@ -13,6 +13,3 @@ mod steps;
 pub use laws::{loads_are_pieces, pieces_follow, steps_stop, stores_are_pieces, tables_serve};
 pub use nc_plan::At;
 pub use steps::{load_step, regs_step, store_step};
-
-#[cfg(test)]
-mod tests;

@@ -11,7 +11,7 @@ use Rattle.nc_scen.specs.declared.events.Event.{Event}
 use Rattle.nc_scen.specs.declared.scenario.Scenario.{Scenario}
 use Rattle.nc_rules.specs.Events.{enabled}
 use Rattle.nc_rules.specs.Lines.{line, text_of, report, status, status_at, tail}
-use Rattle.nc_rules.specs.MachineLaws.{SameShape}
+use Rattle.nc_calls.specs.MachineLaws.{SameShape}
 use Rattle.nc_rules.specs.Next.{next}
 use Rattle.nc_rules.specs.Run.{after, records}
 use Rattle.nc_rules.specs.Schedule.{sched}

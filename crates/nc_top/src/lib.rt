@@ -9,6 +9,3 @@ mod run;
 mod top;
 
 pub use top::dmasim;
-
-#[cfg(test)]
-mod tests;

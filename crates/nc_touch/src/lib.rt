@@ -7,6 +7,3 @@
 mod looks;
 
 pub use looks::{Look, hart_touch, register_touch};
-
-#[cfg(test)]
-mod tests;

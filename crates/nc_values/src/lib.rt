@@ -24,6 +24,3 @@ pub use values::{
     once, register, text, truth, wide, word,
 };
 pub use wrong::{OpFault, Wrong};
-
-#[cfg(test)]
-mod tests;

@@ -23,8 +23,8 @@ use Rattle.nc_rules.specs.Watched.{transaction_touch}
 use Rattle.nc_rules.specs.World.{WorldState}
 use Rattle.nc_rules.specs.Machine.{MachineState, channel_of}
 use Rattle.nc_rules.specs.Sound.{IsMachine, IsBlockIn, EntryIsThere}
-use Rattle.nc_rules.proofs.SoundDrain.{leaving_is}
-use Rattle.nc_world.specs.Logs.{HasPlace, EntryHasPlace}
+use Rattle.nc_calls.proofs.SoundDrain.{leaving_is}
+use Rattle.nc_log.specs.Logs.{HasPlace, EntryHasPlace}
 use Rattle.nc_world.specs.Looks.{IsTransactionIn, transaction_touch_in}
 use Rattle.nc_world.proofs.Transfers.{SomeHavePlaces, block_small, drain_places, fill_places}
 use Rattle.nc_world.proofs.Disabled.{drain_none, fill_none, fill_may_not, evict_none, evict_not_held}

@@ -31,15 +31,15 @@ use Rattle.nc_rules.specs.declared.steps.Step.{Step}
 use Rattle.nc_rules.specs.Built.{IsBuilt}
 use Rattle.nc_rules.specs.Driver.{DriverState, next_of, in_hand, went, opened, tested, started, started_of, stepped, done, done_of, done_unless, done_in, done_rest, busy}
 use Rattle.nc_rules.specs.Machine.{MachineState, hart_of, no_hart, fresh_hart, with_hart}
-use Rattle.nc_rules.specs.MachineLaws.{SameShape}
+use Rattle.nc_calls.specs.MachineLaws.{SameShape}
 use Rattle.nc_rules.specs.Operations.{Fixed, plan_of, step_at}
-use Rattle.nc_rules.specs.Scripts.{IsDriver, IsDriven, NextIsThere, AreThere, is_act}
+use Rattle.nc_scripts.specs.Scripts.{IsDriver, IsDriven, NextIsThere, AreThere, is_act}
 use Rattle.nc_rules.specs.Sound.{OpIsThere}
 use Rattle.nc_rules.specs.Start.{first_driver, first_machine, memory}
 use Rattle.nc_rules.specs.World.{WorldState, driver_of, no_driver, owned_by_harts, first_owners, hart, start}
-use Rattle.nc_rules.proofs.DriverLaws.{first_drivers, started_is, done_is, none_there, start_moves_there, done_moves_there, next_there}
-use Rattle.nc_rules.proofs.SoundStart.{length-memory}
-use Rattle.nc_rules.proofs.SoundWith.{shape_same}
+use Rattle.nc_scripts.proofs.DriverLaws.{first_drivers, started_is, done_is, none_there, start_moves_there, done_moves_there, next_there}
+use Rattle.nc_calls.proofs.SoundStart.{length-memory}
+use Rattle.nc_calls.proofs.SoundWith.{shape_same}
 use Rattle.nc_scen.specs.Regions.{pool_of}
 use Rattle.nc_world.specs.State.{IsDriverOf, IsWorld, IsKept}
 use Rattle.nc_world.specs.Steps.{IsGivenPayload, IsGiven, NextFits, is_going, went_on, moves_on}

@@ -21,8 +21,8 @@ use Rattle.nc_rules.specs.Next.{step_driver, step_moves, step_seen, step_touch}
 use Rattle.nc_rules.specs.Sound.{IsMachine, OpIsThere}
 use Rattle.nc_rules.specs.Told.{op_told, act_told, mark_told, store_told, touch_told, moves_told, step_told, recorded, told}
 use Rattle.nc_rules.specs.World.{WorldState, driver_of}
-use Rattle.nc_world.specs.Logs.{OpHasPlace, IssuedHasPlaces, payload_told, fence_told, issued_told}
-use Rattle.nc_world.specs.Steps.{IsGivenPayload, IsGiven, NextFits, CanAct, acted, acted_told, ActedHasPlaces, NextHasPlace, is_going, went_on, moves_on}
+use Rattle.nc_log.specs.Logs.{OpHasPlace, NextHasPlace, IssuedHasPlaces, ActedHasPlaces, payload_told, fence_told, issued_told, acted_told}
+use Rattle.nc_world.specs.Steps.{IsGivenPayload, IsGiven, NextFits, CanAct, acted, is_going, went_on, moves_on}
 use Rattle.nc_world.proofs.Transfers.{load_places, block_small}
 
 -- ---- what is recorded

@@ -10,15 +10,15 @@ use Rattle.nc_scen.specs.declared.events.Event.{Event}
 use Rattle.nc_scen.specs.declared.events.Event.TheVariants as events
 use Rattle.nc_rules.specs.declared.steps.Next.{Next}
 use Rattle.nc_rules.specs.declared.steps.Next.TheVariants as nexts
-use Rattle.nc_rules.proofs.SoundWith.{shape_same}
-use Rattle.nc_rules.proofs.SoundIssue.{shape_issue}
-use Rattle.nc_rules.proofs.SoundDrain.{shape_drain}
-use Rattle.nc_rules.proofs.SoundSteps.{shape_fill, shape_evict, shape_chan_read, shape_chan_write, shape_claim, shape_take}
+use Rattle.nc_calls.proofs.SoundWith.{shape_same}
+use Rattle.nc_calls.proofs.SoundIssue.{shape_issue}
+use Rattle.nc_calls.proofs.SoundDrain.{shape_drain}
+use Rattle.nc_calls.proofs.SoundSteps.{shape_fill, shape_evict, shape_chan_read, shape_chan_write, shape_claim, shape_take}
 use Rattle.nc_rules.specs.Calls.{leaving, drain_next, chan_read_next, chan_read_told, chan_write_next, chan_write_told}
 use Rattle.nc_rules.specs.Driver.{next_of}
 use Rattle.nc_rules.specs.Events.{enabled}
 use Rattle.nc_rules.specs.Machine.{MachineState}
-use Rattle.nc_rules.specs.MachineLaws.{SameShape}
+use Rattle.nc_calls.specs.MachineLaws.{SameShape}
 use Rattle.nc_rules.specs.Next.{touched_by, step_machine, step_driver, step_moves, step_touch, step_next, drained_from, performed, counted, next}
 use Rattle.nc_rules.specs.Sound.{IsMachine}
 use Rattle.nc_rules.specs.Watched.{drain_touch, transaction_touch}

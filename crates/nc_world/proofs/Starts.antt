@@ -6,7 +6,7 @@ use Rattle.nc_scen.specs.Accepted.{IsAccepted}
 use Rattle.nc_rules.specs.Machine.{fresh_hart}
 use Rattle.nc_rules.specs.Start.{first_machine}
 use Rattle.nc_rules.specs.World.{start}
-use Rattle.nc_rules.proofs.SoundStart.{length-memory}
+use Rattle.nc_calls.proofs.SoundStart.{length-memory}
 
 pub start_harts : (sc : Scenario) → length (start sc).machine.harts ≡ length sc.harts
 unfolding start first_machine

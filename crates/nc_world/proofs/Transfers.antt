@@ -24,7 +24,7 @@ use Rattle.nc_queue.specs.declared.entry.Entry.TheVariants as entries
 use Rattle.nc_rules.specs.Machine.{MachineState}
 use Rattle.nc_rules.specs.Calls.{asks_caches, load_transfers, store_transfers, operation_transfers, drain_transfers, may_fill, fill_answer, evict_answer}
 use Rattle.nc_rules.specs.Sound.{EntryIsThere, IsMachine, IsBlockIn}
-use Rattle.nc_world.specs.Logs.{block_of, HasPlace}
+use Rattle.nc_log.specs.Logs.{block_of, HasPlace}
 
 abbrev AreOf : ℕ → List BusRec → Type 0
 AreOf b ts = AllByRecursion (λ t. block_of t ≡ b) ts

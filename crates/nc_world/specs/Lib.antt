@@ -2,5 +2,4 @@ pub mod Shown
 pub mod State
 pub mod Inside
 pub mod Looks
-pub mod Logs
 pub mod Steps

@@ -8,7 +8,7 @@ use Rattle.nc_model.specs.declared.owners.Owner.{Owner}
 use Rattle.nc_coherent.specs.Pages.{PageMap}
 use Rattle.nc_rules.specs.declared.records.Record.{Record}
 use Rattle.nc_rules.specs.Driver.{DriverState}
-use Rattle.nc_rules.specs.Scripts.{IsDriver, IsDriven}
+use Rattle.nc_scripts.specs.Scripts.{IsDriver, IsDriven}
 use Rattle.nc_rules.specs.World.{WorldState, driver_of}
 use Rattle.nc_machine.specs.State.{MachineShown}
 use Rattle.nc_world.specs.Shown.{Shown}

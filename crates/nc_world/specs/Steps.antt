@@ -8,7 +8,6 @@ use Rattle.nc_plan.specs.declared.ops.HartOp.TheVariants.{Load, Store, Cbo, Fenc
 use Rattle.nc_plan.specs.declared.ops.Payload.{Payload}
 use Rattle.nc_plan.specs.declared.ops.Payload.TheVariants.{Given, Last}
 use Rattle.nc_rules.specs.declared.answers.Issued.{Issued}
-use Rattle.nc_rules.specs.declared.records.Record.{Record}
 use Rattle.nc_rules.specs.declared.steps.Next.{Next}
 use Rattle.nc_rules.specs.declared.steps.Next.TheVariants as nexts
 use Rattle.nc_rules.specs.declared.steps.Seen.{Seen}
@@ -16,7 +15,6 @@ use Rattle.nc_rules.specs.Calls.{may_issue, issue_answer}
 use Rattle.nc_rules.specs.Driver.{DriverState, Moved, moved, started, start_moves, done, done_moves}
 use Rattle.nc_rules.specs.Machine.{MachineState}
 use Rattle.nc_rules.specs.Sound.{OpIsThere}
-use Rattle.nc_world.specs.Logs.{issued_told, IssuedHasPlaces, OpHasPlace}
 
 -- ---- the machine's part
 
@@ -67,34 +65,6 @@ acted m h (nexts.Search k) = None
 acted m h (nexts.Claim chan) = None
 acted m h (nexts.Poll chan) = None
 acted m h (nexts.Take buf) = None
-
-abbrev pub op_acted_told : ℕ → HartNo → Bool → HartOp → Option Issued → List Record
-op_acted_told size h by_script op None = []
-op_acted_told size h by_script op (Some i) = issued_told size h by_script op i
-
--- what is recorded of it
-abbrev pub acted_told : ℕ → HartNo → Bool → Next → Option Issued → List Record
-acted_told size h by_script (nexts.Op op) i = op_acted_told size h by_script op i
-acted_told size h by_script nexts.End i = []
-acted_told size h by_script nexts.Start i = []
-acted_told size h by_script (nexts.Search k) i = []
-acted_told size h by_script (nexts.Claim chan) i = []
-acted_told size h by_script (nexts.Poll chan) i = []
-acted_told size h by_script (nexts.Take buf) i = []
-
--- the blocks that this names start at places
-abbrev pub ActedHasPlaces : ℕ → Option Issued → Type 0
-ActedHasPlaces size None = Unit {0}
-ActedHasPlaces size (Some i) = IssuedHasPlaces size i
-
-abbrev pub NextHasPlace : ℕ → Next → Type 0
-NextHasPlace size (nexts.Op op) = OpHasPlace size op
-NextHasPlace size nexts.End = Unit {0}
-NextHasPlace size nexts.Start = Unit {0}
-NextHasPlace size (nexts.Search k) = Unit {0}
-NextHasPlace size (nexts.Claim chan) = Unit {0}
-NextHasPlace size (nexts.Poll chan) = Unit {0}
-NextHasPlace size (nexts.Take buf) = Unit {0}
 
 -- ---- the driver's part
 

@@ -5,20 +5,21 @@ ghost use Rattle.std.specs.List.{list_all};
 ghost use Rattle.nc_cache.specs.Cache.{line_at, held_by};
 ghost use Rattle.nc_rules.specs.Calls.{may_issue, issue_answer, leaving, drain_next, drain_transfers, may_fill, fill_next, fill_answer, evict_next, evict_answer, chan_read_next, chan_read_told, chan_write_next, chan_write_told};
 ghost use Rattle.nc_rules.specs.Events.{is_over, is_idle_step};
-ghost use Rattle.nc_rules.specs.MachineLaws.{SameShape};
+ghost use Rattle.nc_calls.specs.MachineLaws.{SameShape};
 ghost use Rattle.nc_rules.specs.Next.{seen_of, step_seen, step_machine};
 ghost use Rattle.nc_rules.specs.Sound.{IsMachine, IsBlockIn, EntryIsThere};
-ghost use Rattle.nc_world.specs.Logs.{HasPlace, EntryHasPlace};
+ghost use Rattle.nc_log.specs.Logs.{HasPlace, EntryHasPlace, ActedHasPlaces};
 ghost use Rattle.nc_world.specs.Looks.{IsTransactionIn};
-ghost use Rattle.nc_world.specs.Steps.{OpFits, NextFits, CanAct, acted, ActedHasPlaces};
+ghost use Rattle.nc_world.specs.Steps.{OpFits, NextFits, CanAct, acted};
 
 use nc_cache::BusList;
+use nc_calls::calls_keep_shape;
 use nc_machine::{Issued, Machine};
 use nc_num::{Block, ChanNo, HartNo};
 use nc_pdma::ChanStep;
 use nc_plan::HartOp;
 use nc_queue::Entry;
-use nc_rules::{Next, Seen, calls_keep_shape};
+use nc_rules::{Next, Seen};
 
 /// What holds of every machine.
 pub(crate) fn sound(machine: &Machine)

@@ -9,14 +9,12 @@
 
 mod acts;
 mod built;
-mod log;
-mod records;
 mod setup;
 mod steps;
 mod world;
 
 pub use built::is_built;
+pub use nc_log::RecordList;
 pub use nc_rules::{Answer, Record, Refusal, ToldAnswer};
 pub use nc_scen::Event;
-pub use records::RecordList;
 pub use world::{Stepped, World};

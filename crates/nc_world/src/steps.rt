@@ -4,30 +4,31 @@ ghost use Rattle.std.specs.Prelude.{◌≡◌, ◌≤◌, ◌<◌, ◌+◌, true
 ghost use Rattle.nc_rules.specs.declared.steps.Next.TheVariants as nexts;
 ghost use Rattle.nc_rules.specs.Driver as due;
 ghost use Rattle.nc_rules.specs.Events.{is_idle_step};
-ghost use Rattle.nc_rules.specs.Scripts.{is_act, IsRangeIn};
+ghost use Rattle.nc_scripts.specs.Scripts.{is_act, IsRangeIn};
 ghost use Rattle.nc_rules.specs.World.{no_driver, owners_moved, one_more};
-ghost use Rattle.nc_driver.specs.Shown.{seen_as};
+ghost use Rattle.nc_moves.specs.Shown.{seen_as};
 ghost use Rattle.nc_world.specs.Looks.{touches_after, IsTransactionIn, transaction_touch_in};
 ghost use Rattle.nc_world.specs.Steps.{is_going, went_on, moves_on};
 
-use crate::log::Log;
 use nc_coherent::PagePool;
-use nc_driver::{Driver, Moves};
+use nc_driver::Driver;
+use nc_log::Log;
 use nc_machine::Machine;
 use nc_model::{Owner, Touch};
+use nc_moves::Moves;
 use nc_num::{ChanNo, HartNo, NoMemory, Span};
 use nc_own::{Access, Actor, Book};
 use nc_pdma::ChanStep;
 use nc_rules::{Next, Seen};
 
 /// More changes of owners than a step makes.
-const CHANGES: u32 = 34;
+const CHANGES: u32 = 72;
 
 /// Makes room for what one event adds to the caches, to the book and to the records.
 pub(crate) fn reserve(machine: &mut Machine, book: &mut Book, log: &mut Log) -> Result<(), NoMemory>
     ensures spare { OnOk result (1 ≤ machine.new.spare) }
-    ensures changes { OnOk result (34 ≤ book.new.spare) }
-    ensures room { OnOk result (64 ≤ log.new.room) }
+    ensures changes { OnOk result (72 ≤ book.new.spare) }
+    ensures room { OnOk result (96 ≤ log.new.room) }
     ensures machine { machine.new.machine ≡ machine.old.machine }
     ensures owners { book.new.owners ≡ book.old.owners }
     ensures grants { book.new.grants ≡ book.old.grants }

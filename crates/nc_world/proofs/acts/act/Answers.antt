@@ -1,7 +1,7 @@
 use Rattle.std.proofs.Common.{sym, subst}
 use Rattle.nc_rules.specs.declared.steps.Next.{Next}
 use Rattle.nc_rules.specs.declared.answers.Issued.{Issued}
-use Rattle.nc_world.specs.Logs.{IssuedHasPlaces}
+use Rattle.nc_log.specs.Logs.{IssuedHasPlaces}
 use Rattle.nc_world.specs.Steps.{NextFits}
 use Rattle.nc_world.proofs.Parts.{issued_places}
 use Rattle.nc_world.proofs.acts.act.Goals as goal

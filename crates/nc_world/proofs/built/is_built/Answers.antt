@@ -1,6 +1,6 @@
 use Rattle.std.proofs.Common.{◌≡◌, ◌∙◌, false, arith}
 use Rattle.std.proofs.lemmas.Grind.{common_steps}
-use Rattle.nc_rules.proofs.BuiltLaws.{passes_built}
+use Rattle.nc_scripts.proofs.BuiltLaws.{passes_built}
 use Rattle.nc_rules.specs.Built.{is_built}
 use Rattle.nc_world.proofs.built.is_built.Goals as goal
 

@@ -8,7 +8,7 @@ use Rattle.nc_cache.specs.Cache.{load}
 use Rattle.nc_cache.proofs.Wholes.{whole_load}
 use Rattle.nc_rules.specs.Sound.{IsPieceIn}
 use Rattle.nc_machine.proofs.Keeps.{kept_cache}
-use Rattle.nc_rules.proofs.SoundIssue.{piece_block}
+use Rattle.nc_calls.proofs.SoundIssue.{piece_block}
 
 pub invariant_of-self : goal.invariant_of-self
 invariant_of-self c =

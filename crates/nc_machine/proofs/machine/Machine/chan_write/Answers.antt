@@ -2,7 +2,7 @@ use Rattle.std.proofs.Common.{◌≡◌, refl}
 use Rattle.nc_machine.specs.Inside.{machine_of}
 use Rattle.nc_machine.proofs.machine.Machine.chan_write.Goals as goal
 use Rattle.nc_rules.specs.Calls.{chan_write_next}
-use Rattle.nc_rules.proofs.SoundSteps.{sound_chan_write, shape_chan_write}
+use Rattle.nc_calls.proofs.SoundSteps.{sound_chan_write, shape_chan_write}
 use Rattle.nc_machine.proofs.Keeps.{kept}
 
 pub invariant_of-self : goal.invariant_of-self

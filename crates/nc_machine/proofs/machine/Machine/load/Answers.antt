@@ -4,7 +4,7 @@ use Rattle.nc_machine.specs.Inside.{machine_of}
 use Rattle.nc_machine.specs.State.{MachineShown}
 use Rattle.nc_machine.proofs.machine.Machine.load.Goals as goal
 use Rattle.nc_rules.specs.Calls.{has_loaded}
-use Rattle.nc_rules.proofs.SoundWith.{sound_hart}
+use Rattle.nc_calls.proofs.SoundWith.{sound_hart}
 use Rattle.nc_machine.proofs.Keeps.{kept_harts}
 
 pub invariant_of-self : goal.invariant_of-self

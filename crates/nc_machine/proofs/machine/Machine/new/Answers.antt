@@ -4,7 +4,7 @@ use Rattle.std.proofs.lemmas.List.{length-replicate}
 use Rattle.nc_rules.specs.Machine.{fresh_hart}
 use Rattle.nc_rules.specs.Sound.{IsMachine}
 use Rattle.nc_rules.specs.Start.{first_machine}
-use Rattle.nc_rules.proofs.SoundStart.{sound_start}
+use Rattle.nc_calls.proofs.SoundStart.{sound_start}
 
 pub returns : goal.returns
 unfolding first_machine

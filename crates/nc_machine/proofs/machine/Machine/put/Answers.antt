@@ -6,7 +6,7 @@ use Rattle.nc_machine.proofs.machine.Machine.put.Goals as goal
 use Rattle.nc_hart.specs.Issue.{issued}
 use Rattle.nc_rules.specs.Sound.{OpIsThere, IsMachine}
 use Rattle.nc_rules.specs.Calls.{may_issue, issue_next}
-use Rattle.nc_rules.proofs.SoundIssue.{sound_issue}
+use Rattle.nc_calls.proofs.SoundIssue.{sound_issue}
 use Rattle.nc_machine.proofs.Keeps.{kept_harts}
 use Rattle.std.specs.Prelude.{IsTrue}
 

@@ -9,7 +9,7 @@ use Rattle.nc_cache.specs.Facts.{Whole}
 use Rattle.nc_queue.specs.Entries.{StoreFits}
 use Rattle.nc_queue.specs.declared.entry.Entry.TheVariants as entries
 use Rattle.nc_rules.specs.Calls.{performed}
-use Rattle.nc_rules.proofs.SoundDrain.{whole_performed}
+use Rattle.nc_calls.proofs.SoundDrain.{whole_performed}
 use Rattle.nc_machine.proofs.Keeps.{kept_cache}
 
 pub invariant_of-self : goal.invariant_of-self

@@ -6,7 +6,7 @@ use Rattle.nc_machine.proofs.machine.Machine.store_register.Goals as goal
 use Rattle.nc_queue.specs.declared.entry.Entry.{Entry}
 use Rattle.nc_queue.specs.declared.entry.Entry.TheVariants.{Reg}
 use Rattle.nc_rules.specs.Calls.{performed}
-use Rattle.nc_rules.proofs.SoundDrain.{sound_performed, shape_performed}
+use Rattle.nc_calls.proofs.SoundDrain.{sound_performed, shape_performed}
 use Rattle.nc_machine.proofs.Keeps.{kept}
 
 pub invariant_of-self : goal.invariant_of-self

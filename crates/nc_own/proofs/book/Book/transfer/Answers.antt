@@ -1,13 +1,18 @@
-use Rattle.std.proofs.Common.{◌∙◌, length, sym, ap}
-use Rattle.std.proofs.lemmas.List.{reverse-append}
-use Rattle.nc_own.specs.Books.{Shown, transferred}
-use Rattle.nc_own.proofs.Follows.{transferred-owners_of, length-owners_of}
+use Rattle.std.proofs.Common.{◌∙◌, length, sym, ap, arith}
+use Rattle.nc_own.specs.Books.{Shown}
+use Rattle.nc_own.proofs.Follows.{length-owners_of}
+use Rattle.nc_own.proofs.Views.{shown_size, shown_given}
 use Rattle.nc_own.proofs.book.Book.transfer.Goals as goal
 
+pub give-requires-clause-inside : goal.give-requires-clause-inside
+give-requires-clause-inside c = omega (arith, shown_size _ _ _ _ _ c.self.view_is, c.requires.inside)
+
+pub index_of-number-requires-clause-inside : goal.index_of-number-requires-clause-inside
+index_of-number-requires-clause-inside c =
+    rw c.deref.ensures.value (omega (arith, shown_size _ _ _ _ _ c.self.view_is, c.self.invariant.whole, c.give.ensures.given.whole, c.requires.inside, c.requires.some))
+
 pub returns-clause-owners : goal.returns-clause-owners
-returns-clause-owners c =
-    rw (c.push_reserved.ensures.items, reverse-append)
-    (sym (transferred-owners_of _ _ _ _) ∙ ap (λ (s : Shown). transferred s.owners c.args.span c.args.owner) c.self.view_is)
+returns-clause-owners c = shown_given _ _ _ _ _ _ _ _ c.self.view_is c.self.invariant.whole c.give.ensures.given
 
 pub returns-clause-size : goal.returns-clause-size
 returns-clause-size c =

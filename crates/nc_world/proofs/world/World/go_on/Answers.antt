@@ -10,15 +10,16 @@ use Rattle.nc_rules.specs.declared.steps.Seen.{Seen}
 use Rattle.nc_rules.specs.Driver.{Moved, next_of, is_script}
 use Rattle.nc_rules.specs.Events.{may_go_on}
 use Rattle.nc_rules.specs.Machine.{MachineState}
-use Rattle.nc_rules.specs.MachineLaws.{SameShape}
+use Rattle.nc_calls.specs.MachineLaws.{SameShape}
 use Rattle.nc_rules.specs.Next.{step_touch}
-use Rattle.nc_rules.specs.Scripts.{IsRangeIn}
+use Rattle.nc_scripts.specs.Scripts.{IsRangeIn}
 use Rattle.nc_rules.specs.Told.{touch_told, moves_told, told}
 use Rattle.nc_rules.specs.World.{driver_of}
-use Rattle.nc_driver.specs.Shown.{seen_as}
+use Rattle.nc_moves.specs.Shown.{seen_as}
+use Rattle.nc_log.specs.Logs.{acted_told}
 use Rattle.nc_world.specs.Inside.{state_of}
 use Rattle.nc_world.specs.Shown.{Shown}
-use Rattle.nc_world.specs.Steps.{NextFits, went_on, moves_on, acted, acted_told}
+use Rattle.nc_world.specs.Steps.{NextFits, went_on, moves_on, acted}
 use Rattle.nc_world.proofs.Kept.{moves_inside, world_on}
 use Rattle.nc_world.proofs.Parts.{going, joined, told_on, act_told_is, step_moves_is}
 use Rattle.nc_world.proofs.world.World.go_on.Goals as goal

@@ -1,5 +1,5 @@
 use Rattle.std.proofs.Common.{◌≡◌, sym, subst}
-use Rattle.nc_rules.specs.MachineLaws.{SameShape}
+use Rattle.nc_calls.specs.MachineLaws.{SameShape}
 use Rattle.nc_rules.specs.Next.{next}
 use Rattle.nc_rules.specs.World.{WorldState}
 use Rattle.nc_world.proofs.Shapes.{next_shape, on_ok}

@@ -1,0 +1,2 @@
+mod BenchLaws
+mod Benches

@@ -1,0 +1,3 @@
+pub mod MachineLaws
+pub mod PlaceLaws
+pub mod CallLaws

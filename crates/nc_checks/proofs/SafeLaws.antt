@@ -1,0 +1,35 @@
+-- What a driver knows from the start is safe.
+use Rattle.std.proofs.Common.{ℕ, ◌≤◌, arith, length}
+use Rattle.nc_num.specs.declared.places.Span.{Span}
+use Rattle.nc_pte.specs.Words.{IsPteWord}
+use Rattle.nc_ops.specs.declared.ops.Op.{Op}
+use Rattle.nc_ops.specs.declared.ops.Op.TheVariants.{St}
+use Rattle.nc_rules.specs.Lots.{Fixed}
+use Rattle.nc_scripts.specs.Scripts.{IsFixed, IsRangeIn, IsScriptOp}
+use Rattle.nc_checks.specs.Safe.{IsSmall, IsShort, IsSafe}
+
+small_range : (ram : ℕ) (range : Span) → ram ≤ 1048576 → IsRangeIn ram range → IsSmall range
+small_range ram range le is = record { ends = omega (arith, is.ends) }
+
+short_op : (harts buffers : ℕ) (o : Op) → IsScriptOp harts buffers o → IsShort o
+short_op harts buffers (St spot off bytes) is = is.fits.2
+short_op harts buffers _ is = tt
+
+wide_word : (ram word : ℕ) → ram ≤ 1048576 → IsPteWord ram word → IsPteWord 1048576 word
+wide_word ram word le is = record {
+  flags = is.flags;
+  reserved = is.reserved;
+  napot = is.napot;
+  from_ram = is.from_ram;
+  in_ram = omega (arith, is.in_ram);
+}
+
+pub safe_of : (ram harts : ℕ) (f : Fixed) → IsFixed ram harts f → IsSafe f
+safe_of ram harts f is = record {
+  sized = is.sized;
+  zero_sized = is.zero_sized;
+  buffers = λ k d lt. small_range ram _ is.ram_small (is.buffers k d lt);
+  pages = is.pages;
+  table = λ k lt. wide_word ram _ is.ram_small (is.table k lt);
+  script = λ k d lt. short_op harts (length f.buffers) _ (is.script k d lt);
+}

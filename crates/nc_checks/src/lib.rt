@@ -1,0 +1,18 @@
+//! What a driver knows of its script from the start, and the steps of the operations by their number.
+//!
+//! The contract for the crates above: a `Setup` is nc_rules' `Fixed` of a hart of the scenario; `step_due` is the step
+//! that is due in the script, or its refusal, and `start_checks` the refusal of a start step. A file holds a family of
+//! operations, as in nc_rules; `operations` alone names them all. The driver stands above.
+#![tactic(auto)]
+
+mod accesses;
+mod cache_ops;
+mod channels;
+mod handing;
+mod operations;
+mod refusals;
+mod setup;
+mod steps;
+
+pub use operations::has_start;
+pub use setup::Setup;

@@ -1,0 +1,169 @@
+//! What a driver knows from the start.
+
+ghost use Rattle.std.specs.Prelude.{◌≡◌, ◌<◌, length, IfOk, map, slice_get, option_map};
+ghost use Rattle.nc_scen.specs.Accepted.{IsAccepted};
+ghost use Rattle.nc_rules.specs.CacheOps.{effect_of};
+ghost use Rattle.nc_rules.specs.Refusals.{buffer_of};
+ghost use Rattle.nc_rules.specs.Start.{fixed_of, hart_spec, pbmte_of};
+
+use nc_env::{CboOp, Illegal};
+use nc_num::{HartNo, NoMemory, Span};
+use nc_plan::{Effects, effects_of};
+use nc_scen::{BufferSpec, HartSpec, Op, Scenario};
+use std::alloc::Global;
+use std::marker::Model;
+
+/// A hart's number and what its cache operations do, whether it has memory types, the table of pages, the buffers, the
+/// bytes of a block and of a zeroed range, how far each channel reaches, the bounce slots, the coherent pool, whether
+/// fences are light, and the script.
+#[derive(Drop)]
+pub struct Setup {
+    me: HartNo,
+    effects: Effects,
+    pbmte: bool,
+    table: Vec<u64>,
+    buffers: Vec<Span>,
+    size: u32,
+    zero_size: u32,
+    reach: [u32; 4],
+    slots_at: u32,
+    slots: u32,
+    pool: Span,
+    light: bool,
+    script: Vec<Op>,
+}
+
+impl Model for Setup {
+    ghost use Rattle.nc_rules.specs.Lots.{Fixed};
+
+    ghost Value = { Fixed };
+
+    ghost view = { λ s. record { me = s.me; effects = s.effects; pbmte = s.pbmte; table = s.table.items; buffers = s.buffers.items; size = s.size; zero_size = s.zero_size; reach = s.reach; slots_at = s.slots_at; slots = s.slots; pool = s.pool; light = s.light; script = s.script.items } };
+}
+
+impl Setup {
+    /// That of hart `me` of a scenario. The error is want of memory.
+    pub fn of(alloc: Global, me: HartNo, sc: &Scenario) -> Result<Setup, NoMemory>
+        requires hart { me.0 < length sc.now.harts }
+        requires accepted { IsAccepted sc.now }
+        ensures { IfOk result (λ s. s ≡ fixed_of sc.now me (hart_spec sc.now me.0)) }
+    {
+        let hart = &sc.harts.as_slice()[me.0 as usize];
+        let effects = effects_of(hart.mode, hart.menvcfg, hart.senvcfg);
+        let table = Vec::from_slice(alloc, sc.ptes.as_slice())?;
+        let buffers = spans_of(alloc, sc.buffers.as_slice())?;
+        let script = script_of(alloc, hart.script.as_slice())?;
+        Ok(Setup {
+            me,
+            effects,
+            pbmte: has_pbmte(hart.menvcfg),
+            table,
+            buffers,
+            size: sc.block_size,
+            zero_size: sc.zero_size,
+            reach: sc.reach,
+            slots_at: sc.slots_at,
+            slots: sc.slots,
+            pool: sc.pool(),
+            light: sc.light,
+            script,
+        })
+    }
+
+    /// The hart.
+    pub fn me(&self) -> HartNo
+        ensures { result ≡ self.now.me }
+    {
+        self.me
+    }
+
+    /// Whether the hart has memory types (Svpbmt).
+    pub(crate) fn pbmte(&self) -> bool
+        ensures { result ≡ self.now.pbmte }
+    {
+        self.pbmte
+    }
+
+    /// The words of the page table.
+    pub(crate) fn table(&self) -> &[u64]
+        ensures { result.now ≡ self.now.table }
+    {
+        &self.table
+    }
+
+    /// The range of a buffer; an empty one where there is no such buffer.
+    pub(crate) fn buffer(&self, buf: u8) -> Span
+        ensures { result ≡ buffer_of self.now buf }
+    {
+        match self.buffers.get(usize::from(buf)) {
+            Some(span) => *span,
+            None => Span { at: 0, len: 0 },
+        }
+    }
+
+    /// The bytes of a cache block.
+    pub(crate) fn size(&self) -> u32
+        ensures { result ≡ self.now.size }
+    {
+        self.size
+    }
+
+    /// The bytes of a zeroed range.
+    pub(crate) fn zero_size(&self) -> u32
+        ensures { result ≡ self.now.zero_size }
+    {
+        self.zero_size
+    }
+
+    /// What a cache operation of the script is performed as (RISC-V CMO 1.0).
+    pub(crate) fn effect(&self, op: CboOp) -> Result<CboOp, Illegal>
+        ensures { result ≡ effect_of self.now.effects op }
+    {
+        match op {
+            CboOp::Clean => self.effects.clean,
+            CboOp::Flush => self.effects.flush,
+            CboOp::Inval => self.effects.inval,
+            CboOp::Zero => self.effects.zero,
+        }
+    }
+
+    /// Whether fences are light: a lending ends with a token in the store queue, and not with a fence that waits.
+    pub fn light(&self) -> bool
+        ensures { result ≡ self.now.light }
+    {
+        self.light
+    }
+
+    /// Operation n of the script.
+    pub fn op(&self, n: u32) -> Option<&Op>
+        ensures { option_map (λ o. o.now) result ≡ slice_get self.now.script n }
+    {
+        self.script.get(n as usize)
+    }
+}
+
+/// Whether `menvcfg` turns memory types on: PBMTE, bit 62 (Svpbmt).
+fn has_pbmte(menvcfg: u64) -> bool
+    ensures { result ≡ pbmte_of menvcfg }
+{
+    menvcfg >> 62 & 1 == 1
+}
+
+/// The ranges of the buffers.
+fn spans_of(alloc: Global, buffers: &[BufferSpec]) -> Result<Vec<Span>, NoMemory>
+    ensures { IfOk result (λ v. v.items ≡ map (λ b. b.span) buffers.now) }
+{
+    let spans = buffers.iter().map(|b| b.span).collect(alloc)?;
+    Ok(spans)
+}
+
+/// A copy of a script.
+fn script_of(alloc: Global, script: &[Op]) -> Result<Vec<Op>, NoMemory>
+    ensures { IfOk result (λ v. v.items ≡ script.now) }
+{
+    let mut ops = Vec::new(alloc);
+    for op in script {
+        ops.push(op.try_clone()?)?;
+    }
+    Ok(ops)
+}

@@ -1,0 +1,11 @@
+pub mod Among
+pub mod Cutting
+pub mod Powers
+pub mod Offsets
+pub mod Lowest
+pub mod SameSpot
+pub mod Shown
+pub mod Found
+pub mod Taking
+pub mod Pushed
+pub mod ApartLaws

@@ -1,0 +1,4 @@
+pub mod Layouts
+pub mod Pieces
+pub mod Marks
+pub mod Apart

@@ -1,0 +1,132 @@
+//! Intervals of RAM, one behind another, each with its owner.
+
+ghost use Rattle.std.specs.Prelude.{◌≡◌, ◌≢◌, ◌⊎◌, ◌++◌, ◌+◌, ◌^◌, ◌<◌, ◌≤◌, ℕ, true, length, vec_len, vec_capacity, if◌then◌else◌};
+ghost use Rattle.std.specs.List.{HoldsAt};
+ghost use Rattle.nc_num.specs.Places.{covers};
+ghost use Rattle.nc_model.specs.Owners.{owner_at};
+ghost use Rattle.nc_own.specs.Tiles.{places, Tile, Joined, made, run, Has, Found, IsBorder, IsGiven};
+
+use nc_model::Owner;
+use nc_num::Span;
+
+/// Places of RAM that lie side by side and have one owner (this project's own).
+#[derive(Clone, Copy, Debug, PartialEq, Eq)]
+pub struct Interval {
+    /// The places.
+    pub span: Span,
+    /// Their owner.
+    pub owner: Owner,
+}
+
+/// The place behind a span.
+pub fn end_of(span: Span) -> u32
+    requires { span.at + span.len < 2 ^ 32 }
+    ensures { result ≡ span.at + span.len }
+{
+    span.at + span.len
+}
+
+/// The number of the interval that has a place, by halving.
+pub fn index_of(intervals: &[Interval], at: u32) -> usize
+    requires tile { Tile 0 intervals.now }
+    requires inside { at < places intervals.now }
+    ensures inside { result < length intervals.now }
+    ensures has { HoldsAt (λ i. covers i.span at ≡ true) intervals.now result }
+{
+    intervals.partition_point(|i| i.span.at <= at) - 1
+}
+
+/// The interval that has a place, with its number.
+fn find(intervals: &[Interval], at: u32) -> (usize, Interval)
+    requires tile { Tile 0 intervals.now }
+    requires inside { at < places intervals.now }
+    ensures { Found intervals.now at result.0 result.1 }
+{
+    let number = index_of(intervals, at);
+    (number, intervals[number])
+}
+
+/// The interval that has a place.
+pub fn interval_at(intervals: &[Interval], at: u32) -> Interval
+    requires tile { Tile 0 intervals.now }
+    requires inside { at < places intervals.now }
+    ensures { Has intervals.now at result }
+{
+    intervals[index_of(intervals, at)]
+}
+
+/// The interval that has a place: that of a guessed number where it has it, or else by halving.
+pub fn interval_near(intervals: &[Interval], guess: usize, at: u32) -> Interval
+    requires tile { Tile 0 intervals.now }
+    requires inside { at < places intervals.now }
+    ensures { Has intervals.now at result }
+{
+    if guess < intervals.len() {
+        let guessed = intervals[guess];
+        if has(guessed.span, at) {
+            return guessed;
+        }
+    }
+    interval_at(intervals, at)
+}
+
+/// Whether the place lies in the span.
+fn has(span: Span, at: u32) -> bool
+    ensures { result ≡ covers span at }
+{
+    span.at <= at && at - span.at < span.len
+}
+
+/// Where an owner's interval ends and a neighbour's begins: at the outer place where they are one owner's, else at the
+/// inner one.
+fn border(neighbour: Owner, owner: Owner, outer: u32, inner: u32) -> u32
+    ensures { IsBorder neighbour owner outer inner result }
+{
+    if neighbour == owner { outer } else { inner }
+}
+
+/// Appends the interval from one place to another, or none where there is nothing between them. It takes no memory.
+pub fn push_run(intervals: &mut Vec<Interval>, start: u32, end: u32, owner: Owner)
+    requires { vec_len intervals.old < vec_capacity intervals.old }
+    ensures items { intervals.new.items ≡ intervals.old.items ++ run start end owner }
+    ensures len { vec_len intervals.new ≤ vec_len intervals.old + 1 }
+    ensures capacity { vec_capacity intervals.new ≡ vec_capacity intervals.old }
+{
+    if start < end {
+        intervals.push_reserved(Interval {
+            span: Span {
+                at: start,
+                len: end - start,
+            },
+            owner,
+        });
+    }
+}
+
+/// Gives the places of a span an owner: cuts what lies before and behind them, or joins it where it is the same
+/// owner's. It takes no memory.
+pub fn give(intervals: &mut Vec<Interval>, ram: u32, span: Span, owner: Owner)
+    requires tile { Tile 0 intervals.old.items }
+    requires joined { Joined intervals.old.items }
+    requires whole { places intervals.old.items ≡ ram }
+    requires some { 0 < span.len }
+    requires inside { span.at + span.len ≤ ram }
+    requires room { vec_len intervals.old + 3 ≤ vec_capacity intervals.old }
+    ensures given { IsGiven intervals.old.items span owner intervals.new.items }
+    ensures len { vec_len intervals.new ≤ vec_len intervals.old + 3 }
+    ensures capacity { vec_capacity intervals.new ≡ vec_capacity intervals.old }
+{
+    let end = end_of(span);
+    let (first, before) = find(intervals, span.at.saturating_sub(1));
+    let (last, behind) = find(intervals, end.min(ram - 1));
+    let start = border(before.owner, owner, before.span.at, span.at);
+    let stop = border(behind.owner, owner, end_of(behind.span), end);
+    // what lies behind goes to the front, so that what changes is at the end
+    let rest = intervals.len() - (last + 1);
+    intervals.rotate_left(last + 1);
+    intervals.truncate(rest + first);
+    push_run(intervals, before.span.at, start, before.owner);
+    push_run(intervals, start, stop, owner);
+    push_run(intervals, stop, end_of(behind.span), behind.owner);
+    intervals.rotate_left(rest);
+}

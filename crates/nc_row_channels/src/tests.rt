@@ -1,8 +1,0 @@
-//! What no clause says: that the law is one that a call meets.
-
-use crate::rows_of_channels;
-
-#[test]
-fn law_is_called() {
-    rows_of_channels();
-}

@@ -1,0 +1,287 @@
+//! What no clause says: that the calls can succeed, and their transfers, in tables worked by hand.
+
+ghost use Rattle.std.specs.Prelude.{◌≡◌, ◌*◌, ◌≤◌, ◌<◌, length};
+ghost use Rattle.nc_num.specs.Sizes.{IsBlockSize};
+
+use nc_cache::{
+    BusList, BusRec, Domain, Origin, bytes_are_seen, calls_keep_places, calls_keep_whole,
+    calls_write_places, inval_drops, lines_are_held,
+};
+use nc_mem::Ram;
+use nc_num::{Block, Bytes, HartNo, NoMemory, Span};
+use std::alloc::Global;
+use std::process::Abort;
+
+/// Four harts over a memory of two blocks, of which the calls use the second.
+#[derive(Drop)]
+struct Machine {
+    size: u32,
+    ram: Ram,
+    domain: Domain,
+    ghost harts: { domain.harts ≡ 4 },
+    ghost same_size: { domain.size ≡ size },
+    ghost some: { 1 ≤ size },
+    ghost two_blocks: { 2 * size ≤ length ram },
+}
+
+#[derive(Clone, Copy)]
+enum Start {
+    Nobody,
+    OneClean,
+    OneDirty,
+    ThreeClean,
+}
+
+#[derive(Clone, Copy)]
+enum Call {
+    Own,
+    Store,
+    Zero,
+    Clean,
+    Flush,
+    Inval,
+}
+
+const B: Block = Block(1);
+
+impl Machine {
+    /// The block begins with the byte 9, and all else is 0.
+    fn new(alloc: Global, size: u32) -> Result<Machine, NoMemory>
+        requires { IsBlockSize size }
+    {
+        let mut ram = Ram::new(alloc, 2 * size)?;
+        ram.write(Span { at: size, len: 1 }, b"\x09");
+        let domain = Domain::new(alloc, 4, size)?;
+        Ok(Machine { size, ram, domain })
+    }
+
+    fn load(&mut self, h: HartNo) -> Result<BusList, NoMemory>
+        requires { h.0 < 4 }
+    {
+        self.domain.reserve()?;
+        Ok(self.domain.load(&mut self.ram, h, B))
+    }
+
+    fn fill(&mut self, h: HartNo) -> Result<Option<BusList>, NoMemory>
+        requires { h.0 < 4 }
+    {
+        self.domain.reserve()?;
+        Ok(self.domain.fill(&mut self.ram, h, B))
+    }
+
+    fn evict(&mut self, h: HartNo) -> Option<BusList>
+        requires { h.0 < 4 }
+    {
+        self.domain.evict(&mut self.ram, h, B)
+    }
+
+    /// A store of one byte to the start of the block.
+    fn store(&mut self, h: HartNo, byte: u8) -> Result<BusList, NoMemory>
+        requires { h.0 < 4 }
+    {
+        self.domain.reserve()?;
+        let at = self.size;
+        Ok(
+            self.domain
+                .store(&mut self.ram, h, Span { at, len: 1 }, &[byte]),
+        )
+    }
+
+    fn call(&mut self, call: Call, h: HartNo) -> Result<BusList, NoMemory>
+        requires { h.0 < 4 }
+    {
+        self.domain.reserve()?;
+        match call {
+            Call::Own => Ok(self.domain.own(&mut self.ram, h, B)),
+            Call::Store => self.store(h, 5),
+            Call::Zero => Ok(self.domain.zero(&mut self.ram, h, B)),
+            Call::Clean => Ok(self.domain.clean(&mut self.ram, B)),
+            Call::Flush => Ok(self.domain.flush(&mut self.ram, B)),
+            Call::Inval => Ok(self.domain.inval(B)),
+        }
+    }
+
+    /// The first byte of the block, as the domain has it and as memory has it.
+    fn first_byte(&self) -> (u8, u8) {
+        let span = Span {
+            at: self.size,
+            len: 1,
+        };
+        let seen = self.domain.bytes(&self.ram, span);
+        let there = self.ram.read(span);
+        (seen.as_slice()[0], there.as_slice()[0])
+    }
+}
+
+/// A machine whose block is held as told: by hart 1, or by harts 0, 1 and 2. The dirty copy begins with the byte 7.
+fn prepared(alloc: Global, size: u32, start: Start) -> Result<Machine, NoMemory>
+    requires { IsBlockSize size }
+{
+    let mut made = Machine::new(alloc, size)?;
+    match start {
+        Start::Nobody => {}
+        Start::OneClean => {
+            made.load(HartNo(1))?;
+        }
+        Start::OneDirty => {
+            made.store(HartNo(1), 7)?;
+        }
+        Start::ThreeClean => {
+            made.load(HartNo(0))?;
+            made.load(HartNo(1))?;
+            made.load(HartNo(2))?;
+        }
+    }
+    Ok(made)
+}
+
+/// A call by hart 0 makes these transfers.
+fn row(
+    rt: &impl Abort,
+    alloc: Global,
+    size: u32,
+    start: Start,
+    call: Call,
+    want: &[BusRec],
+) -> Result<(), NoMemory>
+    requires { IsBlockSize size }
+{
+    let mut machine = prepared(alloc, size, start)?;
+    let bus = machine.call(call, HartNo(0))?;
+    assert_eq!(rt; bus.as_slice(), want);
+    Ok(())
+}
+
+/// A block that begins with this byte, and else is 0.
+fn block(size: u32, first: u8) -> Bytes
+    requires some { 1 ≤ size }
+    requires short { size ≤ 128 }
+{
+    let mut cells = [0; 128];
+    cells[0] = first;
+    Bytes::of(&cells[..size as usize])
+}
+
+fn own(h: u8, from: Origin) -> BusRec {
+    BusRec::Own {
+        hart: HartNo(h),
+        block: B,
+        from,
+    }
+}
+
+fn got(h: u8, from: Origin) -> BusRec {
+    BusRec::Fill {
+        hart: HartNo(h),
+        block: B,
+        from,
+    }
+}
+
+fn back(h: u8, bytes: Bytes) -> BusRec {
+    BusRec::WriteBack {
+        hart: HartNo(h),
+        block: B,
+        bytes,
+    }
+}
+
+fn gone(h: u8) -> BusRec {
+    BusRec::Drop {
+        hart: HartNo(h),
+        block: B,
+    }
+}
+
+/// The transfers of an own, and of a store and a zero, which begin with one.
+fn own_rows(rt: &impl Abort, alloc: Global, call: Call) -> Result<(), NoMemory> {
+    let from_memory = [own(0, Origin::Mem(block(32, 9)))];
+    let from_one = [own(0, Origin::Hart(HartNo(1))), gone(1)];
+    let from_three = [own(0, Origin::Held), gone(1), gone(2)];
+    row(rt, alloc, 32, Start::Nobody, call, &from_memory)?;
+    row(rt, alloc, 64, Start::OneClean, call, &from_one)?;
+    row(rt, alloc, 128, Start::OneDirty, call, &from_one)?;
+    row(rt, alloc, 64, Start::ThreeClean, call, &from_three)
+}
+
+#[test]
+fn owns_stores_and_zeros(rt: HostRuntime) -> Result<(), NoMemory> {
+    let alloc = rt.alloc();
+    own_rows(&rt, alloc, Call::Own)?;
+    own_rows(&rt, alloc, Call::Store)?;
+    own_rows(&rt, alloc, Call::Zero)
+}
+
+#[test]
+fn cleans_flushes_and_invalidates(rt: HostRuntime) -> Result<(), NoMemory> {
+    let alloc = rt.alloc();
+    let flushed = [back(1, block(128, 7)), gone(1)];
+    let cleaned = [back(1, block(128, 7))];
+    let one = [gone(1)];
+    let three = [gone(0), gone(1), gone(2)];
+    let empty = BusList::new();
+    let none = empty.as_slice();
+    row(&rt, alloc, 32, Start::Nobody, Call::Clean, none)?;
+    row(&rt, alloc, 64, Start::OneClean, Call::Clean, none)?;
+    row(&rt, alloc, 128, Start::OneDirty, Call::Clean, &cleaned)?;
+    row(&rt, alloc, 64, Start::ThreeClean, Call::Clean, none)?;
+    row(&rt, alloc, 32, Start::Nobody, Call::Flush, none)?;
+    row(&rt, alloc, 64, Start::OneClean, Call::Flush, &one)?;
+    row(&rt, alloc, 128, Start::OneDirty, Call::Flush, &flushed)?;
+    row(&rt, alloc, 64, Start::ThreeClean, Call::Flush, &three)?;
+    row(&rt, alloc, 32, Start::Nobody, Call::Inval, none)?;
+    row(&rt, alloc, 64, Start::OneClean, Call::Inval, &one)?;
+    row(&rt, alloc, 128, Start::OneDirty, Call::Inval, &one)?;
+    row(&rt, alloc, 64, Start::ThreeClean, Call::Inval, &three)
+}
+
+fn is_told(bus: &Option<BusList>, want: &[BusRec]) -> bool {
+    match bus {
+        None => false,
+        Some(bus) => bus.as_slice() == want,
+    }
+}
+
+#[test]
+fn one_block_through_four_harts(rt: HostRuntime) -> Result<(), NoMemory> {
+    let mut m = Machine::new(rt.alloc(), 64)?;
+    let mem = got(1, Origin::Mem(block(64, 9)));
+    assert!(rt; is_told(&m.fill(HartNo(1))?, &[mem]));
+    assert!(rt; m.fill(HartNo(1))?.is_none());
+    assert!(rt; m.evict(HartNo(0)).is_none());
+    let copy = got(0, Origin::Hart(HartNo(1)));
+    assert_eq!(rt; m.load(HartNo(0))?.as_slice(), [copy].as_slice());
+    assert!(rt; m.load(HartNo(0))?.as_slice().is_empty());
+    let held = [own(0, Origin::Held), gone(1)];
+    assert_eq!(rt; m.store(HartNo(0), 7)?.as_slice(), held.as_slice());
+    assert!(rt; m.store(HartNo(0), 7)?.as_slice().is_empty());
+    assert_eq!(rt; m.first_byte(), (7, 9));
+    Ok(())
+}
+
+#[test]
+fn a_dirty_block_moves(rt: HostRuntime) -> Result<(), NoMemory> {
+    let mut m = Machine::new(rt.alloc(), 64)?;
+    m.store(HartNo(0), 7)?;
+    assert!(rt; m.domain.holds(HartNo(0), B));
+    assert!(rt; !m.domain.holds(HartNo(2), B));
+    let shared = [back(0, block(64, 7)), got(2, Origin::Hart(HartNo(0)))];
+    assert_eq!(rt; m.load(HartNo(2))?.as_slice(), shared.as_slice());
+    let taken = [own(3, Origin::Hart(HartNo(0))), gone(0), gone(2)];
+    assert_eq!(rt; m.store(HartNo(3), 5)?.as_slice(), taken.as_slice());
+    assert_eq!(rt; m.first_byte(), (5, 7));
+    let evicted = [back(3, block(64, 5)), gone(3)];
+    assert!(rt; is_told(&m.evict(HartNo(3)), &evicted));
+    assert_eq!(rt; m.first_byte(), (5, 5));
+    Ok(())
+}
+
+#[test]
+fn laws(_rt: HostRuntime) {
+    calls_keep_whole();
+    calls_keep_places();
+    calls_write_places();
+    inval_drops();
+    bytes_are_seen();
+    lines_are_held();
+}
