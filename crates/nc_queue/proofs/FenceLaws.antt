@@ -50,7 +50,7 @@ pub drained-some : (s : ℕ) (q : List Entry) (i : ℕ) (e : Entry) → drained 
 unfolding drained may_drain
 drained-some s q i e is = by_entry s (take i q) (slice_get q i) e is
 
-wo_is_mark : (e : Entry) → is_mark e ≡ false → is_wo e ≡ false
+pub wo_is_mark : (e : Entry) → is_mark e ≡ false → is_wo e ≡ false
 wo_is_mark (Store span bytes kind) other = refl
 wo_is_mark (Cbo block op) other = refl
 wo_is_mark (Reg chan off width value) other = refl
@@ -124,7 +124,7 @@ covered-none p m t (a ∷ q) without =
     (λ pa. absurd (both_ways (p a) parts.0 pa), λ ta. parts.1, covered-none p m t q parts.1)
 
 -- an entry drains: one of m only where none of p stands before it
-stands-remove : (m t : Entry → Bool) (q : List Entry) (i : ℕ) (e : Entry) → slice_get q i ≡ Some e → m e ≡ false → Stands m t q → Stands m t (remove q i)
+pub stands-remove : (m t : Entry → Bool) (q : List Entry) (i : ℕ) (e : Entry) → slice_get q i ≡ Some e → m e ≡ false → Stands m t q → Stands m t (remove q i)
 stands-remove m t [] i e is other stands = absurd stands
 stands-remove m t (a ∷ q) zero e is other (inl here) = let same : e ≡ a = cc in absurd (both_ways (m a) (subst (λ (b : Entry). m b ≡ false) same other) here)
 stands-remove m t (a ∷ q) zero e is other (inr later) = later.1
@@ -161,7 +161,7 @@ covered_behind p m t [] i e covered is te = absurd cc
 covered_behind p m t (a ∷ q) zero e covered is te = let same : e ≡ a = cc in covered.1 (subst (λ (b : Entry). t b ≡ true) same te)
 covered_behind p m t (a ∷ q) (suc i) e covered is te = covered_behind p m t q i e covered.2 is te
 
-stands_before : (m t : Entry → Bool) (q : List Entry) (i : ℕ) (e : Entry) → Stands m t q → slice_get q i ≡ Some e → t e ≡ true → m e ≡ false → list_any m (take i q) ≡ true
+pub stands_before : (m t : Entry → Bool) (q : List Entry) (i : ℕ) (e : Entry) → Stands m t q → slice_get q i ≡ Some e → t e ≡ true → m e ≡ false → list_any m (take i q) ≡ true
 stands_before m t [] i e stands is te other = absurd stands
 stands_before m t (a ∷ q) zero e (inl here) is te other = let same : e ≡ a = cc in absurd (both_ways (m a) (subst (λ (b : Entry). m b ≡ false) same other) here)
 stands_before m t (a ∷ q) zero e (inr later) is te other = let same : e ≡ a = cc in absurd (both_ways (t a) later.0 (subst (λ (b : Entry). t b ≡ true) same te))

@@ -1,0 +1,4 @@
+pub mod Bared
+pub mod Marks
+pub mod LineLaws
+pub mod Gains

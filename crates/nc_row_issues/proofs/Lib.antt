@@ -1,0 +1,3 @@
+pub mod PlacePushes
+pub mod LentPushes
+pub mod RowIssues

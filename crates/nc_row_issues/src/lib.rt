@@ -1,0 +1,8 @@
+//! Issues: which rows a hart's load and a hart's entry leave, and which get the byte that the entry gives.
+//!
+//! The crate has no code, and its law looks at no operation of a script. The contract for the layers above: the law.
+#![tactic(auto)]
+
+mod laws;
+
+pub use laws::rows_issue;

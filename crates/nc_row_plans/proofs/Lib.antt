@@ -1,0 +1,5 @@
+pub mod PlanPushes
+pub mod PlanEnds
+pub mod PlanBegins
+pub mod LendingPlans
+pub mod ReturningPlans

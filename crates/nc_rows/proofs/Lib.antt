@@ -1,0 +1,3 @@
+pub mod PlaceFrames
+pub mod Kept
+pub mod Steps

@@ -1,0 +1,5 @@
+pub mod Places
+pub mod Ahead
+pub mod Rows
+pub mod Parts
+pub mod Laws
