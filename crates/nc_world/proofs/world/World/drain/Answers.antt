@@ -27,9 +27,9 @@ returns-clause-next c =
     let machine : c.reserve.new.machine.machine ≡ w.machine = c.in_ok-reserve.ensures.machine in
     let out : leaving w.machine h.0 i ≡ Some e = subst (λ (m : MachineState). leaving m h.0 i ≡ Some e) machine c.in-Some.ensures.entry in
     let touch : c.leaving_touch-touch.result ≡ drain_touch w h e =
-        subst (λ (v : Shown). c.leaving_touch-touch.result ≡ leaving_touch v.at h (leaving v.at.machine h.0 i)) back c.leaving_touch-touch.ensures ∙ ap (leaving_touch w h) out in
+    subst (λ (v : Shown). c.leaving_touch-touch.result ≡ leaving_touch v.at h (leaving v.at.machine h.0 i)) back c.leaving_touch-touch.ensures ∙ ap (leaving_touch w h) out in
     same_world _ _ (c.drain.ensures.state ∙ ap (λ (m : MachineState). drain_next m h.0 i) machine) refl c.in_ok-reserve.ensures.owners c.in_ok-reserve.ensures.grants
-      c.one_more-self-inside.ensures (c.touches_after-self-inside.ensures ∙ ap (touches_after w.touches) touch) refl refl
+    c.one_more-self-inside.ensures (c.touches_after-self-inside.ensures ∙ ap (touches_after w.touches) touch) refl refl
     ∙ sym (drain_is w h i e c.self.invariant.world lt out) ∙ ap (λ (v : Shown). next v.at (Drain h i)) c.self.view_is
 
 pub returns-clause-records : goal.returns-clause-records
@@ -44,7 +44,7 @@ returns-clause-records c =
     let machine : c.reserve.new.machine.machine ≡ m = c.in_ok-reserve.ensures.machine in
     let out : leaving m h.0 i ≡ Some e = subst (λ (k : MachineState). leaving k h.0 i ≡ Some e) machine c.in-Some.ensures.entry in
     let touch : c.leaving_touch-touch.result ≡ drain_touch w h e =
-        subst (λ (v : Shown). c.leaving_touch-touch.result ≡ leaving_touch v.at h (leaving v.at.machine h.0 i)) back c.leaving_touch-touch.ensures ∙ ap (leaving_touch w h) out in
+    subst (λ (v : Shown). c.leaving_touch-touch.result ≡ leaving_touch v.at h (leaving v.at.machine h.0 i)) back c.leaving_touch-touch.ensures ∙ ap (leaving_touch w h) out in
     let start = c.self.inside.log.records in
     let x = records.Event (Drain h i) in
     let a = touch_records (drain_touch w h e) in

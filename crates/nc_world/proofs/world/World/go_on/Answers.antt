@@ -111,6 +111,6 @@ returns-clause-next c =
     let moves = c.in_ok-moves.ensures.moves ∙ ap (λ (x : Went). x.moves) went in
     let made = c.turn.ensures.owners ∙ ap (λ (os : List Owner). owners_moved os c.as_slice.result.now) owners ∙ ap (owners_moved w.owners) (c.as_slice.ensures.value ∙ ap (λ (x : Moved). x.transfers) moves) in
     same_world _ _ (c.act.ensures.state ∙ ap (λ (k : MachineState). step_machine k h n) machine)
-      (c.in_ok-moves.ensures.driver ∙ ap (λ (x : Went). slice_set w.drivers h.0 x.driver) went)
-      made (c.turn.ensures.grants ∙ c.in_ok-reserve.ensures.grants) c.one_more-self-inside.ensures (c.touches_after-self-inside.ensures ∙ ap (touches_after w.touches) touch) refl refl
+    (c.in_ok-moves.ensures.driver ∙ ap (λ (x : Went). slice_set w.drivers h.0 x.driver) went)
+    made (c.turn.ensures.grants ∙ c.in_ok-reserve.ensures.grants) c.one_more-self-inside.ensures (c.touches_after-self-inside.ensures ∙ ap (touches_after w.touches) touch) refl refl
     ∙ sym (step_next w h n coming may plain) ∙ ap (λ (v : Shown). next v.at (Issue h)) c.self.view_is
