@@ -1,5 +1,7 @@
 //! Guesses at the intervals of places: where one has gone stale, a look takes longer and finds the same.
 
+ghost use Rattle.std.specs.Prelude.{◌+◌, ◌<◌, ◌^◌};
+
 use nc_num::Span;
 
 /// The bytes of RAM that one guess stands for.
@@ -25,10 +27,14 @@ impl Guesses {
         self.numbers[(place / PART % PARTS) as usize]
     }
 
-    /// Notes that an interval of this number has the span.
-    pub fn note(&mut self, span: Span, number: usize) {
+    /// Notes that the interval of this number has the span.
+    pub fn note(&mut self, span: Span, number: usize)
+        requires some { 0 < span.len }
+        requires ends { span.at + span.len < 2 ^ 32 }
+    {
         let first = span.at / PART;
-        for part in first..first + (span.len / PART).min(PARTS - 1) + 1 {
+        let last = (span.at + (span.len - 1)) / PART;
+        for part in first..first + (last - first).min(PARTS - 1) + 1 {
             self.numbers[(part % PARTS) as usize] = number;
         }
     }

@@ -4,7 +4,7 @@ ghost use Rattle.std.specs.Prelude.{◌≡◌, ◌+◌, ◌<◌, ◌≤◌, leng
 
 use nc_num::{ChanNo, Dir, HartNo, Label, MapId, NoMemory, Place, Span};
 use nc_own::{
-    Access, Actor, Book, Grant, Owner, Touch, TouchKind, book_is_transfers, same_touches,
+    Access, Actor, Book, Grant, Interval, Owner, Touch, TouchKind, book_is_transfers, same_touches,
 };
 use std::alloc::Global;
 use std::test::Fail;
@@ -177,5 +177,39 @@ fn grants_come_and_go(rt: HostRuntime) -> Result<(), Fail> {
     assert_eq!(rt; book.owner(Place(83)), Owner::Device(mapping(3)));
     assert_eq!(rt; book.owner(Place(7)), Owner::Thread(HartNo(0)));
     assert_eq!(rt; book.owner(Place(255)), Owner::Pool);
+    Ok(())
+}
+
+fn interval(at: u32, len: u32, owner: Owner) -> Interval {
+    Interval {
+        span: Span { at, len },
+        owner,
+    }
+}
+
+#[test]
+fn intervals_are_cut_and_joined(rt: HostRuntime) -> Result<(), Fail> {
+    let mut book = Book::new(rt.alloc(), RAM)?;
+    let (hart, pool) = (Owner::Thread(HartNo(0)), Owner::Pool);
+    assert_eq!(rt; book.intervals(), [interval(0, 256, pool)].as_slice());
+    book.reserve(5)?;
+    book.transfer(Span { at: 64, len: 64 }, hart);
+    book.transfer(Span { at: 80, len: 16 }, pool);
+    book.transfer(Span { at: 128, len: 8 }, hart);
+    let cut = [
+        interval(0, 64, pool),
+        interval(64, 16, hart),
+        interval(80, 16, pool),
+        interval(96, 40, hart),
+        interval(136, 120, pool),
+    ];
+    assert_eq!(rt; book.intervals(), cut.as_slice());
+    book.transfer(Span { at: 0, len: 96 }, hart);
+    assert_eq!(rt;
+        book.intervals(),
+        [interval(0, 136, hart), interval(136, 120, pool)].as_slice()
+    );
+    book.transfer(Span { at: 0, len: 256 }, pool);
+    assert_eq!(rt; book.intervals(), [interval(0, 256, pool)].as_slice());
     Ok(())
 }

@@ -11,6 +11,9 @@ pub index_of-number-requires-clause-inside : goal.index_of-number-requires-claus
 index_of-number-requires-clause-inside c =
     rw c.deref.ensures.value (omega (arith, shown_size _ _ _ _ _ c.self.view_is, c.self.invariant.whole, c.give.ensures.given.whole, c.requires.inside, c.requires.some))
 
+pub note-requires-clause-ends : goal.note-requires-clause-ends
+note-requires-clause-ends c = omega (arith, shown_size _ _ _ _ _ c.self.view_is, c.self.invariant.size, c.requires.inside)
+
 pub returns-clause-owners : goal.returns-clause-owners
 returns-clause-owners c = shown_given _ _ _ _ _ _ _ _ c.self.view_is c.self.invariant.whole c.give.ensures.given
 
