@@ -1,10 +1,10 @@
 //! What no clause says: that the calls can succeed, and their transfers, in tables worked by hand.
 
-ghost use Rattle.std.specs.Prelude.{◌≡◌, ◌*◌, ◌≤◌, ◌<◌, length};
+ghost use Rattle.std.specs.Prelude.{◌≡◌, ◌*◌, ◌+◌, ◌≤◌, ◌<◌, length};
 ghost use Rattle.nc_num.specs.Sizes.{IsBlockSize};
 
 use nc_cache::{
-    BusList, BusRec, Domain, Origin, bytes_are_seen, calls_keep_places, calls_keep_whole,
+    BusList, BusRec, Domain, Origin, Row, bytes_are_seen, calls_keep_places, calls_keep_whole,
     calls_write_places, inval_drops, lines_are_held,
 };
 use nc_mem::Ram;
@@ -284,4 +284,56 @@ fn laws(_rt: HostRuntime) {
     inval_drops();
     bytes_are_seen();
     lines_are_held();
+}
+
+/// A load by a hart of four with blocks of 64 bytes.
+fn load(domain: &mut Domain, ram: &mut Ram, h: u8, b: u32) -> Result<(), NoMemory>
+    requires hart { h < 4 }
+    requires harts { domain.old.harts ≡ 4 }
+    requires size { domain.old.size ≡ 64 }
+    requires block { 64 * b + 64 ≤ length ram.old }
+    ensures ram { length ram.new ≡ length ram.old }
+    ensures harts { domain.new.harts ≡ 4 }
+    ensures size { domain.new.size ≡ 64 }
+{
+    domain.reserve()?;
+    domain.load(ram, HartNo(h), Block(b));
+    Ok(())
+}
+
+fn row_is(row: &Row, block: u32, holders: u8, dirty: Option<HartNo>) -> bool {
+    row.block == Block(block) && row.holders == holders && row.dirty == dirty
+}
+
+/// Three blocks in falling order, then the first of them dirty, and the last given up: bit h is hart h.
+#[test]
+fn rows_stand_by_block(rt: HostRuntime) -> Result<(), NoMemory> {
+    let mut ram = Ram::new(rt.alloc(), 256)?;
+    let mut domain = Domain::new(rt.alloc(), 4, 64)?;
+    assert!(rt; domain.rows().is_empty());
+    load(&mut domain, &mut ram, 3, 3)?;
+    load(&mut domain, &mut ram, 1, 1)?;
+    load(&mut domain, &mut ram, 0, 1)?;
+    load(&mut domain, &mut ram, 2, 0)?;
+    domain.reserve()?;
+    domain.own(&mut ram, HartNo(3), Block(3));
+    match domain.rows() {
+        [a, b, c] => {
+            assert!(rt; row_is(a, 0, 0b0100, None));
+            assert!(rt; row_is(b, 1, 0b0011, None));
+            assert!(rt; row_is(c, 3, 0b1000, Some(HartNo(3))));
+            assert!(rt; a.line != b.line && b.line != c.line && a.line != c.line);
+        }
+        _ => panic!(rt; "not three rows"),
+    }
+    domain.clean(&mut ram, Block(3));
+    domain.evict(&mut ram, HartNo(2), Block(0));
+    match domain.rows() {
+        [b, c] => {
+            assert!(rt; row_is(b, 1, 0b0011, None));
+            assert!(rt; row_is(c, 3, 0b1000, None));
+        }
+        _ => panic!(rt; "not two rows"),
+    }
+    Ok(())
 }
