@@ -5,11 +5,12 @@ ghost use Rattle.std.specs.Io.KnownBytes.{Appends, Keeps};
 ghost use Rattle.nc_io.specs.Causes.{Rose};
 ghost use Rattle.nc_io.specs.Streams.{GrowsByFront};
 ghost use Rattle.nc_scen.specs.Reading.{reading};
+ghost use Rattle.nc_migrate.specs.Migrating.{KeepsReading, migrated};
 ghost use Rattle.nc_pieces.specs.Serving.{pool_answer};
 ghost use Rattle.nc_rules.specs.Flat.{EachRunIsLatest, EachRunIsKept};
 ghost use Rattle.nc_scen.specs.Accepted.{IsAccepted};
 ghost use Rattle.nc_rules.specs.Built.{IsBuilt};
-ghost use Rattle.nc_top.specs.Due.{due, due_by, due_for, due_for_pool, command_of, is_pool, is_run, IsAnswer};
+ghost use Rattle.nc_top.specs.Due.{due, due_by, due_for, due_for_migrate, due_for_pool, command_of, is_migrate, is_pool, is_run, IsAnswer};
 ghost use Rattle.nc_top.specs.Inputs.{HasRead, IsFlat, IsRunWhereBuilt, WroteFront};
 
 use crate::input::{Lost, read_input};
@@ -17,6 +18,7 @@ use crate::run::run_out;
 use crate::words::{Command, command_of};
 use nc_flat::{kept_law, latest_law};
 use nc_io::{Sink, Source, Stop, write_all};
+use nc_migrate::migrate;
 use nc_pieces::{PoolFault, pool_answer, pool_refused};
 use nc_report::refused;
 use nc_scen::{ScenFault, Scenario, read};
@@ -80,6 +82,24 @@ fn answer_to<K: Sink>(alloc: Global, bytes: &[u8], out: &mut K) -> u8
     }
 }
 
+/// Answers an input for the command `migrate`: the scenario moved to version 2, or the line of a refusal.
+fn answer_migrate<K: Sink>(alloc: Global, bytes: &[u8], out: &mut K) -> u8
+    ensures written { IsAnswer result → (result ≡ (due_for_migrate (migrated bytes.now)).status) × Appends (K.held out.old) (K.held out.new) (due_for_migrate (migrated bytes.now)).text }
+    ensures sink { result ≡ 5 → Rose (K.faults out.old) (K.faults out.new) }
+    ensures reads { result ≢ 4 }
+    ensures law { result ≡ 0 → KeepsReading bytes.now (due_for_migrate (migrated bytes.now)).text }
+    ensures front { Keeps (K.held out.old) (K.held out.new) ⊎ GrowsByFront (K.held out.old) (K.held out.new) (due_for_migrate (migrated bytes.now)).text }
+{
+    match migrate(alloc, bytes) {
+        Ok(text) => put(out, 0, &text),
+        Err(ScenFault::Refused(r)) => match refused(alloc, &r) {
+            Ok(text) => put(out, 3, &text),
+            Err(_) => 6,
+        },
+        Err(ScenFault::NoMemory) => 6,
+    }
+}
+
 /// Answers an input for the command `pool`: its lines, or the line of a refusal.
 fn answer_pool<K: Sink>(alloc: Global, bytes: &[u8], out: &mut K) -> u8
     ensures written { IsAnswer result → (result ≡ (due_for_pool (pool_answer bytes.now)).status) × Appends (K.held out.old) (K.held out.new) (due_for_pool (pool_answer bytes.now)).text }
@@ -101,18 +121,20 @@ fn answer_command<K: Sink>(alloc: Global, command: Command, bytes: &[u8], out: &
     ensures reads { result ≢ 4 }
     ensures built { command ≡ Command.Run → IsAnswer result → IsRunWhereBuilt result bytes.now }
     ensures flat { command ≡ Command.Run → IsAnswer result → IsFlat result bytes.now }
+    ensures moved { command ≡ Command.Migrate → result ≡ 0 → KeepsReading bytes.now (due_by command bytes.now).text }
     ensures front { Keeps (K.held out.old) (K.held out.new) ⊎ GrowsByFront (K.held out.old) (K.held out.new) (due_by command bytes.now).text }
 {
     match command {
         Command::Run => answer_to(alloc, bytes, out),
+        Command::Migrate => answer_migrate(alloc, bytes, out),
         Command::Pool => answer_pool(alloc, bytes, out),
     }
 }
 
-/// Reads a scenario and writes its report, for the words `run`; for `pool` reads operations on a pool of small pieces, and
-/// writes their lines. Other words are refused.
+/// Reads a scenario and writes its report, for the words `run`; for `migrate` writes the scenario moved to version 2; for
+/// `pool` reads operations on a pool of small pieces, and writes their lines. Other words are refused.
 ///
-/// Statuses: 0 the run ended with no touch and every script at its end, or the lines of the pool were written; 1 a touch
+/// Statuses: 0 the run ended with no touch and every script at its end, or all was written; 1 a touch
 /// was reported; 2 unknown words; 3 the input is refused or is not run yet; 4 a read failed; 5 a write failed; 6 memory
 /// ran out; 7 no touch, and a script is not at its end.
 #[tactic(auto, unfolding(crate::specs::Due::due))]
@@ -134,6 +156,11 @@ pub fn dmasim<S: Source, K: Sink>(
         × Appends (K.held out.old) (K.held out.new) (due (map string_bytes words.now.items) bytes).text
         × IsRunWhereBuilt result bytes
         × IsFlat result bytes }
+    ensures migrate { is_migrate (map string_bytes words.now.items) ≡ true → IsAnswer result
+        → (bytes : List ℕ) × HasRead (S.left src.old) (S.left src.new) (S.ended src.new) bytes
+        × (result ≡ (due (map string_bytes words.now.items) bytes).status)
+        × Appends (K.held out.old) (K.held out.new) (due (map string_bytes words.now.items) bytes).text
+        × (result ≡ 0 → KeepsReading bytes (due (map string_bytes words.now.items) bytes).text) }
     ensures pool { is_pool (map string_bytes words.now.items) ≡ true → IsAnswer result
         → (bytes : List ℕ) × HasRead (S.left src.old) (S.left src.new) (S.ended src.new) bytes
         × (result ≡ (due (map string_bytes words.now.items) bytes).status)

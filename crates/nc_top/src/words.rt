@@ -1,13 +1,15 @@
 //! The words of the command line.
 
 ghost use Rattle.std.specs.Prelude.{◌≡◌, map, string_bytes};
-ghost use Rattle.nc_top.specs.Due.{command_of, is_pool, is_run};
+ghost use Rattle.nc_top.specs.Due.{command_of, is_migrate, is_pool, is_run};
 
 /// What is asked for.
 #[derive(Clone, Copy, Debug, PartialEq, Eq)]
 pub enum Command {
     /// A scenario's report.
     Run,
+    /// A scenario moved to version 2.
+    Migrate,
     /// The lines of a pool of pieces.
     Pool,
 }
@@ -18,6 +20,9 @@ pub fn command_of(words: &Vec<String>) -> Option<Command>
 {
     if is_run(words) {
         return Some(Command::Run);
+    }
+    if is_migrate(words) {
+        return Some(Command::Migrate);
     }
     if is_pool(words) {
         return Some(Command::Pool);
@@ -30,6 +35,13 @@ fn is_run(words: &Vec<String>) -> bool
     ensures { result ≡ is_run (map string_bytes words.now.items) }
 {
     words.len() == 1 && words[0].as_str() == "run"
+}
+
+/// Whether the words are `migrate`.
+fn is_migrate(words: &Vec<String>) -> bool
+    ensures { result ≡ is_migrate (map string_bytes words.now.items) }
+{
+    words.len() == 1 && words[0].as_str() == "migrate"
 }
 
 /// Whether the words are `pool`.
