@@ -1,11 +1,16 @@
 -- What is due for the words and the bytes that were read.
-use Rattle.std.specs.Prelude.{◌≢◌, ℕ, List, [], ◌∷◌, codes, Bool, false, Result, Ok, Err, if◌then◌else◌}
+use Rattle.std.specs.Prelude.{◌≢◌, ℕ, List, [], ◌∷◌, codes, Bool, false, Option, Some, None, Result, Ok, Err, if◌then◌else◌}
 use Rattle.std.specs.Str.{bytes_eq}
 use Rattle.nc_scen.specs.Reading.{reading}
 use Rattle.nc_values.specs.declared.refused.Refused.{Refused}
 use Rattle.nc_scen.specs.declared.scenario.Scenario.{Scenario}
 use Rattle.nc_rules.specs.Built.{is_built}
 use Rattle.nc_rules.specs.Schedule.{sched}
+use Rattle.nc_migrate.specs.Migrating.{migrated}
+use Rattle.nc_pieces.specs.declared.refused.PoolRefused.{PoolRefused}
+use Rattle.nc_pieces.specs.Serving.{pool_answer, pool_refused_line}
+use Rattle.nc_top.specs.declared.words.Command.{Command}
+use Rattle.nc_top.specs.declared.words.Command.TheVariants.{Run, Migrate, Pool}
 use Rattle.nc_rules.specs.Lines.{words, report, status, refused_line}
 
 -- a status, and what is written
@@ -18,6 +23,22 @@ abbrev pub is_run : List (List ℕ) → Bool
 is_run [] = false
 is_run (w ∷ []) = bytes_eq w (codes "run")
 is_run (w ∷ v ∷ rest) = false
+
+-- the words are `migrate`
+abbrev pub is_migrate : List (List ℕ) → Bool
+is_migrate [] = false
+is_migrate (w ∷ []) = bytes_eq w (codes "migrate")
+is_migrate (w ∷ v ∷ rest) = false
+
+-- the words are `pool`
+abbrev pub is_pool : List (List ℕ) → Bool
+is_pool [] = false
+is_pool (w ∷ []) = bytes_eq w (codes "pool")
+is_pool (w ∷ v ∷ rest) = false
+
+-- the command that the words are
+abbrev pub command_of : List (List ℕ) → Option Command
+command_of given = if is_run given then Some Run else (if is_migrate given then Some Migrate else (if is_pool given then Some Pool else None))
 
 -- a line, with the status of refused input
 abbrev pub refusal : List ℕ → Due
@@ -35,12 +56,32 @@ abbrev pub due_for : Result Scenario Refused → Due
 due_for (Ok sc) = if is_built sc then run_of sc else refusal not_built
 due_for (Err r) = refusal (refused_line r)
 
+-- what is due for a scenario moved to version 2, or for a refusal
+abbrev pub due_for_migrate : Result (List ℕ) Refused → Due
+due_for_migrate (Ok text) = record { status = 0; text = text }
+due_for_migrate (Err r) = refusal (refused_line r)
+
+-- what is due for a pool of pieces, or for a refusal
+abbrev pub due_for_pool : Result (List ℕ) PoolRefused → Due
+due_for_pool (Ok text) = record { status = 0; text = text }
+due_for_pool (Err r) = refusal (pool_refused_line r)
+
 abbrev pub unknown_words : Due
 unknown_words = record { status = 2; text = words (codes "refused" ∷ codes "words" ∷ []) }
 
+-- what is due for a command and all bytes of the input
+abbrev pub due_by : Command → List ℕ → Due
+due_by Run bytes = due_for (reading bytes)
+due_by Migrate bytes = due_for_migrate (migrated bytes)
+due_by Pool bytes = due_for_pool (pool_answer bytes)
+
+abbrev pub due_of : Option Command → List ℕ → Due
+due_of None bytes = unknown_words
+due_of (Some command) bytes = due_by command bytes
+
 -- what is due for the words and all bytes of the input
 unfoldable pub due : List (List ℕ) → List ℕ → Due
-due given bytes = if is_run given then due_for (reading bytes) else unknown_words
+due given bytes = due_of (command_of given) bytes
 
 -- an answer, and neither a failure nor want of memory
 pub record IsAnswer (status : ℕ) : Type 0 where

@@ -7,5 +7,6 @@
 mod input;
 mod run;
 mod top;
+mod words;
 
 pub use top::dmasim;

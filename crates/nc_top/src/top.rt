@@ -1,31 +1,29 @@
 //! The top call.
 
-ghost use Rattle.std.specs.Prelude.{◌≡◌, ◌≢◌, ◌⊎◌, ◌↔◌, [], List, ℕ, map, string_bytes, false, true, Ok, Err};
+ghost use Rattle.std.specs.Prelude.{◌≡◌, ◌≢◌, ◌⊎◌, ◌↔◌, [], List, ℕ, map, string_bytes, false, true, Some, None, Ok, Err};
 ghost use Rattle.std.specs.Io.KnownBytes.{Appends, Keeps};
 ghost use Rattle.nc_io.specs.Causes.{Rose};
 ghost use Rattle.nc_io.specs.Streams.{GrowsByFront};
 ghost use Rattle.nc_scen.specs.Reading.{reading};
+ghost use Rattle.nc_migrate.specs.Migrating.{KeepsReading, migrated};
+ghost use Rattle.nc_pieces.specs.Serving.{pool_answer};
 ghost use Rattle.nc_rules.specs.Flat.{EachRunIsLatest, EachRunIsKept};
 ghost use Rattle.nc_scen.specs.Accepted.{IsAccepted};
 ghost use Rattle.nc_rules.specs.Built.{IsBuilt};
-ghost use Rattle.nc_top.specs.Due.{due, due_for, is_run, IsAnswer};
+ghost use Rattle.nc_top.specs.Due.{due, due_by, due_for, due_for_migrate, due_for_pool, command_of, is_migrate, is_pool, is_run, IsAnswer};
 ghost use Rattle.nc_top.specs.Inputs.{HasRead, IsFlat, IsRunWhereBuilt, WroteFront};
 
 use crate::input::{Lost, read_input};
 use crate::run::run_out;
+use crate::words::{Command, command_of};
 use nc_flat::{kept_law, latest_law};
 use nc_io::{Sink, Source, Stop, write_all};
+use nc_migrate::migrate;
+use nc_pieces::{PoolFault, pool_answer, pool_refused};
 use nc_report::refused;
 use nc_scen::{ScenFault, Scenario, read};
 use nc_world::is_built;
 use std::alloc::Global;
-
-/// Whether the words are `run`.
-fn is_run(words: &Vec<String>) -> bool
-    ensures { result ≡ is_run (map string_bytes words.now.items) }
-{
-    words.len() == 1 && words[0].as_str() == "run"
-}
 
 /// Writes what is due.
 fn put<K: Sink>(out: &mut K, status: u8, text: &[u8]) -> u8
@@ -84,11 +82,61 @@ fn answer_to<K: Sink>(alloc: Global, bytes: &[u8], out: &mut K) -> u8
     }
 }
 
-/// Reads a scenario and writes its report, for the words `run`. Other words are refused.
+/// Answers an input for the command `migrate`: the scenario moved to version 2, or the line of a refusal.
+fn answer_migrate<K: Sink>(alloc: Global, bytes: &[u8], out: &mut K) -> u8
+    ensures written { IsAnswer result → (result ≡ (due_for_migrate (migrated bytes.now)).status) × Appends (K.held out.old) (K.held out.new) (due_for_migrate (migrated bytes.now)).text }
+    ensures sink { result ≡ 5 → Rose (K.faults out.old) (K.faults out.new) }
+    ensures reads { result ≢ 4 }
+    ensures law { result ≡ 0 → KeepsReading bytes.now (due_for_migrate (migrated bytes.now)).text }
+    ensures front { Keeps (K.held out.old) (K.held out.new) ⊎ GrowsByFront (K.held out.old) (K.held out.new) (due_for_migrate (migrated bytes.now)).text }
+{
+    match migrate(alloc, bytes) {
+        Ok(text) => put(out, 0, &text),
+        Err(ScenFault::Refused(r)) => match refused(alloc, &r) {
+            Ok(text) => put(out, 3, &text),
+            Err(_) => 6,
+        },
+        Err(ScenFault::NoMemory) => 6,
+    }
+}
+
+/// Answers an input for the command `pool`: its lines, or the line of a refusal.
+fn answer_pool<K: Sink>(alloc: Global, bytes: &[u8], out: &mut K) -> u8
+    ensures written { IsAnswer result → (result ≡ (due_for_pool (pool_answer bytes.now)).status) × Appends (K.held out.old) (K.held out.new) (due_for_pool (pool_answer bytes.now)).text }
+    ensures sink { result ≡ 5 → Rose (K.faults out.old) (K.faults out.new) }
+    ensures reads { result ≢ 4 }
+    ensures front { Keeps (K.held out.old) (K.held out.new) ⊎ GrowsByFront (K.held out.old) (K.held out.new) (due_for_pool (pool_answer bytes.now)).text }
+{
+    match pool_answer(alloc, bytes) {
+        Ok(text) => put(out, 0, &text),
+        Err(PoolFault::Refused(r)) => put(out, 3, pool_refused(r)),
+        Err(PoolFault::NoMemory) => 6,
+    }
+}
+
+/// Answers an input for a command.
+fn answer_command<K: Sink>(alloc: Global, command: Command, bytes: &[u8], out: &mut K) -> u8
+    ensures written { IsAnswer result → (result ≡ (due_by command bytes.now).status) × Appends (K.held out.old) (K.held out.new) (due_by command bytes.now).text }
+    ensures sink { result ≡ 5 → Rose (K.faults out.old) (K.faults out.new) }
+    ensures reads { result ≢ 4 }
+    ensures built { command ≡ Command.Run → IsAnswer result → IsRunWhereBuilt result bytes.now }
+    ensures flat { command ≡ Command.Run → IsAnswer result → IsFlat result bytes.now }
+    ensures moved { command ≡ Command.Migrate → result ≡ 0 → KeepsReading bytes.now (due_by command bytes.now).text }
+    ensures front { Keeps (K.held out.old) (K.held out.new) ⊎ GrowsByFront (K.held out.old) (K.held out.new) (due_by command bytes.now).text }
+{
+    match command {
+        Command::Run => answer_to(alloc, bytes, out),
+        Command::Migrate => answer_migrate(alloc, bytes, out),
+        Command::Pool => answer_pool(alloc, bytes, out),
+    }
+}
+
+/// Reads a scenario and writes its report, for the words `run`; for `migrate` writes the scenario moved to version 2; for
+/// `pool` reads operations on a pool of small pieces, and writes their lines. Other words are refused.
 ///
-/// Statuses: 0 the run ended with no touch and every script at its end; 1 a touch was reported; 2 unknown words; 3 the
-/// input is refused or is not run yet; 4 a read failed; 5 a write failed; 6 memory ran out; 7 no touch, and a script is
-/// not at its end.
+/// Statuses: 0 the run ended with no touch and every script at its end, or all was written; 1 a touch
+/// was reported; 2 unknown words; 3 the input is refused or is not run yet; 4 a read failed; 5 a write failed; 6 memory
+/// ran out; 7 no touch, and a script is not at its end.
 #[tactic(auto, unfolding(crate::specs::Due::due))]
 pub fn dmasim<S: Source, K: Sink>(
     alloc: Global,
@@ -99,7 +147,7 @@ pub fn dmasim<S: Source, K: Sink>(
     requires { S.ended src.old ≡ false }
 
     // What is due for the words and the whole input is answered and written.
-    ensures unknown { is_run (map string_bytes words.now.items) ≡ false → IsAnswer result
+    ensures unknown { command_of (map string_bytes words.now.items) ≡ None → IsAnswer result
         → (result ≡ (due (map string_bytes words.now.items) []).status)
         × Appends (K.held out.old) (K.held out.new) (due (map string_bytes words.now.items) []).text }
     ensures run { is_run (map string_bytes words.now.items) ≡ true → IsAnswer result
@@ -108,6 +156,15 @@ pub fn dmasim<S: Source, K: Sink>(
         × Appends (K.held out.old) (K.held out.new) (due (map string_bytes words.now.items) bytes).text
         × IsRunWhereBuilt result bytes
         × IsFlat result bytes }
+    ensures migrate { is_migrate (map string_bytes words.now.items) ≡ true → IsAnswer result
+        → (bytes : List ℕ) × HasRead (S.left src.old) (S.left src.new) (S.ended src.new) bytes
+        × (result ≡ (due (map string_bytes words.now.items) bytes).status)
+        × Appends (K.held out.old) (K.held out.new) (due (map string_bytes words.now.items) bytes).text
+        × (result ≡ 0 → KeepsReading bytes (due (map string_bytes words.now.items) bytes).text) }
+    ensures pool { is_pool (map string_bytes words.now.items) ≡ true → IsAnswer result
+        → (bytes : List ℕ) × HasRead (S.left src.old) (S.left src.new) (S.ended src.new) bytes
+        × (result ≡ (due (map string_bytes words.now.items) bytes).status)
+        × Appends (K.held out.old) (K.held out.new) (due (map string_bytes words.now.items) bytes).text }
 
     // A failure has its cause.
     ensures source { result ≡ 4 → Rose (S.faults src.old) (S.faults src.new) × Keeps (K.held out.old) (K.held out.new) }
@@ -124,11 +181,11 @@ pub fn dmasim<S: Source, K: Sink>(
 {
     latest_law();
     kept_law();
-    if !is_run(words) {
+    let Some(command) = command_of(words) else {
         return put(out, 2, b"refused words\n");
-    }
+    };
     match read_input(alloc, src) {
-        Ok(bytes) => answer_to(alloc, &bytes, out),
+        Ok(bytes) => answer_command(alloc, command, &bytes, out),
         Err(Lost::Failed) => 4,
         Err(Lost::NoMemory) => 6,
     }

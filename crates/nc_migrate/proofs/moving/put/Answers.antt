@@ -1,0 +1,11 @@
+use Rattle.std.proofs.Common.{ap, ◌∙◌}
+use Rattle.serde_json.specs.Data.{put}
+use Rattle.serde_json.specs.View.{members_view}
+use Rattle.serde_json.proofs.Views.{members_view-insert_entry}
+use Rattle.nc_migrate.proofs.moving.put.Goals as goal
+
+pub returns : goal.returns
+returns c =
+    ap members_view c.in_ok-insert.ensures.entries
+    ∙ members_view-insert_entry c.args.members.now.entries c.in_ok-key.key c.from.result
+    ∙ (λ k. put (c.in_ok-key.ensures.ok k) (c.from.ensures k) (members_view c.args.members.now.entries))
