@@ -73,7 +73,13 @@ fn pieces_are_given_and_taken_back(rt: HostRuntime) {
     for at in [0xc001u32, 0xc020, 0xd000] {
         assert!(rt; !taken_back(&mut both, at));
     }
-    assert_eq!(rt; given(&mut both), Ok(Span { at: 0xc020, len: 24 }));
+    assert_eq!(rt;
+        given(&mut both),
+        Ok(Span {
+            at: 0xc020,
+            len: 24
+        })
+    );
     assert_eq!(rt; both.pool.pages_taken(), 1);
     // with a piece in use
     assert_eq!(rt; ended(both), Some(Place(0xc000)));
@@ -85,8 +91,20 @@ fn pages_are_taken_and_given_back(rt: HostRuntime) {
         assert!(rt; false);
         return;
     };
-    assert_eq!(rt; given(&mut both), Ok(Span { at: 0xc000, len: 4096 }));
-    assert_eq!(rt; given(&mut both), Ok(Span { at: 0xd000, len: 4096 }));
+    assert_eq!(rt;
+        given(&mut both),
+        Ok(Span {
+            at: 0xc000,
+            len: 4096
+        })
+    );
+    assert_eq!(rt;
+        given(&mut both),
+        Ok(Span {
+            at: 0xd000,
+            len: 4096
+        })
+    );
     assert_eq!(rt; given(&mut both), Err(AllocNo::NoPage));
     assert!(rt; taken_back(&mut both, 0xc000));
     assert_eq!(rt; both.pages.find(1), None);
@@ -117,7 +135,8 @@ fn layouts_are_refused(rt: HostRuntime) {
 #[test]
 fn the_command_answers_line_by_line(rt: HostRuntime) {
     let alloc = rt.alloc();
-    let input = b"{\"at\":49152,\"pages\":1,\"size\":24,\"align\":16,\"boundary\":64,\"ops\":[[\"alloc\",1],[\"alloc\",2],[\"alloc\",3],[\"free\",2],[\"alloc\",4],[\"alloc\",4],[\"free\",9]]}";
+    let input =
+        b"{\"at\":49152,\"pages\":1,\"size\":24,\"align\":16,\"boundary\":64,\"ops\":[[\"alloc\",1],[\"alloc\",2],[\"alloc\",3],[\"free\",2],[\"alloc\",4],[\"alloc\",4],[\"free\",9]]}";
     let Ok(lines) = pool_answer(alloc, input) else {
         assert!(rt; false);
         return;
@@ -138,8 +157,10 @@ fn the_command_answers_line_by_line(rt: HostRuntime) {
 #[test]
 fn an_empty_script_moves_to_version_2(rt: HostRuntime) {
     let alloc = rt.alloc();
-    let input = b"{\"version\":1,\"ram\":4096,\"harts\":[{\"mode\":\"S\",\"menvcfg\":0,\"senvcfg\":0,\"script\":[]}],\"buffers\":[{\"at\":0,\"len\":2,\"fill\":7,\"step\":1,\"owner\":0}],\"schedule\":[]}";
-    let moved = b"{\"block\":64,\"buffers\":[{\"at\":0,\"fill\":7,\"len\":2,\"owner\":0,\"step\":1}],\"harts\":[{\"menvcfg\":0,\"mode\":\"S\",\"script\":[],\"senvcfg\":0}],\"ram\":4096,\"schedule\":[],\"version\":2,\"zero\":64}\n";
+    let input =
+        b"{\"version\":1,\"ram\":4096,\"harts\":[{\"mode\":\"S\",\"menvcfg\":0,\"senvcfg\":0,\"script\":[]}],\"buffers\":[{\"at\":0,\"len\":2,\"fill\":7,\"step\":1,\"owner\":0}],\"schedule\":[]}";
+    let moved =
+        b"{\"block\":64,\"buffers\":[{\"at\":0,\"fill\":7,\"len\":2,\"owner\":0,\"step\":1}],\"harts\":[{\"menvcfg\":0,\"mode\":\"S\",\"script\":[],\"senvcfg\":0}],\"ram\":4096,\"schedule\":[],\"version\":2,\"zero\":64}\n";
     let Ok(text) = migrate(alloc, input) else {
         assert!(rt; false);
         return;
