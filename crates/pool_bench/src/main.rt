@@ -30,8 +30,12 @@ struct Both {
 fn fresh(alloc: Global) -> Option<Both>
     ensures { IfSome result (λ b. CanServe b.pages b.pool) }
 {
-    let pages = PagePool::new(alloc, START, 64).ok()?;
-    let pool = DmaPool::new(alloc, 4, 4, 0).ok()?;
+    let Ok(pages) = PagePool::new(alloc, START, 64) else {
+        return None;
+    };
+    let Ok(pool) = DmaPool::new(alloc, 4, 4, 0) else {
+        return None;
+    };
     Some(Both { pages, pool })
 }
 

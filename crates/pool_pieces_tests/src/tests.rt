@@ -23,8 +23,12 @@ fn over(alloc: Global, pages: u32, size: u32, align: u32, boundary: u32) -> Opti
     requires { pages ≤ 64 }
     ensures { IfSome result (λ b. CanServe b.pages b.pool) }
 {
-    let pages = PagePool::new(alloc, 49152, pages).ok()?;
-    let pool = DmaPool::new(alloc, size, align, boundary).ok()?;
+    let Ok(pages) = PagePool::new(alloc, 49152, pages) else {
+        return None;
+    };
+    let Ok(pool) = DmaPool::new(alloc, size, align, boundary) else {
+        return None;
+    };
     Some(Both { pages, pool })
 }
 
