@@ -1,0 +1,89 @@
+-- What a driver's call changes of what is held, as a list of changes one after another. This project's own.
+use Rattle.std.specs.Prelude.{ℕ, ◌≡◌, ◌<◌, Bool, true, false, List, [], ◌∷◌, ◌++◌, Option, Some, None, All, Ok, slice_set}
+use Rattle.nc_num.specs.Places.{covers}
+use Rattle.nc_num.specs.declared.names.HartNo.{HartNo}
+use Rattle.nc_num.specs.declared.places.Span.{Span}
+use Rattle.nc_model.specs.Rights.{is_thread}
+use Rattle.nc_model.specs.declared.owners.Grant.{Grant}
+use Rattle.nc_model.specs.declared.owners.Owner.{Owner}
+use Rattle.nc_model.specs.declared.owners.Owner.TheVariants as owners
+use Rattle.nc_own.specs.Books.{owner_in}
+use Rattle.nc_coherent.specs.Pages.{PageMap}
+use Rattle.nc_ops.specs.declared.ops.Op.{Op}
+use Rattle.nc_slots.specs.SlotWords.{holder_of}
+use Rattle.nc_rules.specs.declared.lots.Lot.{Lot}
+use Rattle.nc_rules.specs.declared.lots.LotId.{LotId}
+use Rattle.nc_rules.specs.declared.steps.Turn.{Turn}
+use Rattle.nc_rules.specs.declared.steps.Turn.TheVariants as turns
+use Rattle.nc_rules.specs.Lots.{Fixed, is_lot, is_wanted, slot_given, some_lot_waits}
+use Rattle.nc_rules.specs.Refusals.{buffer_of}
+use Rattle.nc_rules.specs.Operations.{begin}
+use Rattle.nc_rules.specs.Turns.{is_area, lots_after, transfers_of, grants_of, ended_of, backs_of, pages_of, slots_wanted, without_wanted}
+use Rattle.nc_rules.specs.World.{owners_moved, grants_added, grants_ended, slots_back, pages_moved}
+use Rattle.nc_scripts.specs.Drivers.{IsSettled}
+use Rattle.nc_holds.specs.Held.{Held, AreLent, IsOwnedBy}
+
+pub data Change : Type 0 where
+  -- an operation makes these lots
+  Made : (new : List Lot) → Change
+  -- a slot word is got for the first entry that waits
+  Got : (word : ℕ) → Change
+  -- a turn
+  Turned : (turn : Turn) → Change
+  -- an operation gives up before anything of it is lent
+  Dropped : Change
+
+-- what is held after a change by a hart
+abbrev pub changed : Fixed → Held → Change → Held
+changed f s (Made new) = record s { lots = s.lots ++ new }
+changed f s (Got word) = record s { lots = slot_given word s.lots; slots = slice_set s.slots word (Some f.me) }
+changed f s (Turned t) = record {
+  lots = lots_after t s.lots;
+  owners = owners_moved s.owners (transfers_of f.me s.lots t);
+  grants = grants_ended (grants_added s.grants (grants_of f.me f.slots_at s.lots t)) (ended_of f.me s.lots t);
+  slots = slots_back s.slots (backs_of s.lots t);
+  pages = pages_moved s.pages (pages_of s.lots t);
+}
+changed f s Dropped = record s { lots = without_wanted s.lots; slots = slots_back s.slots (slots_wanted s.lots) }
+
+abbrev pub changed_by : Fixed → Held → List Change → Held
+changed_by f s [] = s
+changed_by f s (c ∷ cs) = changed_by f (changed f s c) cs
+
+-- ---- when a change may be made
+
+abbrev pub AreAreas : List Lot → LotId → Type 0
+AreAreas lots id = All (λ lot. is_lot id lot ≡ true → is_area lot.kind ≡ true) lots
+
+-- a range is passed by the hart that has it, and taken by the one to which it was passed; it is a buffer. A lot that was
+-- not lent is lent, and an area alone is the hart's own while it is granted
+abbrev pub MayTurn : Fixed → Held → Turn → Type 0
+MayTurn f s turns.Stay = Unit {0}
+MayTurn f s (turns.Pass range to) = (b : ℕ) × (range ≡ buffer_of f b) × IsOwnedBy s.owners range (owners.Thread f.me)
+MayTurn f s (turns.Own range) = (b : ℕ) × (range ≡ buffer_of f b) × ((g : HartNo) × IsOwnedBy s.owners range (owners.Passing g f.me))
+MayTurn f s (turns.Lend id) = Unit {0}
+MayTurn f s (turns.Give id) = AreLent s.lots id
+MayTurn f s (turns.Return id) = AreLent s.lots id
+MayTurn f s (turns.Sync id) = AreLent s.lots id
+MayTurn f s (turns.Settle id) = AreLent s.lots id × AreAreas s.lots id
+MayTurn f s (turns.End id) = AreLent s.lots id
+
+-- lots are made by the start of an operation, where the hart's other lots are settled
+pub record MayMake (f : Fixed) (s : Held) (new : List Lot) : Type 0 where
+  pub op : Op
+  pub begins : begin f s.lots s.owners s.pages op ≡ Ok new
+  pub settled : All IsSettled s.lots
+
+pub record MayGet (s : Held) (word : ℕ) : Type 0 where
+  pub waits : some_lot_waits s.lots ≡ true
+  pub free : holder_of s.slots word ≡ None
+
+abbrev pub MayChange : Fixed → Held → Change → Type 0
+MayChange f s (Made new) = MayMake f s new
+MayChange f s (Got word) = MayGet s word × (word < f.slots)
+MayChange f s (Turned t) = MayTurn f s t
+MayChange f s Dropped = Unit {0}
+
+abbrev pub MayChangeBy : Fixed → Held → List Change → Type 0
+MayChangeBy f s [] = Unit {0}
+MayChangeBy f s (c ∷ cs) = MayChange f s c × MayChangeBy f (changed f s c) cs

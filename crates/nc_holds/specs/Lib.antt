@@ -1,0 +1,5 @@
+pub mod Held
+pub mod Changes
+pub mod Messages
+pub mod Tokens
+pub mod Holds
