@@ -1,6 +1,6 @@
 -- What holds of every world of every run: its drivers are drivers of its machine, and owners, grants, slot words, pages,
 -- messages and tokens agree with them. This project's own.
-use Rattle.std.specs.Prelude.{ℕ, ◌≡◌, ◌*◌, ◌<◌, ◌≤◌, List, [], ◌∷◌, ◌++◌, length, Option, Some, None, All, true, replicate, slice_set}
+use Rattle.std.specs.Prelude.{ℕ, ◌≡◌, ◌*◌, ◌<◌, ◌≤◌, List, [], ◌∷◌, ◌++◌, length, Option, Some, None, All, true, false, replicate, slice_set}
 use Rattle.nc_num.specs.declared.names.HartNo.{HartNo}
 use Rattle.nc_num.specs.declared.places.Span.{Span}
 use Rattle.nc_model.specs.declared.owners.Grant.{Grant}
@@ -29,7 +29,8 @@ use Rattle.nc_rules.specs.World.{WorldState, driver_of, start}
 use Rattle.nc_rules.specs.Events.{enabled}
 use Rattle.nc_rules.specs.Outcomes.{outcome}
 use Rattle.nc_rules.specs.Next.{next}
-use Rattle.nc_scripts.specs.Drivers.{IsDriver, ArePagesOf, LoadsFit, IsRangeIn, IsLentAt}
+use Rattle.nc_scripts.specs.Drivers.{IsDriver, ArePagesOf, LoadsFit, IsLentAt}
+use Rattle.nc_scripts.specs.Scripts.{IsRangeIn}
 use Rattle.nc_holds.specs.Held.{Held, AreRegions, HartAgrees, IsGrantOf}
 use Rattle.nc_holds.specs.Messages.{MessagesAgree}
 use Rattle.nc_holds.specs.Tokens.{TokensAgree}
