@@ -5,6 +5,9 @@
 #![tactic(auto)]
 
 mod handing;
-mod plans;
+mod lender;
+mod lending;
+mod steps;
 
-pub use plans::plan_of;
+pub use lender::Lender;
+pub use steps::{control_step, hart_step, plain, single, turning};
