@@ -4,9 +4,15 @@
 //! operations, as in nc_rules; `plans` alone names them all. The driver stands above.
 #![tactic(auto)]
 
+mod areas;
+mod channels;
+mod copies;
 mod handing;
 mod lender;
 mod lending;
+mod mappings;
+mod placed;
+mod scatter_lists;
 mod steps;
 
 pub use lender::Lender;
