@@ -1,6 +1,6 @@
 -- What holds of all lots holds of those that are found.
-use Rattle.std.proofs.Common.{◌≡◌, false, List, Option, Some, None}
-use Rattle.std.specs.Prelude.{All, IfSome}
+use Rattle.std.proofs.Common.{◌≡◌, false, List}
+use Rattle.std.specs.Prelude.{All}
 use Rattle.std.specs.List.{Contains}
 use Rattle.std.proofs.lemmas.List.Elements.{All-contains}
 use Rattle.nc_rules.specs.declared.lots.Lot.{Lot}

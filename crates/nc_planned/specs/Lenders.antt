@@ -1,6 +1,5 @@
 -- What the plans of a hart's lots depend on, of what its driver knows from the start. This project's own.
-use Rattle.std.specs.Prelude.{List, [], false}
-use Rattle.nc_num.specs.declared.names.HartNo.{HartNo}
+use Rattle.std.specs.Prelude.{[], false}
 use Rattle.nc_planned.specs.declared.lender.Lender.{Lender}
 use Rattle.nc_rules.specs.Lots.{Fixed}
 

@@ -62,11 +62,7 @@ pub(crate) fn push_give(
 }
 
 /// Puts a full fence behind the steps, with which the hart has an area again.
-pub(crate) fn push_take(
-    steps: &mut Vec<Step>,
-    lots: &[Lot],
-    label: Label,
-) -> Result<(), NoMemory>
+pub(crate) fn push_take(steps: &mut Vec<Step>, lots: &[Lot], label: Label) -> Result<(), NoMemory>
     ensures { OnOk result (steps.new.items ≡ steps.old.items ++ with_lot [] rules.take_steps (lot_named lots.now label Area)) }
 {
     match lot_named(lots, label, Kind::Area) {
@@ -76,11 +72,7 @@ pub(crate) fn push_take(
 }
 
 /// Puts a full fence behind the steps, with which an area ends.
-pub(crate) fn push_free(
-    steps: &mut Vec<Step>,
-    lots: &[Lot],
-    label: Label,
-) -> Result<(), NoMemory>
+pub(crate) fn push_free(steps: &mut Vec<Step>, lots: &[Lot], label: Label) -> Result<(), NoMemory>
     ensures { OnOk result (steps.new.items ≡ steps.old.items ++ with_lot [] rules.free_steps (lot_named lots.now label Area)) }
 {
     match lot_named(lots, label, Kind::Area) {

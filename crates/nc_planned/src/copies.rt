@@ -73,11 +73,7 @@ fn end_part(by: &Lender, lot: &Lot, dir: Dir) -> Part
 }
 
 /// Puts the steps of a transfer behind the others.
-fn push_copy_steps(
-    steps: &mut Vec<Step>,
-    chan: ChanNo,
-    copy: &[CopyStep],
-) -> Result<(), NoMemory>
+fn push_copy_steps(steps: &mut Vec<Step>, chan: ChanNo, copy: &[CopyStep]) -> Result<(), NoMemory>
     ensures { OnOk result (steps.new.items ≡ steps.old.items ++ map (rules.copy_step chan) copy.now) }
 {
     for step in copy {
