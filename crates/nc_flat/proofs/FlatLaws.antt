@@ -15,15 +15,15 @@ use Rattle.nc_scen.specs.Accepted.{IsAccepted}
 use Rattle.nc_scen.specs.Events.{IsThere}
 use Rattle.nc_scen.specs.declared.events.Event.{Event}
 use Rattle.nc_scen.specs.declared.scenario.Scenario.{Scenario}
-use Rattle.nc_rules.specs.Built.{IsBuilt}
-use Rattle.nc_rules.specs.Flat.{is_given, flat_after, AreThere, IsKeptAfter, EachRunIsLatest, EachRunIsKept}
+use Rattle.nc_scripts.specs.Covered.{IsCovered}
+use Rattle.nc_rules.specs.Flat.{is_given, flat_after, AreThere, IsKeptAfter}
 use Rattle.nc_rules.specs.Machine.{MachineState, no_hart}
 use Rattle.nc_rules.specs.Run.{after}
 use Rattle.nc_rules.specs.Start.{memory}
 use Rattle.nc_rules.specs.View.{middle}
 use Rattle.nc_rules.specs.World.{start}
 use Rattle.nc_flat.specs.Rows.{given, ThreadRow, Row}
-use Rattle.nc_flat.specs.Laws.{EachRunIsFlat}
+use Rattle.nc_flat.specs.Laws.{EachRunIsFlat, EachRunIsLatest, EachRunIsKept}
 use Rattle.nc_flat.proofs.Views.{view_is, pool_shows}
 use Rattle.nc_flat.proofs.Runs.{latest_run, inv_run}
 use Rattle.nc_flat.proofs.Starts.{inv_start}
@@ -65,7 +65,7 @@ kept_by (Device k) v m x none row = absurd row
 kept_by (Returning k) v m x none row = absurd row
 kept_by (Synced k) v m x none row = absurd row
 
-kept_after : (sc : Scenario) → IsAccepted sc → IsBuilt sc → (es : List Event) → AreThere sc es → IsKeptAfter sc es
+kept_after : (sc : Scenario) → IsAccepted sc → IsCovered sc → (es : List Event) → AreThere sc es → IsKeptAfter sc es
 kept_after sc a b es there untouched =
     let w = after (start sc) es in
     let inv = inv_run sc (memory sc) (start sc) es a (inv_start sc a b) there untouched in

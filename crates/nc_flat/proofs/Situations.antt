@@ -25,7 +25,7 @@ use Rattle.nc_rules.specs.Turns.{lots_after_both, turned, turned_by, given_up, w
 use Rattle.nc_rules.specs.Handing.{take_step}
 use Rattle.nc_rules.specs.Handing as handing
 use Rattle.nc_rules.specs.Operations.{meaning, step_at, has_start, begin, opening, plan_of}
-use Rattle.nc_rules.specs.Built.{is_built_op}
+use Rattle.nc_scripts.specs.Covered.{is_covered_op}
 use Rattle.nc_coherent.specs.Pages.{PageMap}
 use Rattle.nc_rules.specs.Driver.{DriverState, Went, in_hand, next_of, next_of_op, next_in, next_step, next_rest, next_act, over, stands, stays, kept, give_up, went_to, opened, placed, with_lots, begun, refused_step, started, started_of, started_op, busy, stepped_to, stepped, worked, done, done_of, done_unless, done_in}
 use Rattle.nc_flat.specs.Invariant.{mark_step, mail_step, RestOf, PlanIs}
@@ -220,21 +220,21 @@ pub record IsHand (o : Op) : Type 0 where
   pub to : HartNo
   pub op : o ≡ ops.Hand buf to
 
--- of the operations that are built a hand alone has a start step
-planned : (o : Op) → is_built_op o ≡ true → (has_start o ≡ false) ⊎ IsHand o
-planned (ops.Hand buf to) built = inr (record { buf = buf; to = to; op = refl })
-planned (ops.Map label buf off len dir chan) built = absurd cc
-planned (ops.Unmap label) built = absurd cc
-planned (ops.ToCpu label) built = absurd cc
-planned (ops.ToDev label) built = absurd cc
-planned (ops.MapSg label entries dir chan) built = absurd cc
-planned (ops.UnmapSg label count) built = absurd cc
-planned (ops.Calloc label pages chan) built = absurd cc
-planned (ops.Cgive label) built = absurd cc
-planned (ops.Ctake label) built = absurd cc
-planned (ops.Cfree label) built = absurd cc
-planned (ops.Copy chan src src_off dst dst_off len cfg) built = absurd cc
-planned _ built = inl refl
+-- of the operations that are covered a hand alone has a start step
+planned : (o : Op) → is_covered_op o ≡ true → (has_start o ≡ false) ⊎ IsHand o
+planned (ops.Hand buf to) covered = inr (record { buf = buf; to = to; op = refl })
+planned (ops.Map label buf off len dir chan) covered = absurd cc
+planned (ops.Unmap label) covered = absurd cc
+planned (ops.ToCpu label) covered = absurd cc
+planned (ops.ToDev label) covered = absurd cc
+planned (ops.MapSg label entries dir chan) covered = absurd cc
+planned (ops.UnmapSg label count) covered = absurd cc
+planned (ops.Calloc label pages chan) covered = absurd cc
+planned (ops.Cgive label) covered = absurd cc
+planned (ops.Ctake label) covered = absurd cc
+planned (ops.Cfree label) covered = absurd cc
+planned (ops.Copy chan src src_off dst dst_off len cfg) covered = absurd cc
+planned _ covered = inl refl
 
 refused_idles : (d : DriverState) (o : Op) (n : ℕ) (r : Result (Option Step) Refusal) → d.phase ≡ Steps n → GoesIdle d (refused_step d o r) []
 refused_idles d o n (Err r) phase = gives_up d o r
@@ -243,9 +243,9 @@ refused_idles d o n (Ok s) phase = record { driver = record { fixed = refl; coun
 bare_idles : (d : DriverState) (owners : List Owner) (pages : PageMap) (o : Op) (n : ℕ) → d.phase ≡ Steps n → has_start o ≡ false → GoesIdle d (started_op d owners pages o) []
 bare_idles d owners pages o n phase none = rw none (refused_idles d o n _ phase)
 
-pub start_is : (d : DriverState) (owners : List Owner) (pages : PageMap) (o : Op) (n : ℕ) → d.lots ≡ [] → in_hand d ≡ Some o → d.phase ≡ Steps n → is_built_op o ≡ true
+pub start_is : (d : DriverState) (owners : List Owner) (pages : PageMap) (o : Op) (n : ℕ) → d.lots ≡ [] → in_hand d ≡ Some o → d.phase ≡ Steps n → is_covered_op o ≡ true
     → GoesIdle d (started d owners pages) [] ⊎ Hands d owners (started d owners pages)
-start_is d owners pages o n none hand phase built = rw (started_is d owners pages o hand) (elim (planned o built) [
+start_is d owners pages o n none hand phase covered = rw (started_is d owners pages o hand) (elim (planned o covered) [
   | inl bare ↦ inl (bare_idles d owners pages o n phase bare)
   | inr is ↦ rw (is.op, handed_is d owners pages is.buf is.to) (hand_by d owners is.buf is.to (owned d.fixed.me owners (buffer_of d.fixed is.buf)) none (hand ∙ ap (λ (p : Op). Some p) is.op) refl)
 ])

@@ -23,7 +23,7 @@ use Rattle.nc_scen.specs.Accepted.{IsAccepted}
 use Rattle.nc_scen.specs.Regions.{IsIn, pool_of}
 use Rattle.nc_scen.specs.declared.scenario.Scenario.{Scenario}
 use Rattle.nc_rules.specs.declared.steps.Phase.TheVariants.{Steps}
-use Rattle.nc_rules.specs.Built.{IsBuilt}
+use Rattle.nc_scripts.specs.Covered.{IsCovered}
 use Rattle.nc_rules.specs.Driver.{DriverState}
 use Rattle.nc_rules.specs.Machine.{MachineState, no_hart, fresh_hart, queue_of, box_of}
 use Rattle.nc_calls.specs.PlaceLaws.{BothAt}
@@ -103,7 +103,7 @@ phase_start sc h = elim (cases_lt h (length sc.harts)) [
   | inr past ↦ ap (λ (d : DriverState). d.phase) (get_or_past (first_drivers_of sc) h worlds.no_driver (omega (arith, length-map-range_with_len (λ k. first_driver sc (worlds.hart k)) 0 (length sc.harts), past)))
 ]
 
-drives_first : (sc : Scenario) (h : ℕ) → IsAccepted sc → IsBuilt sc → h < length sc.harts → Drives sc h (first_driver sc (worlds.hart h))
+drives_first : (sc : Scenario) (h : ℕ) → IsAccepted sc → IsCovered sc → h < length sc.harts → Drives sc h (first_driver sc (worlds.hart h))
 unfolding first_driver
 drives_first sc h a b lt = record { fixed = refl; driver = first_drivers sc (worlds.hart h) a b lt; plan = tt }
 
@@ -146,7 +146,7 @@ status_start sc b a lt = IsHeld (slice_index_or sc.buffers b no_buffer).owner (r
   box_is = box_fresh sc b;
 })
 
-flat_start : (sc : Scenario) → IsAccepted sc → IsBuilt sc → Flatness sc (memory sc) (first_machine sc) (first_drivers_of sc) (first_owners sc)
+flat_start : (sc : Scenario) → IsAccepted sc → IsCovered sc → Flatness sc (memory sc) (first_machine sc) (first_drivers_of sc) (first_owners sc)
 flat_start sc a b = record {
   machine = plain_start sc a;
   of_scenario = of_start sc a;

@@ -177,7 +177,7 @@ start_goes sc f w h o n b hand phase =
     let keeps = b.stays.start w.owners w.pages in
     let is = (drives_now sc f w h b).driver in
     goes_by sc f w h w.machine went None [] b.grants keeps.moves.plain
-    (λ none. elim (start_is d w.owners w.pages o n is.lots hand phase (in_hand_is sc.ram (length sc.harts) d o is hand).built) [
+    (λ none. elim (start_is d w.owners w.pages o n is.lots hand phase (in_hand_is sc.ram (length sc.harts) d o is hand).covered) [
       | inl idle ↦ idle_goes sc f w h n went b phase keeps idle
       | inr hands ↦ hand_goes sc f w h n went b phase keeps hands
     ])

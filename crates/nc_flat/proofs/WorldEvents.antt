@@ -99,7 +99,7 @@ drain_goes sc f w h i b = drain_by sc f w h i (leaving w.machine h.0 i) b refl
 
 -- ---- a slot search
 
--- no driver that is built is at one
+-- no driver that is covered is at one
 pub word_goes : (sc : Scenario) (f : List ℕ) (w : WorldState) (h : HartNo) (g : ℕ → Outcome) → Before sc f w h → Follows sc f w (at_word w g (searching (driver_of w h.0)))
 word_goes sc f w h g b = rw b.stays.unsearched (nothing_goes sc f w b.flatness b.grants)
 

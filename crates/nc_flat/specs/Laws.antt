@@ -1,17 +1,24 @@
--- The laws of the invariant, as statements. Those of flat memory itself stand with its definitions, in nc_rules.
+-- The laws of flat memory, as statements, for the scenarios that they cover; and those of the invariant behind them.
 use Rattle.std.specs.Prelude.{ℕ, ◌≡◌, ◌⊎◌, List, ◌∷◌, length}
 use Rattle.nc_model.specs.Flat.{Mark, Touched, Latest, Untouched, flat, deeds}
 use Rattle.nc_scen.specs.Accepted.{IsAccepted}
 use Rattle.nc_scen.specs.Events.{IsThere}
 use Rattle.nc_scen.specs.declared.events.Event.{Event}
 use Rattle.nc_scen.specs.declared.scenario.Scenario.{Scenario}
-use Rattle.nc_rules.specs.Built.{IsBuilt}
-use Rattle.nc_rules.specs.Flat.{event_marks, run_marks, AreThere}
+use Rattle.nc_scripts.specs.Covered.{IsCovered}
+use Rattle.nc_rules.specs.Flat.{event_marks, run_marks, AreThere, IsLatest, IsKept}
 use Rattle.nc_rules.specs.Next.{next}
 use Rattle.nc_rules.specs.Run.{after}
 use Rattle.nc_rules.specs.Start.{memory}
 use Rattle.nc_rules.specs.World.{WorldState, start}
 use Rattle.nc_flat.specs.Invariant.{Inv}
+
+-- whatever events happen in whatever order
+abbrev pub EachRunIsLatest : Type 0
+EachRunIsLatest = (sc : Scenario) → IsAccepted sc → IsCovered sc → (es : List Event) → AreThere sc es → IsLatest sc es
+
+abbrev pub EachRunIsKept : Type 0
+EachRunIsKept = (sc : Scenario) → IsAccepted sc → IsCovered sc → (es : List Event) → AreThere sc es → IsKept sc es
 
 -- a touch comes before all else
 pub record IsTouch (ms : List Mark) : Type 0 where
@@ -29,7 +36,7 @@ EventGoes sc f ms w = IsTouch ms ⊎ GoesTo sc f ms w
 
 -- the invariant holds at the start
 abbrev pub StartIsFlat : Type 0
-StartIsFlat = (sc : Scenario) → IsAccepted sc → IsBuilt sc → Inv sc (memory sc) (start sc)
+StartIsFlat = (sc : Scenario) → IsAccepted sc → IsCovered sc → Inv sc (memory sc) (start sc)
 
 -- each event begins with a touch, or keeps the invariant
 abbrev pub EachEventIsFlat : Type 0
@@ -40,5 +47,5 @@ EachEventIsFlat =
 -- so the invariant holds after every run without a touch
 abbrev pub EachRunIsFlat : Type 0
 EachRunIsFlat =
-    (sc : Scenario) (es : List Event) → IsAccepted sc → IsBuilt sc → AreThere sc es → Untouched (run_marks (start sc) es)
+    (sc : Scenario) (es : List Event) → IsAccepted sc → IsCovered sc → AreThere sc es → Untouched (run_marks (start sc) es)
     → Inv sc (flat (memory sc) (deeds (run_marks (start sc) es))) (after (start sc) es)

@@ -1,10 +1,10 @@
 //! The laws of flat memory, over the definitions alone.
 
-ghost use Rattle.nc_rules.specs.Flat.{EachRunIsLatest, EachRunIsKept};
-ghost use Rattle.nc_flat.specs.Laws.{StartIsFlat, EachEventIsFlat, EachRunIsFlat};
+ghost use Rattle.nc_flat.specs.Laws.{EachRunIsLatest, EachRunIsKept, StartIsFlat, EachEventIsFlat, EachRunIsFlat};
 
 /// Whatever events happen in whatever order, each load and each channel read before the first touch shows flat memory:
-/// the writes that the owners of its bytes made, in order.
+/// the writes that the owners of its bytes made, in order. It is a law of the accepted scenarios that are covered
+/// (`IsCovered`), as the others here.
 #[tactic(auto, using(crate::proofs::FlatLaws::latest_always))]
 pub fn latest_law()
     ensures { EachRunIsLatest }
@@ -18,7 +18,7 @@ pub fn kept_law()
     ensures { EachRunIsKept }
 {}
 
-/// The invariant of flat memory holds at the start of each accepted scenario that is run.
+/// The invariant of flat memory holds at the start of each accepted scenario that is covered.
 #[tactic(auto, using(crate::proofs::Starts::inv_start))]
 pub fn start_is_flat()
     ensures { StartIsFlat }

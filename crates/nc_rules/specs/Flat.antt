@@ -9,7 +9,6 @@ use Rattle.nc_model.specs.Flat.{named, named_from, channel_name, Mark, Did, Touc
 use Rattle.nc_model.specs.Kept.{Kept}
 use Rattle.nc_model.specs.declared.deeds.Deed.TheVariants.{Read, Write}
 use Rattle.nc_model.specs.declared.owners.Grant.{Grant}
-use Rattle.nc_scen.specs.Accepted.{IsAccepted}
 use Rattle.nc_scen.specs.Events.{IsThere}
 use Rattle.nc_scen.specs.Regions.{slots_of}
 use Rattle.nc_scen.specs.declared.events.Event.{Event}
@@ -21,7 +20,6 @@ use Rattle.nc_rules.specs.View as view
 use Rattle.nc_rules.specs.Start.{memory}
 use Rattle.nc_rules.specs.World.{WorldState, start}
 use Rattle.nc_rules.specs.Watched.{owner_of}
-use Rattle.nc_rules.specs.Built.{IsBuilt}
 use Rattle.nc_rules.specs.Next.{next, event_records}
 use Rattle.nc_rules.specs.Run.{after}
 
@@ -82,10 +80,3 @@ IsKeptAfter sc es =
 -- the same after each front of the events, the whole of them too
 abbrev pub IsKept : Scenario → List Event → Type 0
 IsKept sc es = (n : ℕ) → IsKeptAfter sc (take n es)
-
--- whatever events happen in whatever order
-abbrev pub EachRunIsLatest : Type 0
-EachRunIsLatest = (sc : Scenario) → IsAccepted sc → IsBuilt sc → (es : List Event) → AreThere sc es → IsLatest sc es
-
-abbrev pub EachRunIsKept : Type 0
-EachRunIsKept = (sc : Scenario) → IsAccepted sc → IsBuilt sc → (es : List Event) → AreThere sc es → IsKept sc es

@@ -18,7 +18,6 @@ pub mod Copies
 pub mod Operations
 pub mod Driver
 pub mod Start
-pub mod Built
 pub mod World
 pub mod Watched
 pub mod Events

@@ -28,7 +28,7 @@ use Rattle.nc_rules.specs.declared.steps.Seen.{Seen}
 use Rattle.nc_rules.specs.declared.steps.Step.{Step}
 use Rattle.nc_rules.specs.declared.steps.Turn.{Turn}
 use Rattle.nc_rules.specs.declared.steps.Turn.TheVariants as turns
-use Rattle.nc_rules.specs.Built.{IsBuilt, IsBuiltScript, is_built_op}
+use Rattle.nc_scripts.specs.Covered.{IsCovered, IsCoveredScript, is_covered_op}
 use Rattle.nc_pte.specs.Words.{IsPteWord}
 use Rattle.nc_coherent.specs.Pages.{PageMap}
 use Rattle.nc_rules.specs.declared.lots.Lot.{Lot}
@@ -49,10 +49,10 @@ use Rattle.nc_scripts.proofs.DriverSteps.{IsLaid, AreasLie, IsStep, step_is, buf
 table_is : (ram : ℕ) (table : List ℕ) → All (IsPteWord ram) table → EachIndex table (λ k. IsPteWord ram (slice_index table k))
 table_is ram table h k lt = h k 0 lt
 
-script_is : (harts buffers : ℕ) (h : HartSpec) → FitsHart harts buffers h → IsBuiltScript h → All (IsScriptOp harts buffers) h.script
-script_is harts buffers h fits built k d lt = record { fits = fits.script k d lt; built = built k d lt }
+script_is : (harts buffers : ℕ) (h : HartSpec) → FitsHart harts buffers h → IsCoveredScript h → All (IsScriptOp harts buffers) h.script
+script_is harts buffers h fits covered k d lt = record { fits = fits.script k d lt; covered = covered k d lt }
 
-fixed_is : (sc : Scenario) (me : HartNo) → IsAccepted sc → IsBuilt sc → me.0 < length sc.harts → IsFixed sc.ram (length sc.harts) (fixed_of sc me (hart_spec sc me.0))
+fixed_is : (sc : Scenario) (me : HartNo) → IsAccepted sc → IsCovered sc → me.0 < length sc.harts → IsFixed sc.ram (length sc.harts) (fixed_of sc me (hart_spec sc me.0))
 fixed_is sc me a b lt =
     let h = a.harts me.0 no_hart_spec lt in
     let spans = length-map sc.buffers (λ b. b.span) in
@@ -85,7 +85,7 @@ first_drivers sc me a b lt = record {
 
 pub record IsInHand (ram harts : ℕ) (d : DriverState) (o : Op) : Type 0 where
   pub fits : FitsOp harts (length d.fixed.buffers) o
-  pub built : is_built_op o ≡ true
+  pub covered : is_covered_op o ≡ true
   pub here : d.op < length d.fixed.script
 
 pub in_hand_is : (ram harts : ℕ) (d : DriverState) (o : Op) → IsDriver ram harts d → in_hand d ≡ Some o → IsInHand ram harts d o
@@ -93,7 +93,7 @@ in_hand_is ram harts d o h e =
     let lt = slice_get_within d.fixed.script d.op o e in
     let is = get_or_from_slice_get d.fixed.script d.op o o e in
     let k = subst (λ (p : Op). IsScriptOp harts (length d.fixed.buffers) p) is (h.fixed.script d.op o lt) in
-    record { fits = k.fits; built = k.built; here = lt }
+    record { fits = k.fits; covered = k.covered; here = lt }
 
 -- what a step needs
 laid : (ram harts : ℕ) (f : Fixed) → IsFixed ram harts f → IsLaid ram f
@@ -145,7 +145,7 @@ one_there ram range owner a h = record { inside = All-cons (InRam ram) (range, o
 two_there : (ram : ℕ) (r s : Span) (o p : Owner) (a : Option Answer) → IsRangeIn ram r → IsRangeIn ram s → AreThere ram (moved ((r, o) ∷ (s, p) ∷ []) a)
 two_there ram r s o p a h k = record { inside = All-cons (InRam ram) (r, o) ((s, p) ∷ []) h (All-cons (InRam ram) (s, p) [] k (All-nil (InRam ram))); few = omega arith; plain = refl }
 
--- no turn of a step that is built touches a lot
+-- no turn of a step that is covered touches a lot
 pub turned_there : (ram : ℕ) (f : Fixed) (lots : List Lot) (t u : Turn) (a : Option Answer) → TurnIsThere ram t → TurnIsThere ram u → AreThere ram (turned f lots t u a)
 unfolding turned_by
 turned_there ram f lots turns.Stay turns.Stay a h k = none_there ram a
@@ -217,28 +217,28 @@ stays_is ram harts d h = record { driver = h; moves = none_there ram None; fixed
 
 -- ---- start
 
-pub plan_there : (ram harts : ℕ) (f : Fixed) (o : Op) → IsFixed ram harts f → FitsOp harts (length f.buffers) o → has_start o ≡ true → is_built_op o ≡ true → All (StepIsThere ram harts f) (plan_of f [] o)
+pub plan_there : (ram harts : ℕ) (f : Fixed) (o : Op) → IsFixed ram harts f → FitsOp harts (length f.buffers) o → has_start o ≡ true → is_covered_op o ≡ true → All (StepIsThere ram harts f) (plan_of f [] o)
 unfolding plan_of meaning handing.hand
-plan_there ram harts f (ops.Hand buf to) h fits start built =
+plan_there ram harts f (ops.Hand buf to) h fits start covered =
     All-cons (StepIsThere ram harts f) (hart_step (hart.Mark 1 4)) (hart_step (hart.IoStore (io.Mail buf to)) ∷ []) (record { act = λ m me d. tt; first = tt; last = tt })
     (All-cons (StepIsThere ram harts f) (hart_step (hart.IoStore (io.Mail buf to))) [] (record { act = λ m me d. record { box = rw d.boxes fits.0; hart = rw d.processors fits.1 }; first = tt; last = tt })
     (All-nil (StepIsThere ram harts f)))
-plan_there ram harts f _ h fits start built = absurd (cc)
+plan_there ram harts f _ h fits start covered = absurd (cc)
 
-opening_there : (ram harts : ℕ) (f : Fixed) (o : Op) → IsFixed ram harts f → FitsOp harts (length f.buffers) o → has_start o ≡ true → is_built_op o ≡ true → TurnIsThere ram (opening f [] o)
+opening_there : (ram harts : ℕ) (f : Fixed) (o : Op) → IsFixed ram harts f → FitsOp harts (length f.buffers) o → has_start o ≡ true → is_covered_op o ≡ true → TurnIsThere ram (opening f [] o)
 unfolding opening meaning handing.hand
-opening_there ram harts f (ops.Hand buf to) h fits start built = buffer_is ram harts f buf (laid ram harts f h) fits.0
-opening_there ram harts f _ h fits start built = absurd (cc)
+opening_there ram harts f (ops.Hand buf to) h fits start covered = buffer_is ram harts f buf (laid ram harts f h) fits.0
+opening_there ram harts f _ h fits start covered = absurd (cc)
 
--- an operation that is built makes no lot
+-- an operation that is covered makes no lot
 owned_none : (r : Result (Unit {0}) Refusal) (new : List Lot) → (r >>= λ _. Ok []) ≡ Ok new → new ≡ []
 owned_none (Ok u) new e = cc
 owned_none (Err r) new e = absurd (cc)
 
-none_new : (f : Fixed) (lots new : List Lot) (ws : List Owner) (pages : PageMap) (o : Op) → has_start o ≡ true → is_built_op o ≡ true → begin f lots ws pages o ≡ Ok new → new ≡ []
+none_new : (f : Fixed) (lots new : List Lot) (ws : List Owner) (pages : PageMap) (o : Op) → has_start o ≡ true → is_covered_op o ≡ true → begin f lots ws pages o ≡ Ok new → new ≡ []
 unfolding begin meaning handing.hand
-none_new f lots new ws pages (ops.Hand buf to) start built e = owned_none (owned f.me ws (buffer_of f buf)) new e
-none_new f lots new ws pages _ start built e = absurd (cc)
+none_new f lots new ws pages (ops.Hand buf to) start covered e = owned_none (owned f.me ws (buffer_of f buf)) new e
+none_new f lots new ws pages _ start covered e = absurd (cc)
 
 -- the driver without lots
 bare : (d : DriverState) → d.lots ≡ [] → d ≡ with_lots d []
@@ -246,9 +246,9 @@ bare d none = ap (with_lots d) none
 
 opened_bare : (ram harts : ℕ) (d : DriverState) (o : Op) → IsDriver ram harts (with_lots d []) → IsInHand ram harts d o → has_start o ≡ true → Keeps ram harts d (opened (with_lots d []) o)
 opened_bare ram harts d o h k start =
-    let turn = opening_there ram harts d.fixed o h.fixed k.fits start k.built in
+    let turn = opening_there ram harts d.fixed o h.fixed k.fits start k.covered in
     record {
-      driver = went_is ram harts (with_lots d []) (lots_after (opening d.fixed [] o) []) d.saw (plan_of d.fixed [] o) h k.here (lots_stay ram [] (opening d.fixed [] o) turn) (plan_there ram harts d.fixed o h.fixed k.fits start k.built);
+      driver = went_is ram harts (with_lots d []) (lots_after (opening d.fixed [] o) []) d.saw (plan_of d.fixed [] o) h k.here (lots_stay ram [] (opening d.fixed [] o) turn) (plan_there ram harts d.fixed o h.fixed k.fits start k.covered);
       moves = turned_there ram d.fixed [] (opening d.fixed [] o) turns.Stay _ turn tt;
       fixed = went_fixed (with_lots d []) (lots_after (opening d.fixed [] o) []) d.saw (plan_of d.fixed [] o);
     }
@@ -266,7 +266,7 @@ refused_by ram harts d o (Ok s) h k = stays_is ram harts d h
 
 started_if : (ram harts : ℕ) (d : DriverState) (ws : List Owner) (pages : PageMap) (o : Op) (t : Bool) (r : Result (Option Step) Refusal) → IsDriver ram harts d → IsInHand ram harts d o → has_start o ≡ t
     → Keeps ram harts d (if t then begun d o (begin d.fixed d.lots ws pages o) else refused_step d o r)
-started_if ram harts d ws pages o true r h k start = begun_by ram harts d o (begin d.fixed d.lots ws pages o) h h.lots k start (λ new e. none_new d.fixed d.lots new ws pages o start k.built e)
+started_if ram harts d ws pages o true r h k start = begun_by ram harts d o (begin d.fixed d.lots ws pages o) h h.lots k start (λ new e. none_new d.fixed d.lots new ws pages o start k.covered e)
 started_if ram harts d ws pages o false r h k start = refused_by ram harts d o r h k
 
 started_by : (ram harts : ℕ) (d : DriverState) (ws : List Owner) (pages : PageMap) (o : Option Op) → IsDriver ram harts d → in_hand d ≡ o → Keeps ram harts d (started_of d ws pages o)

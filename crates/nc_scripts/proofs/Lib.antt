@@ -1,4 +1,3 @@
-pub mod BuiltLaws
 pub mod DriverSteps
 pub mod DriverLaws
 pub mod Lists

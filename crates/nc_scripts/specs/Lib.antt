@@ -1,3 +1,4 @@
+pub mod Covered
 pub mod Scripts
 pub mod Drivers
 pub mod NewLots

@@ -1,4 +1,4 @@
--- What holds of every driver of an accepted scenario that is run: its script is built, the rest of its plan is there,
+-- What holds of every driver of a scenario that the laws of flat memory cover: its script is covered, the rest of its plan is there,
 -- and what it does next is there in every machine of the scenario's size. This project's own.
 use Rattle.std.specs.Prelude.{ℕ, ◌≡◌, ◌+◌, ◌%◌, ◌<◌, ◌≤◌, Bool, true, false, List, [], length, None, All, EachIndex, slice_index}
 use Rattle.nc_num.specs.Sizes.{IsBlockSize}
@@ -21,7 +21,7 @@ use Rattle.nc_rules.specs.declared.steps.Seen.{Seen}
 use Rattle.nc_rules.specs.declared.steps.Step.{Step}
 use Rattle.nc_rules.specs.declared.steps.Turn.{Turn}
 use Rattle.nc_rules.specs.declared.steps.Turn.TheVariants as turns
-use Rattle.nc_rules.specs.Built.{IsBuilt, is_built_op}
+use Rattle.nc_scripts.specs.Covered.{IsCovered, is_covered_op}
 use Rattle.nc_rules.specs.Machine.{MachineState}
 use Rattle.nc_rules.specs.Lots.{Fixed}
 use Rattle.nc_rules.specs.Turns.{Moved, moved}
@@ -34,10 +34,10 @@ pub record IsRangeIn (ram : ℕ) (range : Span) : Type 0 where
   pub some : 0 < range.len
   pub ends : range.at + range.len ≤ ram
 
--- an operation of a script in a scenario of so many harts and buffers, of those that are built
+-- a covered operation of a script in a scenario of so many harts and buffers
 pub record IsScriptOp (harts buffers : ℕ) (o : Op) : Type 0 where
   pub fits : FitsOp harts buffers o
-  pub built : is_built_op o ≡ true
+  pub covered : is_covered_op o ≡ true
 
 -- what a driver knows from the start, in a scenario of so many bytes of RAM and so many harts
 pub record IsFixed (ram harts : ℕ) (f : Fixed) : Type 0 where
@@ -68,7 +68,7 @@ ActIsThere ram harts f (acts.Claim chan) = chan.0 < 4
 ActIsThere ram harts f (acts.Poll chan) = chan.0 < 4
 ActIsThere ram harts f (acts.Take buf) = buf < length f.buffers
 
--- a range of RAM; no operation that is built has a lot
+-- a range of RAM; no covered operation has a lot
 abbrev pub TurnIsThere : ℕ → Turn → Type 0
 TurnIsThere ram turns.Stay = Unit {0}
 TurnIsThere ram (turns.Pass range to) = IsRangeIn ram range
@@ -85,7 +85,7 @@ pub record StepIsThere (ram harts : ℕ) (f : Fixed) (s : Step) : Type 0 where
   pub first : TurnIsThere ram s.first
   pub last : TurnIsThere ram s.last
 
--- an operation has at most 4,096 steps, no operation that is built searches for a slot, and a plan that is at work has
+-- an operation has at most 4,096 steps, no covered operation searches for a slot, and a plan that is at work has
 -- a rest
 abbrev pub IsPhase : Phase → List Step → Type 0
 IsPhase (Steps n) rest = n ≤ 4096
@@ -122,7 +122,7 @@ is_act (nexts.Poll chan) = true
 is_act (nexts.Take buf) = true
 
 -- the changes of owners are of ranges of RAM, and are few enough to make room for before them; no operation that is
--- built moves a grant, a slot or a page
+-- covered moves a grant, a slot or a page
 pub record AreThere (ram : ℕ) (moves : Moved) : Type 0 where
   pub inside : All (λ t. IsRangeIn ram t.0) moves.transfers
   pub few : length moves.transfers ≤ 34
@@ -139,14 +139,14 @@ pub record StaysDriver (ram harts : ℕ) (d : DriverState) : Type 0 where
   pub next_there : NextIsThere ram harts d.fixed (next_of d)
   pub start : (owners : List Owner) (pages : PageMap) → Keeps ram harts d (started d owners pages)
   pub goes_on : (saw : Seen) → is_act (next_of d) ≡ true → Keeps ram harts d (done d saw)
-  -- no operation that is built is at a slot search
+  -- no covered operation is at a slot search
   pub unsearched : searching d ≡ None
 
 abbrev pub EachStaysDriver : Type 0
 EachStaysDriver = (ram harts : ℕ) (d : DriverState) → IsDriver ram harts d → StaysDriver ram harts d
 
--- the drivers of an accepted scenario that is run
+-- the drivers of an accepted scenario that is covered
 abbrev pub FirstDrivers : Type 0
 FirstDrivers =
-    (sc : Scenario) (me : HartNo) → IsAccepted sc → IsBuilt sc → me.0 < length sc.harts
+    (sc : Scenario) (me : HartNo) → IsAccepted sc → IsCovered sc → me.0 < length sc.harts
     → IsDriver sc.ram (length sc.harts) (first_driver sc me)

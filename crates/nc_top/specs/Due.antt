@@ -4,7 +4,6 @@ use Rattle.std.specs.Str.{bytes_eq}
 use Rattle.nc_scen.specs.Reading.{reading}
 use Rattle.nc_values.specs.declared.refused.Refused.{Refused}
 use Rattle.nc_scen.specs.declared.scenario.Scenario.{Scenario}
-use Rattle.nc_rules.specs.Built.{is_built}
 use Rattle.nc_rules.specs.Schedule.{sched}
 use Rattle.nc_migrate.specs.Migrating.{migrated}
 use Rattle.nc_pieces.specs.declared.refused.PoolRefused.{PoolRefused}
@@ -48,12 +47,9 @@ refusal text = record { status = 3; text = text }
 abbrev pub run_of : Scenario → Due
 run_of sc = record { status = status sc (sched sc); text = report sc (sched sc) }
 
-abbrev pub not_built : List ℕ
-not_built = words (codes "refused" ∷ codes "notbuilt" ∷ [])
-
--- what is due for a scenario, which may be one that is not run yet, or for a refusal
+-- what is due for a scenario, or for a refusal
 abbrev pub due_for : Result Scenario Refused → Due
-due_for (Ok sc) = if is_built sc then run_of sc else refusal not_built
+due_for (Ok sc) = run_of sc
 due_for (Err r) = refusal (refused_line r)
 
 -- what is due for a scenario moved to version 2, or for a refusal

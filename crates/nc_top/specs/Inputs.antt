@@ -5,7 +5,7 @@ use Rattle.nc_io.specs.Streams.{GrowsByFront}
 use Rattle.nc_top.specs.Due.{due, command_of}
 use Rattle.nc_scen.specs.Reading.{most_bytes, reading}
 use Rattle.nc_scen.specs.declared.scenario.Scenario.{Scenario}
-use Rattle.nc_rules.specs.Built.{IsBuilt}
+use Rattle.nc_scripts.specs.Covered.{IsCovered}
 use Rattle.nc_rules.specs.Flat.{IsLatest, IsKept}
 use Rattle.nc_rules.specs.Schedule.{sched}
 
@@ -21,11 +21,12 @@ WroteFront words before now ended held_before held_now = Keeps held_before held_
     ⊎ ((command_of words ≡ None) × GrowsByFront held_before held_now (due words []).text)
     ⊎ ((bytes : List ℕ) × HasRead before now ended bytes × GrowsByFront held_before held_now (due words bytes).text)
 
--- The status is a refusal's exactly where the bytes are no scenario of those that are run.
-abbrev pub IsRunWhereBuilt : ℕ → List ℕ → Type 0
-IsRunWhereBuilt status bytes = (status ≢ 3) ↔ ((sc : Scenario) × (reading bytes ≡ Ok sc) × IsBuilt sc)
+-- The status is a refusal's exactly where the bytes are no scenario.
+abbrev pub IsRunWhereRead : ℕ → List ℕ → Type 0
+IsRunWhereRead status bytes = (status ≢ 3) ↔ ((sc : Scenario) × (reading bytes ≡ Ok sc))
 
--- Where the status is not a refusal's, the bytes are a scenario; the loads and channel reads of the run of its schedule
--- show flat memory up to the first touch, and after each front of the run without a touch flat memory's bytes are kept.
+-- Where the status is not a refusal's, the bytes are a scenario. If the laws of flat memory cover it, the loads and channel
+-- reads of the run of its schedule show flat memory up to the first touch, and after each front of the run without a touch
+-- flat memory's bytes are kept.
 abbrev pub IsFlat : ℕ → List ℕ → Type 0
-IsFlat status bytes = status ≢ 3 → (sc : Scenario) × (reading bytes ≡ Ok sc) × IsLatest sc (sched sc) × IsKept sc (sched sc)
+IsFlat status bytes = status ≢ 3 → (sc : Scenario) × (reading bytes ≡ Ok sc) × (IsCovered sc → IsLatest sc (sched sc) × IsKept sc (sched sc))

@@ -5,7 +5,6 @@ ghost use Rattle.std.specs.Io.KnownBytes.{Appends};
 ghost use Rattle.nc_io.specs.Causes.{Rose};
 ghost use Rattle.nc_io.specs.Streams.{GrowsByFront};
 ghost use Rattle.nc_scen.specs.Accepted.{IsAccepted};
-ghost use Rattle.nc_rules.specs.Built.{IsBuilt};
 ghost use Rattle.nc_rules.specs.Lines.{report, status, status_at, at_end};
 ghost use Rattle.nc_rules.specs.Schedule.{sched};
 ghost use Rattle.nc_top.specs.Due.{IsAnswer};
@@ -48,8 +47,7 @@ fn status_of(w: &World) -> u8
 /// Makes the events of the scenario's schedule and writes the report as they happen. Where it stops, a front of the
 /// report was written.
 pub fn run_out<K: Sink>(alloc: Global, sc: &Scenario, out: &mut K) -> Result<u8, Stop>
-    requires accepted { IsAccepted sc.now }
-    requires built { IsBuilt sc.now }
+    requires { IsAccepted sc.now }
     ensures status { IfOk result (λ n. n ≡ status sc.now (sched sc.now)) }
     ensures kind { IfOk result IsAnswer }
     ensures run { IfOk result (λ n. n ≢ 3) }

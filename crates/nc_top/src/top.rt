@@ -7,11 +7,10 @@ ghost use Rattle.nc_io.specs.Streams.{GrowsByFront};
 ghost use Rattle.nc_scen.specs.Reading.{reading};
 ghost use Rattle.nc_migrate.specs.Migrating.{KeepsReading, migrated};
 ghost use Rattle.nc_pieces.specs.Serving.{pool_answer};
-ghost use Rattle.nc_rules.specs.Flat.{EachRunIsLatest, EachRunIsKept};
+ghost use Rattle.nc_flat.specs.Laws.{EachRunIsLatest, EachRunIsKept};
 ghost use Rattle.nc_scen.specs.Accepted.{IsAccepted};
-ghost use Rattle.nc_rules.specs.Built.{IsBuilt};
 ghost use Rattle.nc_top.specs.Due.{due, due_by, due_for, due_for_migrate, due_for_pool, command_of, is_migrate, is_pool, is_run, IsAnswer};
-ghost use Rattle.nc_top.specs.Inputs.{HasRead, IsFlat, IsRunWhereBuilt, WroteFront};
+ghost use Rattle.nc_top.specs.Inputs.{HasRead, IsFlat, IsRunWhereRead, WroteFront};
 
 use crate::input::{Lost, read_input};
 use crate::run::run_out;
@@ -22,7 +21,6 @@ use nc_migrate::migrate;
 use nc_pieces::{PoolFault, pool_answer, pool_refused};
 use nc_report::refused;
 use nc_scen::{ScenFault, Scenario, read};
-use nc_world::is_built;
 use std::alloc::Global;
 
 /// Writes what is due.
@@ -40,18 +38,15 @@ fn put<K: Sink>(out: &mut K, status: u8, text: &[u8]) -> u8
     }
 }
 
-/// Runs a scenario and writes its report, or refuses it where it is not run yet.
+/// Runs a scenario and writes its report.
 fn answer_scenario<K: Sink>(alloc: Global, sc: &Scenario, out: &mut K) -> u8
     requires { IsAccepted sc.now }
     ensures written { IsAnswer result → (result ≡ (due_for (Ok sc.now)).status) × Appends (K.held out.old) (K.held out.new) (due_for (Ok sc.now)).text }
     ensures sink { result ≡ 5 → Rose (K.faults out.old) (K.faults out.new) }
     ensures reads { result ≢ 4 }
-    ensures built { IsAnswer result → (result ≢ 3) ↔ IsBuilt sc.now }
+    ensures run { IsAnswer result → result ≢ 3 }
     ensures front { GrowsByFront (K.held out.old) (K.held out.new) (due_for (Ok sc.now)).text }
 {
-    if !is_built(sc) {
-        return put(out, 3, b"refused notbuilt\n");
-    }
     match run_out(alloc, sc, out) {
         Ok(status) => status,
         Err(Stop::Failed) => 5,
@@ -64,7 +59,7 @@ fn answer_to<K: Sink>(alloc: Global, bytes: &[u8], out: &mut K) -> u8
     ensures written { IsAnswer result → (result ≡ (due_for (reading bytes.now)).status) × Appends (K.held out.old) (K.held out.new) (due_for (reading bytes.now)).text }
     ensures sink { result ≡ 5 → Rose (K.faults out.old) (K.faults out.new) }
     ensures reads { result ≢ 4 }
-    ensures built { IsAnswer result → IsRunWhereBuilt result bytes.now }
+    ensures read { IsAnswer result → IsRunWhereRead result bytes.now }
     ensures flat { IsAnswer result → IsFlat result bytes.now }
     ensures front { Keeps (K.held out.old) (K.held out.new) ⊎ GrowsByFront (K.held out.old) (K.held out.new) (due_for (reading bytes.now)).text }
 {
@@ -119,7 +114,7 @@ fn answer_command<K: Sink>(alloc: Global, command: Command, bytes: &[u8], out: &
     ensures written { IsAnswer result → (result ≡ (due_by command bytes.now).status) × Appends (K.held out.old) (K.held out.new) (due_by command bytes.now).text }
     ensures sink { result ≡ 5 → Rose (K.faults out.old) (K.faults out.new) }
     ensures reads { result ≢ 4 }
-    ensures built { command ≡ Command.Run → IsAnswer result → IsRunWhereBuilt result bytes.now }
+    ensures read { command ≡ Command.Run → IsAnswer result → IsRunWhereRead result bytes.now }
     ensures flat { command ≡ Command.Run → IsAnswer result → IsFlat result bytes.now }
     ensures moved { command ≡ Command.Migrate → result ≡ 0 → KeepsReading bytes.now (due_by command bytes.now).text }
     ensures front { Keeps (K.held out.old) (K.held out.new) ⊎ GrowsByFront (K.held out.old) (K.held out.new) (due_by command bytes.now).text }
@@ -135,7 +130,7 @@ fn answer_command<K: Sink>(alloc: Global, command: Command, bytes: &[u8], out: &
 /// `pool` reads operations on a pool of small pieces, and writes their lines. Other words are refused.
 ///
 /// Statuses: 0 the run ended with no touch and every script at its end, or all was written; 1 a touch
-/// was reported; 2 unknown words; 3 the input is refused or is not run yet; 4 a read failed; 5 a write failed; 6 memory
+/// was reported; 2 unknown words; 3 the input is refused; 4 a read failed; 5 a write failed; 6 memory
 /// ran out; 7 no touch, and a script is not at its end.
 #[tactic(auto, unfolding(crate::specs::Due::due))]
 pub fn dmasim<S: Source, K: Sink>(
@@ -154,7 +149,7 @@ pub fn dmasim<S: Source, K: Sink>(
         → (bytes : List ℕ) × HasRead (S.left src.old) (S.left src.new) (S.ended src.new) bytes
         × (result ≡ (due (map string_bytes words.now.items) bytes).status)
         × Appends (K.held out.old) (K.held out.new) (due (map string_bytes words.now.items) bytes).text
-        × IsRunWhereBuilt result bytes
+        × IsRunWhereRead result bytes
         × IsFlat result bytes }
     ensures migrate { is_migrate (map string_bytes words.now.items) ≡ true → IsAnswer result
         → (bytes : List ℕ) × HasRead (S.left src.old) (S.left src.new) (S.ended src.new) bytes
@@ -174,7 +169,7 @@ pub fn dmasim<S: Source, K: Sink>(
     ensures front { WroteFront (map string_bytes words.now.items) (S.left src.old) (S.left src.new) (S.ended src.new) (K.held out.old) (K.held out.new) }
 
     // Up to the first touch every load and channel read of every run shows flat memory, and after each front of a run
-    // without a touch the bytes of flat memory are kept: in every run of the scenarios that are run, the reported one
+    // without a touch the bytes of flat memory are kept: in every run of the scenarios that the laws cover, the reported one
     // among them.
     ensures latest { EachRunIsLatest }
     ensures kept { EachRunIsKept }
