@@ -1,14 +1,20 @@
 //! The tests of which each can refuse an operation.
 
-ghost use Rattle.std.specs.Prelude.{◌≡◌, ◌+◌, ◌<◌, ◌≤◌, ◌^◌, length};
-ghost use Rattle.nc_model.specs.Rights.{is_thread as thread_of};
+ghost use Rattle.std.specs.Prelude.{◌≡◌, ◌+◌, ◌<◌, ◌≤◌, ◌^◌, true, false, List, length, All, IfSome, IsSome};
+ghost use Rattle.nc_num.specs.declared.names.HartNo.{HartNo};
+ghost use Rattle.nc_num.specs.declared.places.Span.{Span};
+ghost use Rattle.nc_model.specs.Rights.{is_thread};
+ghost use Rattle.nc_model.specs.declared.owners.Owner.{Owner};
+ghost use Rattle.nc_own.specs.Books.{transferred};
 ghost use Rattle.nc_rules.specs.Refusals as rules;
+ghost use Rattle.nc_checks.specs.Owned.{lent_all, IsOther, IsBehind};
 
 use nc_env::{CboOp, Illegal};
 use nc_model::Owner;
-use nc_num::{HartNo, Place, Span};
+use nc_num::{Dir, HartNo, MapId, Place, Span};
 use nc_own::Book;
-use nc_rules::Refusal;
+use nc_plan::{CboOff, Effects, needs};
+use nc_rules::{LotId, Refusal};
 
 /// There are some bytes.
 pub(crate) fn some_bytes(len: u32) -> Result<(), Refusal>
@@ -46,33 +52,119 @@ pub(crate) fn legal(effect: Result<CboOp, Illegal>) -> Result<CboOp, Refusal>
     }
 }
 
+/// The operations of both plans of a direction are enabled (RISC-V CMO 1.0).
+pub(crate) fn lendable(effects: &Effects, dir: Dir) -> Result<(), Refusal>
+    ensures { result ≡ rules.lendable effects.now dir }
+{
+    planned(needs(effects, dir))
+}
+
+/// The operations that a plan needs are enabled (RISC-V CMO 1.0).
+pub(crate) fn planned(needed: Result<(), CboOff>) -> Result<(), Refusal>
+    ensures { result ≡ rules.planned needed }
+{
+    match needed {
+        Ok(()) => Ok(()),
+        Err(CboOff(field)) => Err(Refusal::CboOff(field)),
+    }
+}
+
 /// Each byte of a range is the hart's own.
-#[tactic(auto, unfolding(nc_model::specs::Touches::first_fault))]
 pub(crate) fn owned(me: HartNo, book: &Book, range: Span) -> Result<(), Refusal>
-    requires inside { range.at + range.len ≤ length book.now.owners }
-    requires ends { range.at + range.len < 2 ^ 32 }
+    requires { range.at + range.len ≤ length book.now.owners }
     ensures { result ≡ rules.owned me book.now.owners range }
 {
-    for at in range.at..range.at + range.len {
-        let owner = book.owner(Place(at));
-        if !is_thread(me, owner) {
-            return Err(Refusal::NotYours(owner));
-        }
+    told(book.first_other(me, range))
+}
+
+/// The first other owner that was found is told.
+fn told(found: Option<(Place, Owner)>) -> Result<(), Refusal>
+    ensures { (me : HartNo) (owners : List Owner) (range : Span) → IsOther me owners range found → result ≡ rules.owned me owners range }
+{
+    match found {
+        None => Ok(()),
+        Some((_, owner)) => Err(Refusal::NotYours(owner)),
+    }
+}
+
+/// The same of several ranges that are to be lent together as the entries of a lot: those before a range are taken as
+/// lent already.
+pub(crate) fn owned_from(
+    me: HartNo,
+    id: LotId,
+    book: &Book,
+    ranges: &[Span],
+) -> Result<(), Refusal>
+    requires few { length ranges.now ≤ 16 }
+    requires first { id.first ≤ 1 }
+    requires inside { All (λ range. range.at + range.len ≤ length book.now.owners) ranges.now }
+    requires ends { All (λ range. range.at + range.len < 2 ^ 32) ranges.now }
+    ensures { result ≡ rules.owned_from me id 0 book.now.owners ranges.now }
+{
+    for i in 0..ranges.len() {
+        told(other_of(me, id, book, &ranges[..i], ranges[i]))?;
     }
     Ok(())
 }
 
-/// Whether a byte of this owner is the hart's own.
-fn is_thread(me: HartNo, owner: Owner) -> bool
-    ensures { result ≡ thread_of me owner }
+/// The first place of a range that is not the hart's own once others have been lent, and its owner.
+fn other_of(
+    me: HartNo,
+    id: LotId,
+    book: &Book,
+    lent: &[Span],
+    range: Span,
+) -> Option<(Place, Owner)>
+    requires few { length lent.now ≤ 16 }
+    requires first { id.first ≤ 1 }
+    requires inside { range.at + range.len ≤ length book.now.owners }
+    requires ends { range.at + range.len < 2 ^ 32 }
+    requires lent_ends { All (λ range. range.at + range.len < 2 ^ 32) lent.now }
+    ensures { IsOther me (lent_all me id 0 book.now.owners lent.now) range result }
 {
-    match owner {
-        Owner::Thread(hart) => hart == me,
-        Owner::Passing(..)
-        | Owner::Lending(_)
-        | Owner::Device(_)
-        | Owner::Returning(_)
-        | Owner::Synced(_)
-        | Owner::Pool => false,
+    let mut found = book.first_other(me, range);
+    for i in 0..lent.len() {
+        let map = MapId {
+            hart: me,
+            label: id.label,
+            entry: id.first + i as u8,
+        };
+        found = nearer(found, range, lent[i], Owner::Lending(map));
+    }
+    found
+}
+
+/// The first place of a range that is not the hart's own, once another range has been given to another owner.
+fn nearer(
+    found: Option<(Place, Owner)>,
+    range: Span,
+    lent: Span,
+    owner: Owner,
+) -> Option<(Place, Owner)>
+    requires range { range.at + range.len < 2 ^ 32 }
+    requires lent { lent.at + lent.len < 2 ^ 32 }
+    ensures { (me : HartNo) (owners : List Owner) → is_thread me owner ≡ false → range.at + range.len ≤ length owners → IsOther me owners range found → IsOther me (transferred owners lent owner) range result }
+{
+    let at = range.at.max(lent.at);
+    let end = (range.at + range.len).min(lent.at + lent.len);
+    if end <= at {
+        return found;
+    }
+    if is_behind(found, at) {
+        Some((Place(at), owner))
+    } else {
+        found
+    }
+}
+
+/// Whether a place that was found lies at another or behind it; true where none was found.
+fn is_behind(found: Option<(Place, Owner)>, at: u32) -> bool
+    ensures behind { result ≡ true → IsBehind at found }
+    ensures before { result ≡ false → IfSome found (λ p. p.0.0 < at) }
+    ensures some { result ≡ false → IsSome found }
+{
+    match found {
+        None => true,
+        Some((place, _)) => at <= place.0,
     }
 }
