@@ -9,7 +9,7 @@ use Rattle.nc_num.specs.declared.places.Span.{Span}
 use Rattle.nc_num.specs.declared.names.Dir.{Dir}
 use Rattle.nc_plan.specs.declared.segments.Segment.{Segment}
 use Rattle.nc_sg.specs.declared.list.Entry.{Entry}
-use Rattle.nc_sg.specs.Lists.{IsRange, IsEntry, fresh, waits, next_waiting, give_slot, forgotten, on_bus, segment_of, joins, run_on, bytes_of, SegmentsKeepTheBytes}
+use Rattle.nc_sg.specs.Lists.{IsRange, IsEntry, fresh, waits, next_waiting, give_slot, slot_taken, forgotten, on_bus, segment_of, joins, run_on, bytes_of, SegmentsKeepTheBytes}
 
 -- the entries stay entries
 
@@ -52,6 +52,30 @@ long_by slot e es false h = ap suc h
 pub length-give_slot : (slot : ℕ) (es : List Entry) → length (give_slot slot es) ≡ length es
 length-give_slot slot [] = refl
 length-give_slot slot (x ∷ xs) = long_by slot x xs (waits x) (length-give_slot slot xs)
+
+-- a slot is taken away
+
+pub taken_at : (es : List Entry) (i : ℕ) (v : Entry) → i < length es → v ≡ slice_index_or es i v → slice_set es i (forgotten v) ≡ slot_taken i es
+taken_at [] i v lt e = absurd (omega arith)
+taken_at (x ∷ xs) zero v lt e = ap (λ w. forgotten w ∷ xs) e
+taken_at (x ∷ xs) (suc i) v lt e = ap (λ ys. x ∷ ys) (taken_at xs i v (omega arith) e)
+
+kept_taken : (es : List Entry) (i : ℕ) → All IsEntry es → All IsEntry (slot_taken i es)
+kept_taken [] i h = h
+kept_taken (x ∷ xs) zero h = with_front (forgotten x) xs (record { range = (h zero x (omega arith)).range; slot = omega arith }) (λ j e lt'. h (suc j) e (omega arith))
+kept_taken (x ∷ xs) (suc i) h = with_front x (slot_taken i xs) (h zero x (omega arith)) (kept_taken xs i (λ j e lt'. h (suc j) e (omega arith)))
+
+length-slot_taken : (es : List Entry) (i : ℕ) → length (slot_taken i es) ≡ length es
+length-slot_taken [] i = refl
+length-slot_taken (x ∷ xs) zero = refl
+length-slot_taken (x ∷ xs) (suc i) = ap suc (length-slot_taken xs i)
+
+-- a list stays one when a slot is taken away
+pub kept_without : (es : List Entry) (i : ℕ) → (length es ≤ 16) × All IsEntry es → (length (slot_taken i es) ≤ 16) × All IsEntry (slot_taken i es)
+kept_without es i h = (omega (arith, length-slot_taken es i, h.0), kept_taken es i h.1)
+
+pub all_one : (e : Entry) → IsEntry e → All IsEntry (e ∷ [])
+all_one e h = with_front e [] h (λ k d lt. absurd (omega arith))
 
 -- one slot more is forgotten
 forgets_more : (xs : List Entry) (i : ℕ) (d : Entry) → i < length xs

@@ -1,5 +1,5 @@
 -- Scatter lists: their entries, slots, parts and segments. This project's own, after the Linux DMA API's dma_map_sg.
-use Rattle.std.specs.Prelude.{◌≡◌, ℕ, ◌+◌, ◌*◌, ◌<◌, ◌≤◌, ◌==◌, ◌&&◌, Bool, not, List, [], ◌∷◌, map, flat_map, filter_map, position, is_none, unwrap_or, if◌then◌else◌, Option, Some, None}
+use Rattle.std.specs.Prelude.{◌≡◌, ℕ, zero, suc, ◌+◌, ◌*◌, ◌<◌, ◌≤◌, ◌==◌, ◌&&◌, Bool, false, not, List, [], ◌∷◌, map, flat_map, filter_map, position, is_none, unwrap_or, if◌then◌else◌, Option, Some, None}
 use Rattle.std.specs.List.{range_with_len}
 use Rattle.nc_num.specs.declared.places.Span.{Span}
 use Rattle.nc_num.specs.declared.names.Dir.{Dir}
@@ -49,6 +49,16 @@ held es = filter_map (λ e. e.slot) es
 
 abbrev pub forgotten : Entry → Entry
 forgotten e = record e { slot = None }
+
+-- entry i has no slot any more
+abbrev pub slot_taken : ℕ → List Entry → List Entry
+slot_taken i [] = []
+slot_taken zero (e ∷ es) = forgotten e ∷ es
+slot_taken (suc i) (e ∷ es) = e ∷ slot_taken i es
+
+-- one range that never bounces
+abbrev pub direct : Dir → Span → SgView
+direct dir span = record { dir = dir; entries = record { span = span; bounced = false; slot = None } ∷ [] }
 
 -- the range by which the channel sees an entry; slot k starts at the place slots_at + 2,048 k
 abbrev pub device : ℕ → Entry → Span

@@ -5,7 +5,7 @@ ghost use Rattle.std.specs.Option.{option_to_list};
 ghost use Rattle.nc_num.specs.Sizes.{IsBlockSize};
 ghost use Rattle.std.specs.Prelude.{List};
 ghost use Rattle.nc_sg.specs.declared.list.Entry.{Entry};
-ghost use Rattle.nc_sg.specs.Lists.{device, IsRange, IsEntry, fresh, list_of, next_waiting, give_slot, held, forgotten, part_of, segment_of, joins, run_on, segments, SegmentsKeepTheBytes};
+ghost use Rattle.nc_sg.specs.Lists.{device, IsRange, IsEntry, fresh, list_of, direct, next_waiting, give_slot, slot_taken, held, forgotten, part_of, segment_of, joins, run_on, segments, SegmentsKeepTheBytes};
 
 use nc_num::{Dir, NoMemory, Span};
 use nc_plan::{Part, SegList, Segment, bounces};
@@ -73,6 +73,20 @@ impl SgList {
         Ok(SgList { dir, entries })
     }
 
+    /// A list of one range, which never bounces. It has bytes, and ends at 1,048,576 at most.
+    pub fn direct(alloc: Global, span: Span, dir: Dir) -> Result<SgList, NoMemory>
+        requires range { IsRange span }
+        ensures { IfOk result (λ l. l ≡ direct dir span) }
+    {
+        let mut entries = Vec::with_capacity(alloc, 1)?;
+        entries.push(Entry {
+            span,
+            bounced: false,
+            slot: None,
+        })?;
+        Ok(SgList { dir, entries })
+    }
+
     /// The number of the first entry that bounces and has no slot, None exactly where there is none.
     pub fn next_bounced(&self) -> Option<u8>
         ensures { result ≡ next_waiting self.now.entries }
@@ -90,6 +104,14 @@ impl SgList {
         ensures { self.new ≡ record self.old { entries = give_slot slot self.old.entries } }
     {
         give(&mut self.entries, slot);
+    }
+
+    /// Takes the slot of entry `i` away: that entry has none any more.
+    pub fn put_back(&mut self, i: u8)
+        requires entry { i < length self.old.entries }
+        ensures { self.new ≡ record self.old { entries = slot_taken i self.old.entries } }
+    {
+        take_slot(&mut self.entries, i as usize);
     }
 
     /// The entries, in order.
@@ -200,6 +222,14 @@ fn give(entries: &mut Vec<Entry>, slot: u32)
     if let Some(i) = first_waiting(entries) {
         entries[i].slot = Some(slot);
     }
+}
+
+/// Entry i has no slot any more.
+fn take_slot(entries: &mut Vec<Entry>, i: usize)
+    requires { i < length entries.old.items }
+    ensures { entries.new.items ≡ slot_taken i entries.old.items }
+{
+    entries[i].slot = None;
 }
 
 /// The slots that entries hold, in order.
