@@ -37,12 +37,13 @@ within owners lent o x lt e = owner_in-transferred owners lent o x lt ∙ ap (λ
 pub other_apart : (me : HartNo) (owners : List Owner) (range lent : Span) (o : Owner) (found : Option (Place × Owner)) → range.at + range.len ≤ length owners
     → ((x : ℕ) → covers range x ≡ true → covers lent x ≡ false) → IsOther me owners range found → IsOther me (transferred owners lent o) range found
 other_apart me owners range lent o found inside apart h = record {
-    first = h.first ∙ sym (first_fault-same _ _ range (λ x e. ap (is_thread me) (same x e)));
-    owner = told found h.first h.owner;
-  }
+  first = h.first ∙ sym (first_fault-same _ _ range (λ x e. ap (is_thread me) (same x e)));
+  owner = told found h.first h.owner;
+}
   where
     same : (x : ℕ) → covers range x ≡ true → owner_in (transferred owners lent o) x ≡ owner_in owners x
     same x e = outside owners lent o x (omega (arith, covers-high range x e)) (apart x e)
+
     told : (f : Option (Place × Owner)) → option_map (λ p. p.0.0) f ≡ first_fault (own me owners) range → IfSome f (λ p. p.1 ≡ owner_in owners p.0.0)
         → IfSome f (λ p. p.1 ≡ owner_in (transferred owners lent o) p.0.0)
     told None e t = tt
@@ -56,7 +57,7 @@ other_kept me owners range lent o (Some p) at inside is lt some h =
     let f = fails (own me owners) range p.0.0 (sym h.first) in
     record {
       first = sym (first_fault-is (own me (transferred owners lent o)) range (Some p.0.0)
-        (f.0, ap (is_thread me) (same p.0.0 f.0 lt) ∙ f.1, λ y le less. ap (is_thread me) (same y (covers-from range y le (omega (arith, covers-high range p.0.0 f.0))) (omega arith)) ∙ f.2 y le less));
+          (f.0, ap (is_thread me) (same p.0.0 f.0 lt) ∙ f.1, λ y le less. ap (is_thread me) (same y (covers-from range y le (omega (arith, covers-high range p.0.0 f.0))) (omega arith)) ∙ f.2 y le less));
       owner = h.owner ∙ sym (same p.0.0 f.0 lt);
     }
   where
@@ -66,9 +67,9 @@ other_kept me owners range lent o (Some p) at inside is lt some h =
 -- where the two ranges have no place in common
 pub apart_by : (range lent : Span) (at end : ℕ) → at ≡ max range.at lent.at → end ≡ min (range.at + range.len) (lent.at + lent.len) → end ≤ at → (x : ℕ) → covers range x ≡ true → covers lent x ≡ false
 apart_by range lent at end a b le x e = elim (cases_lt x lent.at) [
-      | inl lt ↦ covers-below lent x lt
-      | inr ge ↦ covers-above lent x (omega (arith, covers-low range x e, covers-high range x e, a, b))
-    ]
+  | inl lt ↦ covers-below lent x lt
+  | inr ge ↦ covers-above lent x (omega (arith, covers-low range x e, covers-high range x e, a, b))
+]
 
 -- where they have some, the first of them
 pub both_cover : (range lent : Span) (at end : ℕ) → at ≡ max range.at lent.at → end ≡ min (range.at + range.len) (lent.at + lent.len) → at < end → (covers range at ≡ true) × (covers lent at ≡ true)
@@ -79,15 +80,17 @@ pub other_lent : (me : HartNo) (owners : List Owner) (range lent : Span) (o : Ow
     → is_thread me o ≡ false → at.0 ≡ max range.at lent.at → covers range at.0 ≡ true → covers lent at.0 ≡ true → IsBehind at.0 found
     → IsOther me owners range found → IsOther me (transferred owners lent o) range (Some (at, o))
 other_lent me owners range lent o found at inside foreign is in_range in_lent behind h = record {
-    first = sym (first_fault-is (own me (transferred owners lent o)) range (Some at.0)
+  first = sym (first_fault-is (own me (transferred owners lent o)) range (Some at.0)
       (in_range, ap (is_thread me) here ∙ foreign, λ y le less. ap (is_thread me) (before y le less) ∙ own_before found behind h.first y le less));
-    owner = sym here;
-  }
+  owner = sym here;
+}
   where
     here : owner_in (transferred owners lent o) at.0 ≡ o
     here = within owners lent o at.0 (omega (arith, covers-high range at.0 in_range)) in_lent
+
     before : (y : ℕ) → range.at ≤ y → y < at.0 → owner_in (transferred owners lent o) y ≡ owner_in owners y
     before y le less = outside owners lent o y (omega (arith, covers-high range at.0 in_range)) (covers-below lent y (omega (arith, is)))
+
     own_before : (f : Option (Place × Owner)) → IsBehind at.0 f → option_map (λ p. p.0.0) f ≡ first_fault (own me owners) range → (y : ℕ) → range.at ≤ y → y < at.0 → own me owners y ≡ true
     own_before None b e y le less = passes (own me owners) range y (sym e) (covers-from range y le (omega (arith, covers-high range at.0 in_range)))
     own_before (Some p) b e y le less = (fails (own me owners) range p.0.0 (sym e)).2 y le (omega (arith, b))

@@ -1,20 +1,25 @@
 //! The tests of which each can refuse an operation.
 
-ghost use Rattle.std.specs.Prelude.{◌≡◌, ◌+◌, ◌<◌, ◌≤◌, ◌^◌, true, false, List, length, All, IfSome, IsSome};
+ghost use Rattle.std.specs.Prelude.{◌≡◌, ◌+◌, ◌<◌, ◌≤◌, ◌^◌, true, false, List, length, All, IfOk, IfSome, IsSome};
+ghost use Rattle.std.specs.List.{Contains, list_any};
 ghost use Rattle.nc_num.specs.declared.names.HartNo.{HartNo};
 ghost use Rattle.nc_num.specs.declared.places.Span.{Span};
 ghost use Rattle.nc_model.specs.Rights.{is_thread};
 ghost use Rattle.nc_model.specs.declared.owners.Owner.{Owner};
 ghost use Rattle.nc_own.specs.Books.{transferred};
+ghost use Rattle.nc_rules.specs.Lots.{Fixed};
+ghost use Rattle.nc_rules.specs.Refusals.{has_big};
 ghost use Rattle.nc_rules.specs.Refusals as rules;
+ghost use Rattle.nc_checks.specs.Due.{ok_as};
 ghost use Rattle.nc_checks.specs.Owned.{lent_all, IsOther, IsBehind};
 
 use nc_env::{CboOp, Illegal};
+use nc_lots::{has_big, has_label, lot_named, some_lot_waits};
 use nc_model::Owner;
-use nc_num::{Dir, HartNo, MapId, Place, Span};
+use nc_num::{Dir, HartNo, Label, MapId, Place, Span};
 use nc_own::Book;
 use nc_plan::{CboOff, Effects, needs};
-use nc_rules::{LotId, Refusal};
+use nc_rules::{Kind, Lot, LotId, Refusal};
 
 /// There are some bytes.
 pub(crate) fn some_bytes(len: u32) -> Result<(), Refusal>
@@ -30,7 +35,9 @@ pub(crate) fn some_bytes(len: u32) -> Result<(), Refusal>
 /// So many bytes of a range, from an offset in it on.
 pub(crate) fn part_of(range: Span, off: u32, len: u32) -> Result<Span, Refusal>
     requires { range.at + range.len < 2 ^ 32 }
-    ensures { result ≡ rules.part_of range off len }
+    ensures value { result ≡ rules.part_of range off len }
+    ensures len { IfOk result (λ part. part.len ≡ len) }
+    ensures ends { IfOk result (λ part. part.at + part.len ≤ range.at + range.len) }
 {
     if u64::from(off) + u64::from(len) <= u64::from(range.len) {
         Ok(Span {
@@ -40,6 +47,66 @@ pub(crate) fn part_of(range: Span, off: u32, len: u32) -> Result<Span, Refusal>
     } else {
         Err(Refusal::BadRange)
     }
+}
+
+/// No lot has this label.
+pub(crate) fn unused(lots: &[Lot], label: Label) -> Result<(), Refusal>
+    ensures { result ≡ rules.unused lots.now label }
+{
+    if has_label(lots, label) {
+        Err(Refusal::LabelUsed)
+    } else {
+        Ok(())
+    }
+}
+
+/// The lot of this label and kind.
+pub(crate) fn named(lots: &[Lot], label: Label, kind: Kind) -> Result<&Lot, Refusal>
+    ensures value { ok_as result (λ lot. lot.now) ≡ rules.named lots.now label kind }
+    ensures one { IfOk result (λ lot. Contains lots.now lot.now) }
+{
+    match lot_named(lots, label, kind) {
+        Some(lot) => Ok(lot),
+        None => Err(Refusal::NoLabel),
+    }
+}
+
+/// Whether an entry that bounces finds no room in a slot.
+fn some_big(lots: &[Lot]) -> bool
+    ensures { result ≡ list_any has_big lots.now }
+{
+    lots.iter().any(|lot| has_big(lot))
+}
+
+/// Each entry that bounces finds room in a slot.
+fn small_enough(lots: &[Lot]) -> Result<(), Refusal>
+    ensures { result ≡ rules.small_enough lots.now }
+{
+    if some_big(lots) {
+        Err(Refusal::TooBig)
+    } else {
+        Ok(())
+    }
+}
+
+/// Where a slot is wanted there are slots.
+fn slots_there(slots: u32, lots: &[Lot]) -> Result<(), Refusal>
+    ensures { (f : Fixed) → f.slots ≡ slots → result ≡ rules.slots_there f lots.now }
+{
+    if slots == 0 && some_lot_waits(lots) {
+        Err(Refusal::NoSlot)
+    } else {
+        Ok(())
+    }
+}
+
+/// New lots, where each entry that bounces may get one of so many slots.
+pub(crate) fn placeable(slots: u32, lots: Vec<Lot>) -> Result<Vec<Lot>, Refusal>
+    ensures { (f : Fixed) → f.slots ≡ slots → ok_as result (λ v. v.items) ≡ rules.placeable f lots.items }
+{
+    small_enough(&lots)?;
+    slots_there(slots, &lots)?;
+    Ok(lots)
 }
 
 /// The effect of a cache operation that the hart may do (RISC-V CMO 1.0).
@@ -89,12 +156,7 @@ fn told(found: Option<(Place, Owner)>) -> Result<(), Refusal>
 
 /// The same of several ranges that are to be lent together as the entries of a lot: those before a range are taken as
 /// lent already.
-pub(crate) fn owned_from(
-    me: HartNo,
-    id: LotId,
-    book: &Book,
-    ranges: &[Span],
-) -> Result<(), Refusal>
+pub(crate) fn owned_from(me: HartNo, id: LotId, book: &Book, ranges: &[Span]) -> Result<(), Refusal>
     requires few { length ranges.now ≤ 16 }
     requires first { id.first ≤ 1 }
     requires inside { All (λ range. range.at + range.len ≤ length book.now.owners) ranges.now }

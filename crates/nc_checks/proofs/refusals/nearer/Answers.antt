@@ -5,7 +5,7 @@ use Rattle.nc_checks.proofs.refusals.nearer.Goals as goal
 pub returns-then-end-at : goal.returns-then-end-at
 returns-then-end-at c = λ me owners foreign inside h.
     other_apart me owners c.args.range c.args.lent c.args.owner c.args.found inside
-      (apart_by c.args.range c.args.lent c.max-at.result c.min-end.result c.max-at.ensures c.min-end.ensures c.if-end-at.true) h
+    (apart_by c.args.range c.args.lent c.max-at.result c.min-end.result c.max-at.ensures c.min-end.ensures c.if-end-at.true) h
 
 pub returns-then-is_behind : goal.returns-then-is_behind
 returns-then-is_behind c = λ me owners foreign inside h.
@@ -15,4 +15,4 @@ returns-then-is_behind c = λ me owners foreign inside h.
 pub returns-else-is_behind : goal.returns-else-is_behind
 returns-else-is_behind c = λ me owners foreign inside h.
     other_kept me owners c.args.range c.args.lent c.args.owner c.args.found c.max-at.result inside c.max-at.ensures
-      (c.is_behind.ensures.before c.if-is_behind.false) (c.is_behind.ensures.some c.if-is_behind.false) h
+    (c.is_behind.ensures.before c.if-is_behind.false) (c.is_behind.ensures.some c.if-is_behind.false) h
