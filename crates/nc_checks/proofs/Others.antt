@@ -1,7 +1,7 @@
 -- The first byte of a range that is not a hart's own, once another range has been lent.
-use Rattle.std.proofs.Common.{◌≡◌, ℕ, ◌+◌, ◌-◌, ◌<◌, ◌≤◌, Bool, true, false, List, [], ◌∷◌, ◌++◌, length, Option, Some, None, cond, take, drop, get_or, Result, Ok, refl, sym, ap, ◌∙◌, subst, arith, inl, inr}
+use Rattle.std.proofs.Common.{◌≡◌, ℕ, ◌+◌, ◌<◌, ◌≤◌, Bool, true, false, List, [], ◌∷◌, ◌++◌, length, Option, Some, None, cond, take, drop, get_or, Result, Ok, refl, sym, ap, ◌∙◌, arith, inl, inr}
 use Rattle.std.specs.Prelude.{min, max, IfSome, IsSome}
-use Rattle.std.proofs.lemmas.Bool.{cases_lt, cases_Bool}
+use Rattle.std.proofs.lemmas.Bool.{cases_lt}
 use Rattle.std.proofs.lemmas.List.{take_more, at_drop_more, length-take-le}
 use Rattle.std.specs.Option.{option_map}
 use Rattle.nc_num.specs.Places.{covers}
@@ -9,7 +9,6 @@ use Rattle.nc_num.specs.declared.names.HartNo.{HartNo}
 use Rattle.nc_num.specs.declared.places.Place.{Place}
 use Rattle.nc_num.specs.declared.places.Span.{Span}
 use Rattle.nc_model.proofs.Faults.{covers-from, covers-low, covers-high, covers-below, covers-above, passes, fails, first_fault-is, first_fault-same}
-use Rattle.nc_model.specs.Laws.{IsFault}
 use Rattle.nc_model.specs.declared.owners.Owner.{Owner}
 use Rattle.nc_model.specs.declared.owners.Owner.TheVariants.{Lending}
 use Rattle.nc_model.specs.Rights.{is_thread}

@@ -1,4 +1,3 @@
-use Rattle.std.proofs.Common.{◌≡◌, arith}
 use Rattle.nc_checks.proofs.Others.{other_apart, other_kept, other_lent, apart_by, both_cover}
 use Rattle.nc_checks.proofs.refusals.nearer.Goals as goal
 

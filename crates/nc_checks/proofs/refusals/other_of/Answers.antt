@@ -1,4 +1,4 @@
-use Rattle.std.proofs.Common.{◌≡◌, ◌+◌, ◌≤◌, List, take, refl, sym, subst}
+use Rattle.std.proofs.Common.{◌+◌, ◌≤◌, List, take, refl, sym, subst}
 use Rattle.nc_model.specs.declared.owners.Owner.{Owner}
 use Rattle.nc_checks.proofs.Others.{lent_more, length-lent_all}
 use Rattle.nc_checks.specs.Owned.{lent_all, IsOther}

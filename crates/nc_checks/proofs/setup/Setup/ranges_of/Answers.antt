@@ -1,4 +1,4 @@
-use Rattle.std.proofs.Common.{◌≡◌, ◌+◌, ℕ, get_or, ap, ◌∙◌, arith}
+use Rattle.std.proofs.Common.{◌+◌, get_or, ap, ◌∙◌, arith}
 use Rattle.nc_num.specs.declared.places.Span.{Span}
 use Rattle.nc_rules.specs.Refusals.{part_of}
 use Rattle.nc_checks.proofs.RangeLaws.{ranges_on, parts_more, buffer_ends}
