@@ -1,4 +1,4 @@
--- A call of the machine that answers nothing has changed nothing, and no driver is at a search.
+-- A call of the machine that answers nothing has changed nothing, and an event that may not happen changes nothing.
 use Rattle.std.proofs.Common.{◌≡◌, ◌⊎◌, inl, inr, ℕ, Bool, true, false, List, [], ◌∷◌, refl, sym, ap, ◌∙◌, subst, ◌<◌, length}
 use Rattle.std.specs.Prelude.{Option, Some, None, Result, Ok, Err, if◌then◌else◌, slice_index_or, slice_set, is_some}
 use Rattle.std.proofs.lemmas.List.{set-get_or}
@@ -13,11 +13,8 @@ use Rattle.nc_pdma.specs.Channel.{ChannelState, new_channel}
 use Rattle.nc_pdma.specs.Steps.{read_next, write_next, ram_after}
 use Rattle.nc_ops.specs.declared.ops.Op.{Op}
 use Rattle.nc_rules.specs.Calls.{leaving, drain_next, left_with, may_fill, fill_next, fill_answer, evict_next, evict_answer, chan_read_told, chan_read_next, chan_write_told, chan_write_next}
-use Rattle.nc_scen.specs.Events.{IsThere}
 use Rattle.nc_rules.specs.Driver.{searching}
 use Rattle.nc_rules.specs.Outcomes.{outcome}
-use Rattle.nc_scripts.proofs.DriverLaws.{unsearched}
-use Rattle.nc_world.specs.State.{IsWorld}
 use Rattle.nc_num.specs.declared.names.HartNo.{HartNo}
 use Rattle.nc_scen.specs.declared.events.Event.{Event}
 use Rattle.nc_scen.specs.declared.events.Event.TheVariants as events
@@ -89,19 +86,19 @@ unfolding chan_write_next
 write_idle m c e =
     ap (λ (t : ChanStep). with_channel (with_ram m (ram_after m.cache.ram t)) c (write_next (channel_of m c) t)) e ∙ ap (λ (cs : List ChannelState). record m { channels = cs }) (set_same m.channels c)
 
--- ---- searches
+-- ---- events
 
--- no operation that is built searches for a slot
-none_searched : (w : WorldState) (h : ℕ) → IsWorld w → h < length w.machine.harts → searching (driver_of w h) ≡ None
-none_searched w h is lt = unsearched (length w.machine.cache.ram) (length w.machine.harts) (driver_of w h) (is.each h lt).driver
-
-try_off : (w : WorldState) (h : HartNo) → IsWorld w → h.0 < length w.machine.harts → enabled w (events.Try h) ≡ false
+no_search : (w : WorldState) (h : HartNo) → searching (driver_of w h.0) ≡ None → enabled w (events.Try h) ≡ false
 unfolding enabled
-try_off w h is lt = ap is_some (none_searched w h.0 is lt)
+no_search w h e = ap is_some e
 
-told_off : (w : WorldState) (h : HartNo) (got : Bool) → IsWorld w → h.0 < length w.machine.harts → enabled w (events.Told h got) ≡ false
+no_told : (w : WorldState) (h : HartNo) (got : Bool) → searching (driver_of w h.0) ≡ None → enabled w (events.Told h got) ≡ false
 unfolding enabled
-told_off w h got is lt = ap is_some (none_searched w h.0 is lt)
+no_told w h got e = ap is_some e
+
+no_drain : (w : WorldState) (h : HartNo) (i : ℕ) → leaving w.machine h.0 i ≡ None → enabled w (events.Drain h i) ≡ false
+unfolding enabled
+no_drain w h i e = ap is_some e
 
 -- an event that may not happen
 pub record IsOff (w : WorldState) (e : Event) : Type 0 where
@@ -117,11 +114,12 @@ off w e is = record {
   records = ap (λ (t : Bool). if t then records.Event e ∷ (outcome w e).records else []) is;
 }
 
-pub search_off : (w : WorldState) (e : Event) → IsWorld w → IsThere (length w.machine.harts) w.machine.size (length w.machine.cache.ram) e
-    → ((h : HartNo) × (e ≡ events.Try h)) ⊎ ((h : HartNo) × (got : Bool) × (e ≡ events.Told h got)) → IsOff w e
-search_off w e is there (inl p) =
-    let lt : p.0.0 < length w.machine.harts = subst (λ (x : Event). IsThere (length w.machine.harts) w.machine.size (length w.machine.cache.ram) x) p.1 there in
-    subst (IsOff w) (sym p.1) (off w (events.Try p.0) (try_off w p.0 is lt))
-search_off w e is there (inr p) =
-    let lt : p.0.0 < length w.machine.harts = subst (λ (x : Event). IsThere (length w.machine.harts) w.machine.size (length w.machine.cache.ram) x) p.2 there in
-    subst (IsOff w) (sym p.2) (off w (events.Told p.0 p.1) (told_off w p.0 p.1 is lt))
+-- a driver that is at no search
+pub try_off : (w : WorldState) (h : HartNo) → searching (driver_of w h.0) ≡ None → IsOff w (events.Try h)
+try_off w h e = off w (events.Try h) (no_search w h e)
+
+pub told_off : (w : WorldState) (h : HartNo) (got : Bool) → searching (driver_of w h.0) ≡ None → IsOff w (events.Told h got)
+told_off w h got e = off w (events.Told h got) (no_told w h got e)
+
+pub drain_off : (w : WorldState) (h : HartNo) (i : ℕ) → leaving w.machine h.0 i ≡ None → IsOff w (events.Drain h i)
+drain_off w h i e = off w (events.Drain h i) (no_drain w h i e)

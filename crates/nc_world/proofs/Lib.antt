@@ -2,6 +2,7 @@ pub mod Transfers
 pub mod Disabled
 pub mod Answered
 pub mod Parts
-pub mod Kept
+pub mod Fits
 pub mod Shapes
+pub mod Kept
 pub mod Starts

@@ -1,6 +1,6 @@
 -- A driver's step, by its parts: the outcome of it, what is recorded of the machine's part, and the world after it.
 use Rattle.std.proofs.Common.{◌≡◌, ℕ, ◌<◌, Bool, true, false, List, [], ◌∷◌, ◌++◌, length, refl, sym, ap, subst, ◌∙◌, Option, Some, None}
-use Rattle.std.specs.Prelude.{◌&&◌, if◌then◌else◌, slice_index_or, slice_set, is_some}
+use Rattle.std.specs.Prelude.{◌&&◌, if◌then◌else◌, not, slice_index_or, slice_set, is_some, is_none}
 use Rattle.std.proofs.lemmas.Bool.{and_parts}
 use Rattle.std.proofs.lemmas.List.{append-nil, append_assoc, set-get_or}
 use Rattle.nc_num.specs.declared.names.HartNo.{HartNo}
@@ -12,7 +12,9 @@ use Rattle.nc_hart.specs.Issue.{marks}
 use Rattle.nc_queue.specs.declared.entry.Entry.{Entry}
 use Rattle.nc_queue.specs.declared.entry.Entry.TheVariants as entries
 use Rattle.nc_model.specs.declared.touches.Touch.{Touch}
+use Rattle.nc_scen.specs.declared.events.Event.{Event}
 use Rattle.nc_scen.specs.declared.events.Event.TheVariants as events
+use Rattle.nc_slots.specs.SlotWords.{holder_of, tried}
 use Rattle.nc_rules.specs.declared.answers.Issued.TheVariants.{Queued, Passed}
 use Rattle.nc_rules.specs.declared.lots.Lot.{Lot}
 use Rattle.nc_rules.specs.declared.records.Record.{Record}
@@ -20,20 +22,26 @@ use Rattle.nc_rules.specs.declared.records.Record.TheVariants as records
 use Rattle.nc_rules.specs.declared.steps.Next.{Next}
 use Rattle.nc_rules.specs.declared.steps.Next.TheVariants as nexts
 use Rattle.nc_rules.specs.Machine.{MachineState, hart_of}
-use Rattle.nc_rules.specs.Calls.{issue_answer, leaving, drain_next}
-use Rattle.nc_rules.specs.Driver.{DriverState, Went, next_of, is_script, lent, stays, with_lots}
-use Rattle.nc_rules.specs.Turns.{Moved, moved, turned_by}
-use Rattle.nc_rules.specs.Events.{may_go_on, may_issue_step, is_out, enabled}
+use Rattle.nc_rules.specs.Calls.{issue_answer, leaving, drain_next, may_fill, fill_next, fill_answer, evict_next, evict_answer, chan_read_next, chan_read_told, chan_write_next, chan_write_told}
+use Rattle.nc_rules.specs.Driver.{DriverState, Went, next_of, searching, is_script, told, lent}
+use Rattle.nc_rules.specs.Turns.{Moved, moved}
+use Rattle.nc_rules.specs.Events.{may_go_on, may_issue_step, is_out, is_idle_step, enabled}
 use Rattle.nc_rules.specs.Next.{touched_by, after_outcome, performed, counted, next, event_records}
-use Rattle.nc_rules.specs.Outcomes.{Outcome, goes, runs, leaves, outcome, step_outcome, start_outcome, op_outcome, claim_outcome, poll_outcome, take_outcome, drain_outcome}
-use Rattle.nc_rules.specs.Records.{op_records, mark_record, touch_records, drain_records, moves_records}
+use Rattle.nc_rules.specs.Outcomes.{Outcome, goes, runs, leaves, outcome, step_outcome, start_outcome, op_outcome, claim_outcome, poll_outcome, take_outcome, drain_outcome, try_outcome, told_outcome, at_word, got_word, told_slots}
+use Rattle.nc_rules.specs.Records.{op_records, mark_record, touch_records, drain_records, try_records, told_records, answer_records, read_records, write_records, moves_records}
 use Rattle.nc_rules.specs.Sound.{IsMachine, OpIsThere}
-use Rattle.nc_rules.specs.Watched.{drain_touch}
-use Rattle.nc_rules.specs.World.{WorldState, driver_of, no_driver, with_moves, owners_moved, one_more}
+use Rattle.nc_rules.specs.Watched.{drain_touch, transaction_touch}
+use Rattle.nc_rules.specs.World.{WorldState, driver_of, no_driver, with_moves, owners_moved, grants_added, grants_ended, slots_back, pages_moved, one_more}
 use Rattle.nc_log.specs.Logs.{OpHasPlace, IssuedHasPlaces, fence_record, issued_records}
-use Rattle.nc_world.specs.Looks.{touches_after}
-use Rattle.nc_world.specs.State.{IsWorld}
+use Rattle.nc_world.specs.Looks.{touches_after, is_token, transaction_touch_in}
 use Rattle.nc_world.specs.Steps.{NextFits, CanAct, step_seen, step_machine, step_touch, act_records, is_going, went_on}
+use Rattle.nc_cache.specs.Cache.{line_at, held_by}
+use Rattle.nc_num.specs.declared.names.ChanNo.{ChanNo}
+use Rattle.nc_num.specs.declared.places.Block.{Block}
+use Rattle.nc_model.specs.declared.owners.Access.{Access}
+use Rattle.nc_model.specs.declared.owners.Access.TheVariants.{Read, Write}
+use Rattle.nc_pdma.specs.declared.channel.ChanStep.{ChanStep}
+use Rattle.nc_world.proofs.Answered.{transaction_is}
 use Rattle.nc_world.proofs.Transfers.{load_places, block_small}
 
 -- ---- what is recorded
@@ -125,11 +133,11 @@ step_outcome_is w h (nexts.Claim chan) going = refl
 step_outcome_is w h (nexts.Poll chan) going = refl
 step_outcome_is w h (nexts.Take buf) going = refl
 
-issue_outcome_is : (w : WorldState) (h : HartNo) (n : Next) → next_of (driver_of w h.0) ≡ n → is_going n ≡ true → outcome w (events.Issue h) ≡ parts_outcome w h n
+pub issue_outcome_is : (w : WorldState) (h : HartNo) (n : Next) → next_of (driver_of w h.0) ≡ n → is_going n ≡ true → outcome w (events.Issue h) ≡ parts_outcome w h n
 unfolding outcome
 issue_outcome_is w h n e going = ap (step_outcome w h) e ∙ step_outcome_is w h n going
 
-may_is : (w : WorldState) (h : HartNo) → may_issue_step w h ≡ true → enabled w (events.Issue h) ≡ true
+pub may_is : (w : WorldState) (h : HartNo) → may_issue_step w h ≡ true → enabled w (events.Issue h) ≡ true
 unfolding enabled
 may_is w h may = may
 
@@ -142,85 +150,134 @@ touched_is : (v : WorldState) (t : Option Touch) → counted (touched_by v t) �
 touched_is v None = refl
 touched_is v (Some t) = refl
 
--- what a driver moves that is built: owners alone
-pub plain_moves : (w : WorldState) (m : Moved) → m ≡ moved m.transfers m.answer → with_moves w m ≡ record w { owners = owners_moved w.owners m.transfers }
-plain_moves w m plain = ap (with_moves w) plain ∙ refl
+-- ---- the world after an event that may happen, and what it records
 
--- the world after a step
-pub step_next : (w : WorldState) (h : HartNo) (n : Next) → next_of (driver_of w h.0) ≡ n → may_issue_step w h ≡ true
-    → (went_on (driver_of w h.0) w.owners w.pages n (step_seen w.machine h n)).moves ≡ moved (went_on (driver_of w h.0) w.owners w.pages n (step_seen w.machine h n)).moves.transfers (went_on (driver_of w h.0) w.owners w.pages n (step_seen w.machine h n)).moves.answer
-    → next w (events.Issue h) ≡ record w {
-      machine = step_machine w.machine h n;
-      drivers = slice_set w.drivers h.0 (went_on (driver_of w h.0) w.owners w.pages n (step_seen w.machine h n)).driver;
-      owners = owners_moved w.owners (went_on (driver_of w h.0) w.owners w.pages n (step_seen w.machine h n)).moves.transfers;
-      events = one_more w.events;
-      touches = touches_after w.touches (step_touch w h n);
-    }
+on_enabled : (w : WorldState) (e : Event) (o : Outcome) → enabled w e ≡ true → outcome w e ≡ o → next w e ≡ counted (after_outcome w o)
 unfolding next performed
-step_next w h n e may plain =
-    let go = going w h n (next_may w h n e may) in
-    let went = went_on (driver_of w h.0) w.owners w.pages n (step_seen w.machine h n) in
-    let base : WorldState = record w { machine = step_machine w.machine h n; drivers = slice_set w.drivers h.0 went.driver } in
-    ap (λ (t : Bool). if t then counted (performed w (events.Issue h)) else w) (may_is w h may)
-    ∙ ap (λ (o : Outcome). counted (after_outcome w o)) (issue_outcome_is w h n e go)
-    ∙ ap (λ (v : WorldState). counted (touched_by v (step_touch w h n))) (plain_moves base went.moves plain)
-    ∙ touched_is (record base { owners = owners_moved w.owners went.moves.transfers }) (step_touch w h n)
+on_enabled w e o may is =
+    ap (λ (t : Bool). if t then counted (performed w e) else w) may ∙ ap (λ (x : Outcome). counted (after_outcome w x)) is
 
-pub step_records : (w : WorldState) (h : HartNo) (n : Next) → next_of (driver_of w h.0) ≡ n → may_issue_step w h ≡ true
-    → event_records w (events.Issue h) ≡ records.Event (events.Issue h) ∷ (touch_records (step_touch w h n) ++ act_records w.machine h (is_script (driver_of w h.0).phase) n ++ moves_records h (driver_of w h.0).op (went_on (driver_of w h.0) w.owners w.pages n (step_seen w.machine h n)).moves)
+-- a world with these parts is the one after the event
+pub same_next : (w u : WorldState) (e : Event) (o : Outcome) (m : Moved) → enabled w e ≡ true → outcome w e ≡ o → m ≡ o.moves
+    → u.machine ≡ o.machine → u.drivers ≡ o.drivers → u.owners ≡ owners_moved w.owners m.transfers → u.grants ≡ grants_ended (grants_added w.grants m.grants) m.ended
+    → u.events ≡ one_more w.events → u.touches ≡ touches_after w.touches o.touch → u.slots ≡ slots_back o.slots m.backs → u.pages ≡ pages_moved w.pages m.pages → u ≡ next w e
+same_next w u e o m may is moves machine drivers owners grants events touches slots pages =
+    same_world u _ machine drivers (owners ∙ ap (λ (x : Moved). owners_moved w.owners x.transfers) moves)
+    (grants ∙ ap (λ (x : Moved). grants_ended (grants_added w.grants x.grants) x.ended) moves) events touches
+    (slots ∙ ap (λ (x : Moved). slots_back o.slots x.backs) moves) (pages ∙ ap (λ (x : Moved). pages_moved w.pages x.pages) moves)
+    ∙ sym (touched_is (with_moves (record w { machine = o.machine; drivers = o.drivers; slots = o.slots }) o.moves) o.touch) ∙ sym (on_enabled w e o may is)
+
+pub told_by : (w : WorldState) (e : Event) (o : Outcome) → enabled w e ≡ true → outcome w e ≡ o → event_records w e ≡ records.Event e ∷ o.records
 unfolding event_records
-step_records w h n e may =
-    let go = going w h n (next_may w h n e may) in
-    ap (λ (t : Bool). if t then records.Event (events.Issue h) ∷ (outcome w (events.Issue h)).records else []) (may_is w h may)
-    ∙ ap (λ (o : Outcome). records.Event (events.Issue h) ∷ o.records) (issue_outcome_is w h n e go)
+told_by w e o may is =
+    ap (λ (t : Bool). if t then records.Event e ∷ (outcome w e).records else []) may ∙ ap (λ (x : Outcome). records.Event e ∷ x.records) is
 
 -- records that were added one after another
 pub joined : (start pushed touched acted all a b c : List Record) (x : Record) → pushed ≡ start ++ x ∷ [] → touched ≡ pushed ++ a → acted ≡ touched ++ b → all ≡ acted ++ c → all ≡ start ++ x ∷ (a ++ b ++ c)
 joined start pushed touched acted all a b c x p q r s =
     s ∙ ap (λ (l : List Record). l ++ c) (r ∙ ap (λ (l : List Record). l ++ b) (q ∙ ap (λ (l : List Record). l ++ a) p)) ∙ simp append_assoc
 
--- ---- a drain: no driver that is built has a lot, so a token moves nothing
+-- ---- a slot search
 
-lent_none : (d : DriverState) (label : Label) (first : ℕ) → d.lots ≡ [] → lent d label first ≡ stays d
-unfolding lent turned_by
-lent_none d label first none = subst (λ (ls : List Lot). lent (with_lots d ls) label first ≡ stays (with_lots d ls)) (sym none) refl
+pub search_may : (w : WorldState) (h : HartNo) (k : ℕ) → searching (driver_of w h.0) ≡ Some k → enabled w (events.Try h) ≡ true
+unfolding enabled
+search_may w h k e = ap is_some e
 
-driver_set : (w : WorldState) (h : ℕ) → slice_set w.drivers h (driver_of w h) ≡ w.drivers
-driver_set w h = set-get_or w.drivers h no_driver
+pub tell_may : (w : WorldState) (h : HartNo) (got : Bool) (k : ℕ) → searching (driver_of w h.0) ≡ Some k → enabled w (events.Told h got) ≡ true
+unfolding enabled
+tell_may w h got k e = ap is_some e
 
-pub leaves_is : (w : WorldState) (h : HartNo) (m : MachineState) (t : Option Touch) (rs : List Record) (e : Entry) → IsWorld w → h.0 < length w.machine.harts → leaves w h m t rs e ≡ runs w m t rs
-leaves_is w h m t rs (entries.Lend label first count) is lt =
-    ap (λ (went : Went). goes w h m went w.slots t rs) (lent_none (driver_of w h.0) label first (is.each h.0 lt).driver.lots)
-    ∙ ap (λ (ds : List DriverState). record { machine = m; drivers = ds; slots = w.slots; moves = moved [] None; touch = t; records = touch_records t ++ rs ++ [] }) (driver_set w h.0)
-    ∙ ap (λ (l : List Record). record { machine = m; drivers = w.drivers; slots = w.slots; moves = moved [] None; touch = t; records = l }) (append-nil (touch_records t ++ rs))
-leaves_is w h m t rs (entries.Store span bytes kind) is lt = refl
-leaves_is w h m t rs (entries.Cbo block op) is lt = refl
-leaves_is w h m t rs (entries.Reg chan off width value) is lt = refl
-leaves_is w h m t rs (entries.Mail buf to) is lt = refl
-leaves_is w h m t rs (entries.Mark pred succ) is lt = refl
+abbrev pub try_goes : WorldState → HartNo → ℕ → Outcome
+try_goes w h k = goes w h w.machine (told (driver_of w h.0) (is_none (holder_of w.slots k))) (tried w.slots h k) None (try_records h k (holder_of w.slots k))
 
-pub drain_outcome_is : (w : WorldState) (h : HartNo) (i : ℕ) (e : Entry) → IsWorld w → h.0 < length w.machine.harts → leaving w.machine h.0 i ≡ Some e
+abbrev pub tell_goes : WorldState → HartNo → Bool → ℕ → Outcome
+tell_goes w h got k =
+    goes w h w.machine (told (driver_of w h.0) (got_word got (holder_of w.slots k))) (told_slots got w.slots h k) None (told_records h k got (holder_of w.slots k))
+
+pub try_is : (w : WorldState) (h : HartNo) (k : ℕ) → searching (driver_of w h.0) ≡ Some k → outcome w (events.Try h) ≡ try_goes w h k
+unfolding outcome try_outcome
+try_is w h k e = ap (at_word w (try_outcome w h)) e
+
+pub tell_is : (w : WorldState) (h : HartNo) (got : Bool) (k : ℕ) → searching (driver_of w h.0) ≡ Some k
+    → outcome w (events.Told h got) ≡ tell_goes w h got k
+unfolding outcome told_outcome
+tell_is w h got k e = ap (at_word w (told_outcome w h got)) e
+
+pub got_is : (got : Bool) (holder : Option HartNo) → (got && is_none holder) ≡ got_word got holder
+got_is true holder = refl
+got_is false holder = refl
+
+-- ---- a drain
+
+pub drain_may : (w : WorldState) (h : HartNo) (i : ℕ) (e : Entry) → leaving w.machine h.0 i ≡ Some e → enabled w (events.Drain h i) ≡ true
+unfolding enabled
+drain_may w h i e out = ap is_some out
+
+leaves_plain : (w : WorldState) (h : HartNo) (m : MachineState) (t : Option Touch) (rs : List Record) (e : Entry) → is_token e ≡ false → leaves w h m t rs e ≡ runs w m t rs
+leaves_plain w h m t rs (entries.Lend label first count) plain = absurd (cc)
+leaves_plain w h m t rs (entries.Store span bytes kind) plain = refl
+leaves_plain w h m t rs (entries.Cbo block op) plain = refl
+leaves_plain w h m t rs (entries.Reg chan off width value) plain = refl
+leaves_plain w h m t rs (entries.Mail buf to) plain = refl
+leaves_plain w h m t rs (entries.Mark pred succ) plain = refl
+
+pub drain_is : (w : WorldState) (h : HartNo) (i : ℕ) (e : Entry) → leaving w.machine h.0 i ≡ Some e → is_token e ≡ false
     → outcome w (events.Drain h i) ≡ runs w (drain_next w.machine h.0 i) (drain_touch w h e) (drain_records w.machine h e)
 unfolding outcome drain_outcome
-drain_outcome_is w h i e is lt out =
-    ap (drain_outcome w h i) out ∙ leaves_is w h (drain_next w.machine h.0 i) (drain_touch w h e) (drain_records w.machine h e) e is lt
+drain_is w h i e out plain = ap (drain_outcome w h i) out ∙ leaves_plain w h (drain_next w.machine h.0 i) (drain_touch w h e) (drain_records w.machine h e) e plain
 
-drain_on : (w : WorldState) (h : HartNo) (i : ℕ) (e : Entry) → leaving w.machine h.0 i ≡ Some e → enabled w (events.Drain h i) ≡ true
+abbrev pub token_goes : WorldState → HartNo → ℕ → Label → ℕ → ℕ → Outcome
+token_goes w h i label first count =
+    goes w h (drain_next w.machine h.0 i) (lent (driver_of w h.0) label first) w.slots None (drain_records w.machine h (entries.Lend label first count))
+
+pub token_is : (w : WorldState) (h : HartNo) (i : ℕ) (label : Label) (first count : ℕ) → leaving w.machine h.0 i ≡ Some (entries.Lend label first count)
+    → outcome w (events.Drain h i) ≡ token_goes w h i label first count
+unfolding outcome drain_outcome
+token_is w h i label first count out = ap (drain_outcome w h i) out
+
+-- ---- records of an event without a touch, added one after another
+
+pub searched_records : (start pushed looked all a b : List Record) (x : Record) → pushed ≡ start ++ x ∷ [] → looked ≡ pushed ++ a → all ≡ looked ++ b → all ≡ start ++ x ∷ (a ++ b)
+searched_records start pushed looked all a b x p q r = r ∙ ap (λ (l : List Record). l ++ b) (q ∙ ap (λ (l : List Record). l ++ a) p) ∙ simp append_assoc
+
+-- ---- an event of the machine alone
+
+pub machine_next : (w u : WorldState) (e : Event) (m : MachineState) (t : Option Touch) (rs : List Record) → enabled w e ≡ true → outcome w e ≡ runs w m t rs → u.machine ≡ m → u.drivers ≡ w.drivers → u.owners ≡ w.owners
+    → u.grants ≡ w.grants → u.events ≡ one_more w.events → u.touches ≡ touches_after w.touches t → u.slots ≡ w.slots → u.pages ≡ w.pages → u ≡ next w e
+machine_next w u e m t rs may is machine drivers owners grants events touches slots pages =
+    same_next w u e (runs w m t rs) (moved [] None) may is refl machine drivers owners grants events touches slots pages
+
+pub fill_may : (w : WorldState) (h : HartNo) (b : Block) → may_fill w.machine h.0 b.0 ≡ true → enabled w (events.Fill h b) ≡ true
 unfolding enabled
-drain_on w h i e out = ap is_some out
+fill_may w h b e = e
 
--- the world after a drain, and what it records
-pub drain_is : (w : WorldState) (h : HartNo) (i : ℕ) (e : Entry) → IsWorld w → h.0 < length w.machine.harts → leaving w.machine h.0 i ≡ Some e
-    → next w (events.Drain h i) ≡ record w { machine = drain_next w.machine h.0 i; events = one_more w.events; touches = touches_after w.touches (drain_touch w h e) }
-unfolding next performed
-drain_is w h i e is lt out =
-    ap (λ (t : Bool). if t then counted (performed w (events.Drain h i)) else w) (drain_on w h i e out)
-    ∙ ap (λ (o : Outcome). counted (after_outcome w o)) (drain_outcome_is w h i e is lt out)
-    ∙ touched_is (record w { machine = drain_next w.machine h.0 i }) (drain_touch w h e)
+pub fill_is : (w : WorldState) (h : HartNo) (b : Block) → outcome w (events.Fill h b) ≡ runs w (fill_next w.machine h.0 b.0) None (answer_records w.machine.size (fill_answer w.machine h.0 b.0))
+unfolding outcome
+fill_is w h b = refl
 
-pub drain_recorded : (w : WorldState) (h : HartNo) (i : ℕ) (e : Entry) → IsWorld w → h.0 < length w.machine.harts → leaving w.machine h.0 i ≡ Some e
-    → event_records w (events.Drain h i) ≡ records.Event (events.Drain h i) ∷ (touch_records (drain_touch w h e) ++ drain_records w.machine h e)
-unfolding event_records
-drain_recorded w h i e is lt out =
-    ap (λ (t : Bool). if t then records.Event (events.Drain h i) ∷ (outcome w (events.Drain h i)).records else []) (drain_on w h i e out)
-    ∙ ap (λ (o : Outcome). records.Event (events.Drain h i) ∷ o.records) (drain_outcome_is w h i e is lt out)
+pub evict_may : (w : WorldState) (h : HartNo) (b : Block) → held_by (line_at w.machine.cache b.0) h.0 ≡ true → enabled w (events.Evict h b) ≡ true
+unfolding enabled
+evict_may w h b e = e
+
+pub evict_is : (w : WorldState) (h : HartNo) (b : Block) → outcome w (events.Evict h b) ≡ runs w (evict_next w.machine h.0 b.0) None (answer_records w.machine.size (evict_answer w.machine h.0 b.0))
+unfolding outcome
+evict_is w h b = refl
+
+pub read_may : (w : WorldState) (c : ChanNo) (t : ChanStep) → t ≡ chan_read_told w.machine c.0 → is_idle_step t ≡ false → enabled w (events.ChanRead c) ≡ true
+unfolding enabled
+read_may w c t e moves = ap (λ (s : ChanStep). not (is_idle_step s)) (sym e) ∙ ap not moves
+
+pub read_is : (w : WorldState) (c : ChanNo) → outcome w (events.ChanRead c) ≡ runs w (chan_read_next w.machine c.0) (transaction_touch w c Read (chan_read_told w.machine c.0)) (read_records c (chan_read_told w.machine c.0))
+unfolding outcome
+read_is w c = refl
+
+pub write_may : (w : WorldState) (c : ChanNo) (t : ChanStep) → t ≡ chan_write_told w.machine c.0 → is_idle_step t ≡ false → enabled w (events.ChanWrite c) ≡ true
+unfolding enabled
+write_may w c t e moves = ap (λ (s : ChanStep). not (is_idle_step s)) (sym e) ∙ ap not moves
+
+pub write_is : (w : WorldState) (c : ChanNo) → outcome w (events.ChanWrite c) ≡ runs w (chan_write_next w.machine c.0) (transaction_touch w c Write (chan_write_told w.machine c.0)) (write_records c (chan_write_told w.machine c.0))
+unfolding outcome
+write_is w c = refl
+
+pub transaction_touch_is : (w : WorldState) (c : ChanNo) (access : Access) (t u : ChanStep) → t ≡ u → transaction_touch_in w.owners w.grants c access t ≡ transaction_touch w c access u
+transaction_touch_is w c access t u e = sym (transaction_is w c access t) ∙ ap (transaction_touch w c access) e

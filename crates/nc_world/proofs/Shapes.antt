@@ -26,9 +26,10 @@ use Rattle.nc_rules.specs.Outcomes.{Outcome, leaves, at_word, outcome, step_outc
 use Rattle.nc_rules.specs.Sound.{IsMachine}
 use Rattle.nc_rules.specs.Watched.{drain_touch, transaction_touch}
 use Rattle.nc_rules.specs.World.{WorldState, driver_of, with_machine, with_driver, with_moves}
-use Rattle.nc_world.specs.State.{IsWorld}
+use Rattle.nc_scripts.specs.Drivers.{EachStaysDriver}
+use Rattle.nc_holds.specs.Holds.{Holds}
 use Rattle.nc_world.specs.Steps.{NextFits}
-use Rattle.nc_world.proofs.Kept.{next_fits}
+use Rattle.nc_world.proofs.Fits.{next_fits}
 
 touched_machine : (w : WorldState) (t : Option Touch) → (touched_by w t).machine ≡ w.machine
 touched_machine w None = refl
@@ -72,28 +73,28 @@ unfolding drain_outcome
 shape_drained w h i None is lt = shape_same w.machine
 shape_drained w h i (Some e) is lt = shape_leaves w h (drain_next w.machine h.0 i) _ _ e (shape_drain w.machine h.0 i is lt)
 
-shape_outcome : (w : WorldState) (e : Event) → IsMachine w.machine → IsWorld w → IsThere (length w.machine.harts) w.machine.size (length w.machine.cache.ram) e → SameShape w.machine (outcome w e).machine
+shape_outcome : (w : WorldState) (e : Event) → EachStaysDriver → IsMachine w.machine → Holds w → IsThere (length w.machine.harts) w.machine.size (length w.machine.cache.ram) e → SameShape w.machine (outcome w e).machine
 unfolding outcome
-shape_outcome w (events.Issue h) is world there = shape_step w h (next_of (driver_of w h.0)) is there (next_fits w h.0 world there)
-shape_outcome w (events.Try h) is world there = shape_word w (try_outcome w h) (searching (driver_of w h.0)) (try_machine w h)
-shape_outcome w (events.Told h got) is world there = shape_word w (told_outcome w h got) (searching (driver_of w h.0)) (told_machine w h got)
-shape_outcome w (events.Drain h i) is world there = shape_drained w h i (leaving w.machine h.0 i) is there
-shape_outcome w (events.Fill h b) is world there = shape_fill w.machine h.0 b.0 is there.0 there.1
-shape_outcome w (events.Evict h b) is world there = shape_evict w.machine h.0 b.0 is there.0 there.1
-shape_outcome w (events.ChanRead c) is world there = shape_chan_read w.machine c.0
-shape_outcome w (events.ChanWrite c) is world there = shape_chan_write w.machine c.0 is there
+shape_outcome w (events.Issue h) law is world there = shape_step w h (next_of (driver_of w h.0)) is there (next_fits w h.0 law world there)
+shape_outcome w (events.Try h) law is world there = shape_word w (try_outcome w h) (searching (driver_of w h.0)) (try_machine w h)
+shape_outcome w (events.Told h got) law is world there = shape_word w (told_outcome w h got) (searching (driver_of w h.0)) (told_machine w h got)
+shape_outcome w (events.Drain h i) law is world there = shape_drained w h i (leaving w.machine h.0 i) is there
+shape_outcome w (events.Fill h b) law is world there = shape_fill w.machine h.0 b.0 is there.0 there.1
+shape_outcome w (events.Evict h b) law is world there = shape_evict w.machine h.0 b.0 is there.0 there.1
+shape_outcome w (events.ChanRead c) law is world there = shape_chan_read w.machine c.0
+shape_outcome w (events.ChanWrite c) law is world there = shape_chan_write w.machine c.0 is there
 
-performed_shape : (w : WorldState) (e : Event) → IsMachine w.machine → IsWorld w → IsThere (length w.machine.harts) w.machine.size (length w.machine.cache.ram) e → SameShape w.machine (performed w e).machine
+performed_shape : (w : WorldState) (e : Event) → EachStaysDriver → IsMachine w.machine → Holds w → IsThere (length w.machine.harts) w.machine.size (length w.machine.cache.ram) e → SameShape w.machine (performed w e).machine
 unfolding performed
-performed_shape w e is world there = subst (SameShape w.machine) (sym (after_machine w (outcome w e))) (shape_outcome w e is world there)
+performed_shape w e law is world there = subst (SameShape w.machine) (sym (after_machine w (outcome w e))) (shape_outcome w e law is world there)
 
 shape_if : (w v : WorldState) (t : Bool) → SameShape w.machine v.machine → SameShape w.machine (if t then counted v else w).machine
 shape_if w v true same = same
 shape_if w v false same = shape_same w.machine
 
-pub next_shape : (w : WorldState) (e : Event) → IsMachine w.machine → IsWorld w → IsThere (length w.machine.harts) w.machine.size (length w.machine.cache.ram) e → SameShape w.machine (next w e).machine
+pub next_shape : (w : WorldState) (e : Event) → EachStaysDriver → IsMachine w.machine → Holds w → IsThere (length w.machine.harts) w.machine.size (length w.machine.cache.ram) e → SameShape w.machine (next w e).machine
 unfolding next
-next_shape w e is world there = shape_if w (performed w e) (enabled w e) (performed_shape w e is world there)
+next_shape w e law is world there = shape_if w (performed w e) (enabled w e) (performed_shape w e law is world there)
 
 -- what follows from a fact of a good answer
 pub on_ok : {X E : Type 0} (r : Result X E) (P Q : Type 0) → (P → Q) → OnOk r P → OnOk r Q

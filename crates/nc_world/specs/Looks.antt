@@ -1,8 +1,7 @@
 -- What is looked up in a world, beside the definitions of nc_rules.
-use Rattle.std.specs.Prelude.{ℕ, ◌+◌, ◌<◌, ◌≤◌, ◌==◌, ◌&&◌, Bool, List, length, Option, Some, None}
+use Rattle.std.specs.Prelude.{ℕ, ◌+◌, ◌<◌, ◌≤◌, ◌==◌, ◌&&◌, Bool, true, false, List, length, Option, Some, None}
 use Rattle.std.specs.List.{list_all}
 use Rattle.nc_num.specs.declared.names.ChanNo.{ChanNo}
-use Rattle.nc_num.specs.declared.names.HartNo.{HartNo}
 use Rattle.nc_num.specs.declared.places.Span.{Span}
 use Rattle.nc_model.specs.declared.touches.Touch.{Touch}
 use Rattle.nc_model.specs.declared.owners.Access.{Access}
@@ -13,18 +12,22 @@ use Rattle.nc_own.specs.Books.{owner_in}
 use Rattle.nc_pdma.specs.declared.channel.ChanStep.{ChanStep}
 use Rattle.nc_pdma.specs.declared.channel.ChanStep.TheVariants.{Idle, Moved, Error}
 use Rattle.nc_queue.specs.declared.entry.Entry.{Entry}
+use Rattle.nc_queue.specs.declared.entry.Entry.TheVariants as entries
 use Rattle.nc_rules.specs.Lines.{at_end}
-use Rattle.nc_rules.specs.Watched.{drain_touch}
 use Rattle.nc_rules.specs.World.{WorldState, one_more}
 
 -- every script is at its end, and every store queue is empty
 abbrev pub is_ended : WorldState → Bool
 is_ended w = at_end w && list_all (λ h. length h.queue.entries == 0) w.machine.harts
 
--- the touch that the drain of an entry is, where one may drain
-abbrev pub leaving_touch : WorldState → HartNo → Option Entry → Option Touch
-leaving_touch w h None = None
-leaving_touch w h (Some e) = drain_touch w h e
+-- a token of a lot
+abbrev pub is_token : Entry → Bool
+is_token (entries.Lend label first count) = true
+is_token (entries.Store span bytes kind) = false
+is_token (entries.Cbo block op) = false
+is_token (entries.Reg chan off width value) = false
+is_token (entries.Mail buf to) = false
+is_token (entries.Mark pred succ) = false
 
 -- one more touch, where there is one
 abbrev pub touches_after : ℕ → Option Touch → ℕ

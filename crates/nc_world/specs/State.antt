@@ -1,5 +1,5 @@
 -- What holds of every world, and how a proof tells worlds apart.
-use Rattle.std.specs.Prelude.{ℕ, ◌≡◌, ◌<◌, List, length, Option, refl}
+use Rattle.std.specs.Prelude.{ℕ, ◌≡◌, List, Option, refl}
 use Rattle.std.specs.Coded.{Coded, code_by, coded×, coded_list, coded_ℕ}
 use Rattle.nc_num.specs.declared.names.HartNo.{HartNo}
 use Rattle.nc_num.specs.declared.places.Span.{Span}
@@ -8,25 +8,14 @@ use Rattle.nc_model.specs.declared.owners.Owner.{Owner}
 use Rattle.nc_coherent.specs.Pages.{PageMap}
 use Rattle.nc_rules.specs.declared.records.Record.{Record}
 use Rattle.nc_rules.specs.Driver.{DriverState}
-use Rattle.nc_scripts.specs.Scripts.{IsDriver, IsDriven}
-use Rattle.nc_rules.specs.World.{WorldState, driver_of}
+use Rattle.nc_rules.specs.World.{WorldState}
+use Rattle.nc_holds.specs.Holds.{Holds}
 use Rattle.nc_machine.specs.State.{MachineShown}
 use Rattle.nc_world.specs.Shown.{Shown}
 
--- a driver of this machine
-pub record IsDriverOf (w : WorldState) (d : DriverState) : Type 0 where
-  pub driver : IsDriver (length w.machine.cache.ram) (length w.machine.harts) d
-  pub driven : IsDriven (length w.machine.cache.ram) (length w.machine.harts) d.fixed w.machine
-
--- a driver for each hart, each of this machine, and an owner for each place
-pub record IsWorld (w : WorldState) : Type 0 where
-  pub drivers : length w.drivers ≡ length w.machine.harts
-  pub each : (h : ℕ) → h < length w.machine.harts → IsDriverOf w (driver_of w h)
-  pub owners : length w.owners ≡ length w.machine.cache.ram
-
 -- a world, with what it keeps of the machine: the bytes of a block, and the coherent pool
 pub record IsKept (w : WorldState) (bytes : ℕ) (range : Span) : Type 0 where
-  pub world : IsWorld w
+  pub holds : Holds w
   pub size : bytes ≡ w.machine.size
   pub pool : range ≡ w.machine.pool
 

@@ -7,7 +7,7 @@ ghost use Rattle.nc_rules.specs.Calls.{may_issue, issue_next, issue_answer, leav
 ghost use Rattle.nc_rules.specs.Events.{is_over, is_idle_step};
 ghost use Rattle.nc_calls.specs.MachineLaws.{SameShape};
 ghost use Rattle.nc_rules.specs.Outcomes.{seen_of};
-ghost use Rattle.nc_rules.specs.Records.{op_records};
+ghost use Rattle.nc_rules.specs.Records.{op_records, drain_records};
 ghost use Rattle.nc_rules.specs.Sound.{IsMachine, IsBlockIn, EntryIsThere, OpIsThere};
 ghost use Rattle.nc_log.specs.Logs.{HasPlace, EntryHasPlace};
 ghost use Rattle.nc_world.specs.Looks.{IsTransactionIn};
@@ -129,22 +129,30 @@ pub(crate) fn peek(machine: &Machine, h: HartNo, i: u8) -> Option<Entry>
     machine.peek(h, i)
 }
 
-/// Entry i of hart h's queue leaves it, where it may.
-pub(crate) fn drain(machine: &mut Machine, h: HartNo, i: u8) -> Option<(Entry, BusList)>
+/// Entry i of hart h's queue, this one, leaves it, and is recorded with the transfers that it makes.
+pub(crate) fn drain(
+    machine: &mut Machine,
+    log: &mut Log,
+    size: u32,
+    h: HartNo,
+    i: u8,
+    entry: &Entry,
+)
+    requires size { size ≡ machine.old.machine.size }
     requires hart { h.0 < length machine.old.machine.harts }
+    requires leaves { leaving machine.old.machine h.0 i ≡ Some entry.now }
     requires spare { 1 ≤ machine.old.spare }
+    requires room { 8 ≤ log.old.room }
     ensures state { machine.new.machine ≡ drain_next machine.old.machine h.0 i }
-    ensures entry { IfSome result (λ p. leaving machine.old.machine h.0 i ≡ Some p.0) }
-    ensures bus { IfSome result (λ p. p.1 ≡ drain_transfers machine.old.machine h.0 p.0) }
-    ensures place { IfSome result (λ p. EntryHasPlace machine.old.machine.size p.0) }
-    ensures places { IfSome result (λ p. All (HasPlace machine.old.machine.size) p.1) }
-    ensures none { IfNone result (leaving machine.old.machine h.0 i ≡ None) }
-    ensures same { IfNone result (machine.new.machine ≡ machine.old.machine) }
-    ensures shape { SameShape machine.old.machine machine.new.machine }
+    ensures records { log.new.records ≡ log.old.records ++ drain_records machine.old.machine h entry.now }
+    ensures room { log.old.room ≤ log.new.room + 8 }
 {
-    calls_keep_shape();
     machine.sound();
-    machine.drain(h, i)
+    let Some((entry, bus)) = machine.drain(h, i) else {
+        unreachable!()
+    };
+    log.drained(size, h, &entry);
+    log.transfers(size, bus.as_slice());
 }
 
 /// A copy of a block comes to hart h, where it may.

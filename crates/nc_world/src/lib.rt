@@ -8,12 +8,10 @@
 #![tactic(auto)]
 
 mod acts;
-mod built;
 mod setup;
 mod steps;
 mod world;
 
-pub use built::is_built;
 pub use nc_log::RecordList;
 pub use nc_rules::{Answer, Record, Refusal, ToldAnswer};
 pub use nc_scen::Event;

@@ -3,7 +3,6 @@
 ghost use Rattle.std.specs.Prelude.{◌≡◌, ◌≤◌, ◌<◌, ◌+◌, [], length, map, All, IfOk};
 ghost use Rattle.std.specs.List.{range_with_len};
 ghost use Rattle.nc_scen.specs.Accepted.{IsAccepted};
-ghost use Rattle.nc_rules.specs.Built.{IsBuilt};
 ghost use Rattle.nc_rules.specs.Start.{first_driver};
 ghost use Rattle.nc_rules.specs.World.{first_owners, owned_by_harts, hart};
 
@@ -16,8 +15,7 @@ use std::alloc::Global;
 
 /// A driver for each hart.
 pub(crate) fn drivers_of(alloc: Global, sc: &Scenario) -> Result<Vec<Driver>, NoMemory>
-    requires accepted { IsAccepted sc.now }
-    requires built { IsBuilt sc.now }
+    requires { IsAccepted sc.now }
     ensures { IfOk result (λ v. v.items ≡ map (λ h. first_driver sc.now (hart h)) (range_with_len 0 (length sc.now.harts))) }
 {
     let harts = sc.harts.as_slice().len() as u8;

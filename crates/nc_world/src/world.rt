@@ -1,40 +1,43 @@
 //! The world, and its events.
 
-ghost use Rattle.std.specs.Prelude.{◌≡◌, ◌≤◌, ◌<◌, ◌+◌, ◌%◌, ◌==◌, ◌++◌, [], length, IfOk, OnOk, OnErr};
+ghost use Rattle.std.specs.Prelude.{◌≡◌, ◌≤◌, ◌<◌, ◌+◌, ◌%◌, ◌==◌, ◌++◌, [], Some, false, length, IfOk, OnOk, OnErr};
+ghost use Rattle.nc_queue.specs.declared.entry.Entry.TheVariants as entries;
 ghost use Rattle.std.specs.List.{list_all};
 ghost use Rattle.nc_model.specs.Touches.{piece_touch};
 ghost use Rattle.nc_slots.specs.SlotWords.{holder_of};
 ghost use Rattle.nc_scen.specs.Accepted.{IsAccepted};
 ghost use Rattle.nc_scen.specs.Events.{IsThere};
-ghost use Rattle.nc_rules.specs.Built.{IsBuilt};
 ghost use Rattle.nc_rules.specs.Calls.{leaving};
 ghost use Rattle.nc_rules.specs.Driver.{next_of, left_op, searching, is_script};
 ghost use Rattle.nc_rules.specs.Events.{may_go_on, may_issue_step};
 ghost use Rattle.nc_rules.specs.Lines.{at_end};
 ghost use Rattle.nc_calls.specs.MachineLaws.{SameShape};
 ghost use Rattle.nc_rules.specs.Next.{next, event_records};
-ghost use Rattle.nc_rules.specs.Sound.{IsMachine, OpIsThere, IsBlockIn, IsPieceIn};
+ghost use Rattle.nc_rules.specs.Sound.{IsMachine, OpIsThere, EntryIsThere, IsBlockIn, IsPieceIn};
 ghost use Rattle.nc_rules.specs.View.{bytes_of};
-ghost use Rattle.nc_rules.specs.Watched.{owner_of, issue_touch, op_touch, cbo_touch};
+ghost use Rattle.nc_rules.specs.Watched.{owner_of, issue_touch, op_touch, cbo_touch, drain_touch};
 ghost use Rattle.nc_rules.specs.World.{start, driver_of};
-ghost use Rattle.nc_world.specs.Looks.{is_ended, leaving_touch};
+ghost use Rattle.nc_world.specs.Looks.{is_ended, is_token};
 ghost use Rattle.nc_world.specs.Shown.{answer};
-ghost use Rattle.nc_world.specs.State.{IsWorld};
+ghost use Rattle.nc_scripts.specs.Drivers.{EachStaysDriver};
+ghost use Rattle.nc_holds.specs.Holds.{Holds, EventsKeepHolding, MovesMayBeMade};
 ghost use Rattle.nc_world.specs.Steps.{NextFits, step_touch};
 
 use crate::{acts, setup, steps};
 use nc_coherent::PagePool;
 use nc_driver::Driver;
 use nc_env::CboOp;
+use nc_holds::{events_keep_holding, moves_may_be_made, tokens_are_lent, worlds_begin};
 use nc_log::{Log, RecordList};
 use nc_machine::Machine;
-use nc_num::{Block, Bytes, ChanNo, HartNo, MemType, NoMemory, Span};
+use nc_num::{Block, Bytes, ChanNo, HartNo, Label, MemType, NoMemory, Span};
 use nc_own::{Access, Actor, Book, Touch};
 use nc_pdma_regs::CONTROL;
 use nc_plan::HartOp;
 use nc_queue::Entry;
 use nc_rules::{Next, Record};
 use nc_scen::{Event, Scenario};
+use nc_scripts::every_driver_stays;
 use nc_slots::Slots;
 use nc_touch::{Look, hart_touch, register_touch};
 use std::alloc::Global;
@@ -90,18 +93,18 @@ impl Model for World {
 impl World {
     // ---- the start
 
-    /// The world at the start of a scenario of those that are run.
+    /// The world at the start of a scenario.
     ///
     /// # Errors
     ///
     /// `NoMemory` where memory runs out.
     #[tactic(auto, unfolding(nc_rules::specs::World::start))]
     pub fn new(alloc: Global, sc: &Scenario) -> Result<World, NoMemory>
-        requires accepted { IsAccepted sc.now }
-        requires built { IsBuilt sc.now }
+        requires { IsAccepted sc.now }
         ensures at { IfOk result (λ w. w.at ≡ start sc.now) }
         ensures records { IfOk result (λ w. w.records ≡ []) }
     {
+        worlds_begin();
         Ok(World {
             size: sc.block_size,
             pool: sc.pool(),
@@ -254,9 +257,24 @@ impl World {
     /// What holds of every world.
     fn sound(&self)
         ensures machine { IsMachine self.now.at.machine }
-        ensures world { IsWorld self.now.at }
+        ensures holds { Holds self.now.at }
+        ensures stays { EachStaysDriver }
     {
+        every_driver_stays();
         self.machine.sound();
+    }
+
+    /// What holds of every world, and that each event keeps it.
+    fn laws(&self)
+        ensures machine { IsMachine self.now.at.machine }
+        ensures holds { Holds self.now.at }
+        ensures stays { EachStaysDriver }
+        ensures keeps { EventsKeepHolding }
+        ensures may { MovesMayBeMade }
+    {
+        self.sound();
+        events_keep_holding();
+        moves_may_be_made();
     }
 
     /// What the driver of hart h does next.
@@ -350,21 +368,18 @@ impl World {
         }
     }
 
-    /// The touch that the drain of entry i of hart h's queue is.
-    fn leaving_touch(&self, h: HartNo, i: u8) -> Option<Touch>
-        requires { h.0 < length self.now.at.machine.harts }
-        ensures { result ≡ leaving_touch self.now.at h (leaving self.now.at.machine h.0 i) }
+    /// The touch that the drain of an entry of hart h's queue is.
+    fn drain_touch(&self, h: HartNo, entry: &Entry) -> Option<Touch>
+        requires { EntryIsThere self.now.at.machine entry.now }
+        ensures { result ≡ drain_touch self.now.at h entry.now }
     {
-        let Some(entry) = acts::peek(&self.machine, h, i) else {
-            return None;
-        };
         match entry {
             Entry::Reg {
                 chan,
                 off,
                 width,
                 ..
-            } => register_touch(h, chan, off, width, self.machine.grantee(chan)),
+            } => register_touch(h, *chan, *off, *width, self.machine.grantee(*chan)),
             Entry::Store { .. }
             | Entry::Cbo { .. }
             | Entry::Mail { .. }
@@ -421,7 +436,6 @@ impl World {
 
     /// The event by its kind.
     fn make(&mut self, e: Event) -> Result<Stepped, NoMemory>
-        requires world { IsWorld self.old.at }
         requires there { IsThere (length self.old.at.machine.harts) self.old.at.machine.size (length self.old.at.machine.cache.ram) e }
         ensures answer { IfOk result (λ s. s ≡ answer self.old.at e) }
         ensures next { OnOk result (self.new.at ≡ next self.old.at e) }
@@ -430,7 +444,8 @@ impl World {
     {
         match e {
             Event::Issue(h) => self.go_on(h),
-            Event::Try(_) | Event::Told(..) => Ok(Stepped::Skipped),
+            Event::Try(h) => self.try_word(h),
+            Event::Told(h, got) => self.tell_word(h, got),
             Event::Drain(h, i) => self.drain(h, i),
             Event::Fill(h, b) => self.fill(h, b),
             Event::Evict(h, b) => self.evict(h, b),
@@ -447,6 +462,7 @@ impl World {
         ensures records { OnOk result (self.new.records ≡ self.old.records ++ event_records self.old.at (Event.Issue h)) }
         ensures err { OnErr result (self.new ≡ self.old) }
     {
+        self.laws();
         let next = self.coming(h);
         if !self.may_issue(h, &next) {
             return Ok(Stepped::Skipped);
@@ -467,9 +483,80 @@ impl World {
             by_script,
             &next,
         );
-        steps::turn(&mut self.book, moves.transfers.as_slice());
+        steps::carry(
+            &mut self.book,
+            &mut self.slots,
+            &mut self.pages,
+            h,
+            &moves,
+        );
         self.log.moves(h, n, &moves);
         self.touches = steps::touches_after(self.touches, touch);
+        self.events = steps::one_more(self.events);
+        Ok(Stepped::Done)
+    }
+
+    // ---- a slot search
+
+    /// Hart h's driver tries the slot word that is next in its search, where it is at one.
+    fn try_word(&mut self, h: HartNo) -> Result<Stepped, NoMemory>
+        requires { h.0 < length self.old.at.machine.harts }
+        ensures answer { IfOk result (λ s. s ≡ answer self.old.at (Event.Try h)) }
+        ensures next { OnOk result (self.new.at ≡ next self.old.at (Event.Try h)) }
+        ensures records { OnOk result (self.new.records ≡ self.old.records ++ event_records self.old.at (Event.Try h)) }
+        ensures err { OnErr result (self.new ≡ self.old) }
+    {
+        self.laws();
+        let Some(k) = self.searching(h) else {
+            return Ok(Stepped::Skipped);
+        };
+        let n = self.number(h);
+        let holder = self.slots.holder(k);
+        steps::reserve(&mut self.machine, &mut self.book, &mut self.log)?;
+        let moves = steps::told(&mut self.drivers, h, steps::is_free(holder))?;
+        self.log.push(&Record::Event(Event::Try(h)));
+        self.log.tried(h, k, holder);
+        let _ = self.slots.try_word(h, k);
+        steps::carry(
+            &mut self.book,
+            &mut self.slots,
+            &mut self.pages,
+            h,
+            &moves,
+        );
+        self.log.moves(h, n, &moves);
+        self.events = steps::one_more(self.events);
+        Ok(Stepped::Done)
+    }
+
+    /// The search of hart h's driver, where it is at one, is told that its slot word is got, or is not. A word that is
+    /// held is not got, whatever was told.
+    fn tell_word(&mut self, h: HartNo, got: bool) -> Result<Stepped, NoMemory>
+        requires { h.0 < length self.old.at.machine.harts }
+        ensures answer { IfOk result (λ s. s ≡ answer self.old.at (Event.Told h got)) }
+        ensures next { OnOk result (self.new.at ≡ next self.old.at (Event.Told h got)) }
+        ensures records { OnOk result (self.new.records ≡ self.old.records ++ event_records self.old.at (Event.Told h got)) }
+        ensures err { OnErr result (self.new ≡ self.old) }
+    {
+        self.laws();
+        let Some(k) = self.searching(h) else {
+            return Ok(Stepped::Skipped);
+        };
+        let n = self.number(h);
+        let holder = self.slots.holder(k);
+        steps::reserve(&mut self.machine, &mut self.book, &mut self.log)?;
+        let moves = steps::told(&mut self.drivers, h, steps::is_got(got, holder))?;
+        self.log.push(&Record::Event(Event::Told(h, got)));
+        self.log.told(h, k, got, holder);
+        steps::take_word(&mut self.slots, h, k, got);
+        steps::carry(
+            &mut self.book,
+            &mut self.slots,
+            &mut self.pages,
+            h,
+            &moves,
+        );
+        self.log.moves(h, n, &moves);
         self.events = steps::one_more(self.events);
         Ok(Stepped::Done)
     }
@@ -484,16 +571,81 @@ impl World {
         ensures records { OnOk result (self.new.records ≡ self.old.records ++ event_records self.old.at (Event.Drain h i)) }
         ensures err { OnErr result (self.new ≡ self.old) }
     {
-        let touch = self.leaving_touch(h, i);
-        steps::reserve(&mut self.machine, &mut self.book, &mut self.log)?;
-        let Some((e, bus)) = acts::drain(&mut self.machine, h, i) else {
+        self.laws();
+        let Some(entry) = acts::peek(&self.machine, h, i) else {
             return Ok(Stepped::Skipped);
         };
+        match entry {
+            Entry::Lend {
+                label,
+                first,
+                count,
+            } => self.drain_token(h, i, label, first, count),
+            Entry::Store { .. }
+            | Entry::Cbo { .. }
+            | Entry::Reg { .. }
+            | Entry::Mail { .. }
+            | Entry::Mark { .. } => self.drain_entry(h, i, &entry),
+        }
+    }
+
+    /// Entry i of hart h's queue, this one, drains: no token.
+    fn drain_entry(&mut self, h: HartNo, i: u8, entry: &Entry) -> Result<Stepped, NoMemory>
+        requires hart { h.0 < length self.old.at.machine.harts }
+        requires leaves { leaving self.old.at.machine h.0 i ≡ Some entry.now }
+        requires plain { is_token entry.now ≡ false }
+        ensures answer { IfOk result (λ s. s ≡ answer self.old.at (Event.Drain h i)) }
+        ensures next { OnOk result (self.new.at ≡ next self.old.at (Event.Drain h i)) }
+        ensures records { OnOk result (self.new.records ≡ self.old.records ++ event_records self.old.at (Event.Drain h i)) }
+        ensures err { OnErr result (self.new ≡ self.old) }
+    {
+        self.laws();
+        let touch = self.drain_touch(h, entry);
+        steps::reserve(&mut self.machine, &mut self.book, &mut self.log)?;
         self.log.push(&Record::Event(Event::Drain(h, i)));
         self.log.touch(touch);
-        self.log.drained(self.size, h, &e);
-        self.log.transfers(self.size, bus.as_slice());
+        acts::drain(&mut self.machine, &mut self.log, self.size, h, i, entry);
         self.touches = steps::touches_after(self.touches, touch);
+        self.events = steps::one_more(self.events);
+        Ok(Stepped::Done)
+    }
+
+    /// Entry i of hart h's queue drains, a token: the lot of this name is the device's.
+    fn drain_token(
+        &mut self,
+        h: HartNo,
+        i: u8,
+        label: Label,
+        first: u8,
+        count: u8,
+    ) -> Result<Stepped, NoMemory>
+        requires hart { h.0 < length self.old.at.machine.harts }
+        requires leaves { leaving self.old.at.machine h.0 i ≡ Some (entries.Lend label first count) }
+        ensures answer { IfOk result (λ s. s ≡ answer self.old.at (Event.Drain h i)) }
+        ensures next { OnOk result (self.new.at ≡ next self.old.at (Event.Drain h i)) }
+        ensures records { OnOk result (self.new.records ≡ self.old.records ++ event_records self.old.at (Event.Drain h i)) }
+        ensures err { OnErr result (self.new ≡ self.old) }
+    {
+        self.laws();
+        tokens_are_lent();
+        let n = self.number(h);
+        let entry = Entry::Lend {
+            label,
+            first,
+            count,
+        };
+        steps::reserve(&mut self.machine, &mut self.book, &mut self.log)?;
+        let moves = steps::lent(&mut self.drivers, h, label, first, count)?;
+        self.log.push(&Record::Event(Event::Drain(h, i)));
+        acts::drain(&mut self.machine, &mut self.log, self.size, h, i, &entry);
+        steps::carry(
+            &mut self.book,
+            &mut self.slots,
+            &mut self.pages,
+            h,
+            &moves,
+        );
+        self.log.moves(h, n, &moves);
         self.events = steps::one_more(self.events);
         Ok(Stepped::Done)
     }
@@ -507,6 +659,7 @@ impl World {
         ensures records { OnOk result (self.new.records ≡ self.old.records ++ event_records self.old.at (Event.Fill h b)) }
         ensures err { OnErr result (self.new ≡ self.old) }
     {
+        self.laws();
         steps::reserve(&mut self.machine, &mut self.book, &mut self.log)?;
         let Some(bus) = acts::fill(&mut self.machine, h, b) else {
             return Ok(Stepped::Skipped);
@@ -526,6 +679,7 @@ impl World {
         ensures records { OnOk result (self.new.records ≡ self.old.records ++ event_records self.old.at (Event.Evict h b)) }
         ensures err { OnErr result (self.new ≡ self.old) }
     {
+        self.laws();
         self.log.reserve()?;
         let Some(bus) = acts::evict(&mut self.machine, h, b) else {
             return Ok(Stepped::Skipped);
@@ -545,6 +699,7 @@ impl World {
         ensures records { OnOk result (self.new.records ≡ self.old.records ++ event_records self.old.at (Event.ChanRead c)) }
         ensures err { OnErr result (self.new ≡ self.old) }
     {
+        self.laws();
         self.log.reserve()?;
         let moved = acts::chan_read(&mut self.machine, c);
         if steps::is_idle(&moved) {
@@ -568,6 +723,7 @@ impl World {
         ensures records { OnOk result (self.new.records ≡ self.old.records ++ event_records self.old.at (Event.ChanWrite c)) }
         ensures err { OnErr result (self.new ≡ self.old) }
     {
+        self.laws();
         self.log.reserve()?;
         let moved = acts::chan_write(&mut self.machine, c);
         if steps::is_idle(&moved) {

@@ -10,4 +10,4 @@ returns-clause-shape c =
     let w = c.args.self.now.at in
     let v = c.make.new.self.at in
     on_ok c.make.result (v ≡ next w c.args.e) (SameShape w.machine v.machine)
-    (λ is. subst (λ (u : WorldState). SameShape w.machine u.machine) (sym is) (next_shape w c.args.e c.sound.ensures.machine c.sound.ensures.world c.requires.there)) c.make.ensures.next
+    (λ is. subst (λ (u : WorldState). SameShape w.machine u.machine) (sym is) (next_shape w c.args.e c.sound.ensures.stays c.sound.ensures.machine c.sound.ensures.holds c.requires.there)) c.make.ensures.next

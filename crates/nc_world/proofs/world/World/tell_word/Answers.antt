@@ -1,0 +1,175 @@
+use Rattle.std.proofs.Common.{◌≡◌, ◌<◌, ℕ, Bool, true, false, List, [], ◌∷◌, ◌++◌, length, refl, sym, ap, ◌∙◌, subst}
+use Rattle.std.specs.Prelude.{All, Option, Some, None, slice_set, is_none, ◌&&◌}
+use Rattle.std.proofs.lemmas.List.{append_assoc}
+use Rattle.nc_num.specs.declared.names.HartNo.{HartNo}
+use Rattle.nc_num.specs.declared.places.Span.{Span}
+use Rattle.nc_model.specs.declared.owners.Grant.{Grant}
+use Rattle.nc_model.specs.declared.owners.Owner.{Owner}
+use Rattle.nc_model.specs.declared.touches.Touch.{Touch}
+use Rattle.nc_slots.specs.SlotWords.{holder_of, tried}
+use Rattle.nc_rules.specs.declared.records.Record.{Record}
+use Rattle.nc_rules.specs.declared.records.Record.TheVariants as records
+use Rattle.nc_rules.specs.declared.steps.Seen.{Seen}
+use Rattle.nc_rules.specs.Calls.{leaving, drain_next}
+use Rattle.nc_rules.specs.Driver.{DriverState, Went, next_of, searching, is_script, told, lent}
+use Rattle.nc_rules.specs.Events.{may_issue_step}
+use Rattle.nc_rules.specs.Machine.{MachineState}
+use Rattle.nc_rules.specs.Next.{next, event_records}
+use Rattle.nc_rules.specs.Outcomes.{got_word, told_slots}
+use Rattle.nc_rules.specs.Records.{touch_records, drain_records, try_records, told_records, moves_records}
+use Rattle.nc_rules.specs.Sound.{IsMachine}
+use Rattle.nc_rules.specs.Turns.{Moved}
+use Rattle.nc_rules.specs.World.{WorldState, driver_of, owners_moved, grants_added, grants_ended, slots_back}
+use Rattle.nc_scripts.specs.Scripts.{IsRangeIn}
+use Rattle.nc_scripts.specs.Drivers.{IsSeenAt, IsLentAt}
+use Rattle.nc_holds.specs.Holds.{CanAddAll, AreBack, MayMove}
+use Rattle.nc_moves.specs.Shown.{seen_as}
+use Rattle.nc_world.specs.Inside.{state_of}
+use Rattle.nc_world.specs.Looks.{touches_after}
+use Rattle.nc_world.specs.Shown.{Shown}
+use Rattle.nc_world.specs.Steps.{step_seen, step_machine, step_touch, act_records, went_on}
+use Rattle.nc_scen.specs.declared.events.Event.TheVariants.{Told}
+use Rattle.nc_world.proofs.Fits.{word_there}
+use Rattle.nc_world.proofs.Kept.{tell_moves, kept_next}
+use Rattle.nc_world.proofs.Parts.{same_next, tell_goes, tell_is, tell_may, told_by, searched_records, got_is}
+use Rattle.nc_world.proofs.world.World.tell_word.Goals as goal
+
+pub take_word-requires : goal.take_word-requires
+take_word-requires c =
+    let w = state_of c.self.inside in
+    let h = c.args.h in
+    let got = c.args.got in
+    let k = c.in-Some.k in
+    let d = driver_of w h.0 in
+    let back = sym c.self.view_is in
+    let lt : h.0 < length w.machine.harts = subst (λ (v : Shown). h.0 < length v.at.machine.harts) back c.requires in
+    let sound : IsMachine w.machine = subst (λ (v : Shown). IsMachine v.at.machine) back c.laws.ensures.machine in
+    let at : searching d ≡ Some k = sym (subst (λ (v : Shown). c.searching.result ≡ searching (driver_of v.at h.0)) back c.searching.ensures) ∙ c.in-Some.is in
+    word_there w h.0 k c.laws.ensures.stays c.self.invariant.holds lt at
+
+pub carry-requires-clause-inside : goal.carry-requires-clause-inside
+carry-requires-clause-inside c =
+    let w = state_of c.self.inside in
+    let h = c.args.h in
+    let got = c.args.got in
+    let k = c.in-Some.k in
+    let d = driver_of w h.0 in
+    let back = sym c.self.view_is in
+    let lt : h.0 < length w.machine.harts = subst (λ (v : Shown). h.0 < length v.at.machine.harts) back c.requires in
+    let sound : IsMachine w.machine = subst (λ (v : Shown). IsMachine v.at.machine) back c.laws.ensures.machine in
+    let at : searching d ≡ Some k = sym (subst (λ (v : Shown). c.searching.result ≡ searching (driver_of v.at h.0)) back c.searching.ensures) ∙ c.in-Some.is in
+    let moves : seen_as c.in_ok-moves.moves ≡ (told d (got_word got (holder_of w.slots k))).moves =
+    c.in_ok-moves.ensures.moves ∙ ap (λ (b : Bool). (told d b).moves) (c.is_got.ensures ∙ ap (got_word got) c.holder-holder.ensures) in
+    let may = tell_moves w h got k (seen_as c.in_ok-moves.moves) c.laws.ensures.may sound c.self.invariant.holds lt at moves in
+    subst (λ (os : List Owner). All (λ t. IsRangeIn (length os) t.0) (seen_as c.in_ok-moves.moves).transfers) (sym c.in_ok-reserve.ensures.owners) may.transfers
+
+pub carry-requires-clause-grants : goal.carry-requires-clause-grants
+carry-requires-clause-grants c =
+    let w = state_of c.self.inside in
+    let h = c.args.h in
+    let got = c.args.got in
+    let k = c.in-Some.k in
+    let d = driver_of w h.0 in
+    let back = sym c.self.view_is in
+    let lt : h.0 < length w.machine.harts = subst (λ (v : Shown). h.0 < length v.at.machine.harts) back c.requires in
+    let sound : IsMachine w.machine = subst (λ (v : Shown). IsMachine v.at.machine) back c.laws.ensures.machine in
+    let at : searching d ≡ Some k = sym (subst (λ (v : Shown). c.searching.result ≡ searching (driver_of v.at h.0)) back c.searching.ensures) ∙ c.in-Some.is in
+    let moves : seen_as c.in_ok-moves.moves ≡ (told d (got_word got (holder_of w.slots k))).moves =
+    c.in_ok-moves.ensures.moves ∙ ap (λ (b : Bool). (told d b).moves) (c.is_got.ensures ∙ ap (got_word got) c.holder-holder.ensures) in
+    let may = tell_moves w h got k (seen_as c.in_ok-moves.moves) c.laws.ensures.may sound c.self.invariant.holds lt at moves in
+    subst (λ (gs : List Grant). CanAddAll (length c.reserve.new.book.owners) gs (seen_as c.in_ok-moves.moves).grants) (sym c.in_ok-reserve.ensures.grants)
+    (subst (λ (os : List Owner). CanAddAll (length os) w.grants (seen_as c.in_ok-moves.moves).grants) (sym c.in_ok-reserve.ensures.owners) may.grants)
+
+pub carry-requires-clause-backs : goal.carry-requires-clause-backs
+carry-requires-clause-backs c =
+    let w = state_of c.self.inside in
+    let h = c.args.h in
+    let got = c.args.got in
+    let k = c.in-Some.k in
+    let d = driver_of w h.0 in
+    let back = sym c.self.view_is in
+    let lt : h.0 < length w.machine.harts = subst (λ (v : Shown). h.0 < length v.at.machine.harts) back c.requires in
+    let sound : IsMachine w.machine = subst (λ (v : Shown). IsMachine v.at.machine) back c.laws.ensures.machine in
+    let at : searching d ≡ Some k = sym (subst (λ (v : Shown). c.searching.result ≡ searching (driver_of v.at h.0)) back c.searching.ensures) ∙ c.in-Some.is in
+    let moves : seen_as c.in_ok-moves.moves ≡ (told d (got_word got (holder_of w.slots k))).moves =
+    c.in_ok-moves.ensures.moves ∙ ap (λ (b : Bool). (told d b).moves) (c.is_got.ensures ∙ ap (got_word got) c.holder-holder.ensures) in
+    let may = tell_moves w h got k (seen_as c.in_ok-moves.moves) c.laws.ensures.may sound c.self.invariant.holds lt at moves in
+    subst (λ (ss : List (Option HartNo)). AreBack h ss (seen_as c.in_ok-moves.moves).backs) (sym (c.take_word.ensures)) may.backs
+
+pub carry-requires-clause-pages : goal.carry-requires-clause-pages
+carry-requires-clause-pages c =
+    let w = state_of c.self.inside in
+    let h = c.args.h in
+    let got = c.args.got in
+    let k = c.in-Some.k in
+    let d = driver_of w h.0 in
+    let back = sym c.self.view_is in
+    let lt : h.0 < length w.machine.harts = subst (λ (v : Shown). h.0 < length v.at.machine.harts) back c.requires in
+    let sound : IsMachine w.machine = subst (λ (v : Shown). IsMachine v.at.machine) back c.laws.ensures.machine in
+    let at : searching d ≡ Some k = sym (subst (λ (v : Shown). c.searching.result ≡ searching (driver_of v.at h.0)) back c.searching.ensures) ∙ c.in-Some.is in
+    let moves : seen_as c.in_ok-moves.moves ≡ (told d (got_word got (holder_of w.slots k))).moves =
+    c.in_ok-moves.ensures.moves ∙ ap (λ (b : Bool). (told d b).moves) (c.is_got.ensures ∙ ap (got_word got) c.holder-holder.ensures) in
+    let may = tell_moves w h got k (seen_as c.in_ok-moves.moves) c.laws.ensures.may sound c.self.invariant.holds lt at moves in
+    may.pages
+
+pub invariant_of-self-2 : goal.invariant_of-self-2
+invariant_of-self-2 c =
+    let w = state_of c.self.inside in
+    let h = c.args.h in
+    let got = c.args.got in
+    let k = c.in-Some.k in
+    let d = driver_of w h.0 in
+    let back = sym c.self.view_is in
+    let lt : h.0 < length w.machine.harts = subst (λ (v : Shown). h.0 < length v.at.machine.harts) back c.requires in
+    let sound : IsMachine w.machine = subst (λ (v : Shown). IsMachine v.at.machine) back c.laws.ensures.machine in
+    let at : searching d ≡ Some k = sym (subst (λ (v : Shown). c.searching.result ≡ searching (driver_of v.at h.0)) back c.searching.ensures) ∙ c.in-Some.is in
+    let moves : seen_as c.in_ok-moves.moves ≡ (told d (got_word got (holder_of w.slots k))).moves =
+    c.in_ok-moves.ensures.moves ∙ ap (λ (b : Bool). (told d b).moves) (c.is_got.ensures ∙ ap (got_word got) c.holder-holder.ensures) in
+    let same = same_next w _ (Told h got) (tell_goes w h got k) (seen_as c.in_ok-moves.moves) (tell_may w h got k at) (tell_is w h got k at) moves
+    c.in_ok-reserve.ensures.machine (c.in_ok-moves.ensures.driver ∙ ap (λ (b : Bool). slice_set w.drivers h.0 (told d b).driver) (c.is_got.ensures ∙ ap (got_word got) c.holder-holder.ensures))
+    (c.carry.ensures.owners ∙ ap (λ (os : List Owner). owners_moved os (seen_as c.in_ok-moves.moves).transfers) c.in_ok-reserve.ensures.owners)
+    (c.carry.ensures.grants ∙ ap (λ (gs : List Grant). grants_ended (grants_added gs (seen_as c.in_ok-moves.moves).grants) (seen_as c.in_ok-moves.moves).ended) c.in_ok-reserve.ensures.grants)
+    c.one_more-self-inside.ensures refl (c.carry.ensures.slots ∙ ap (λ (ss : List (Option HartNo)). slots_back ss (seen_as c.in_ok-moves.moves).backs) (c.take_word.ensures)) c.carry.ensures.pages in
+    kept_next w _ (Told h got) c.self.inside.size c.self.inside.pool c.laws.ensures.keeps c.laws.ensures.stays sound c.self.invariant lt same
+
+pub returns-clause-next : goal.returns-clause-next
+returns-clause-next c =
+    let w = state_of c.self.inside in
+    let h = c.args.h in
+    let got = c.args.got in
+    let k = c.in-Some.k in
+    let d = driver_of w h.0 in
+    let back = sym c.self.view_is in
+    let lt : h.0 < length w.machine.harts = subst (λ (v : Shown). h.0 < length v.at.machine.harts) back c.requires in
+    let sound : IsMachine w.machine = subst (λ (v : Shown). IsMachine v.at.machine) back c.laws.ensures.machine in
+    let at : searching d ≡ Some k = sym (subst (λ (v : Shown). c.searching.result ≡ searching (driver_of v.at h.0)) back c.searching.ensures) ∙ c.in-Some.is in
+    let moves : seen_as c.in_ok-moves.moves ≡ (told d (got_word got (holder_of w.slots k))).moves =
+    c.in_ok-moves.ensures.moves ∙ ap (λ (b : Bool). (told d b).moves) (c.is_got.ensures ∙ ap (got_word got) c.holder-holder.ensures) in
+    let same = same_next w _ (Told h got) (tell_goes w h got k) (seen_as c.in_ok-moves.moves) (tell_may w h got k at) (tell_is w h got k at) moves
+    c.in_ok-reserve.ensures.machine (c.in_ok-moves.ensures.driver ∙ ap (λ (b : Bool). slice_set w.drivers h.0 (told d b).driver) (c.is_got.ensures ∙ ap (got_word got) c.holder-holder.ensures))
+    (c.carry.ensures.owners ∙ ap (λ (os : List Owner). owners_moved os (seen_as c.in_ok-moves.moves).transfers) c.in_ok-reserve.ensures.owners)
+    (c.carry.ensures.grants ∙ ap (λ (gs : List Grant). grants_ended (grants_added gs (seen_as c.in_ok-moves.moves).grants) (seen_as c.in_ok-moves.moves).ended) c.in_ok-reserve.ensures.grants)
+    c.one_more-self-inside.ensures refl (c.carry.ensures.slots ∙ ap (λ (ss : List (Option HartNo)). slots_back ss (seen_as c.in_ok-moves.moves).backs) (c.take_word.ensures)) c.carry.ensures.pages in
+    same ∙ ap (λ (v : Shown). next v.at (Told h got)) c.self.view_is
+
+pub returns-clause-records : goal.returns-clause-records
+returns-clause-records c =
+    let w = state_of c.self.inside in
+    let h = c.args.h in
+    let got = c.args.got in
+    let k = c.in-Some.k in
+    let d = driver_of w h.0 in
+    let back = sym c.self.view_is in
+    let lt : h.0 < length w.machine.harts = subst (λ (v : Shown). h.0 < length v.at.machine.harts) back c.requires in
+    let sound : IsMachine w.machine = subst (λ (v : Shown). IsMachine v.at.machine) back c.laws.ensures.machine in
+    let at : searching d ≡ Some k = sym (subst (λ (v : Shown). c.searching.result ≡ searching (driver_of v.at h.0)) back c.searching.ensures) ∙ c.in-Some.is in
+    let moves : seen_as c.in_ok-moves.moves ≡ (told d (got_word got (holder_of w.slots k))).moves =
+    c.in_ok-moves.ensures.moves ∙ ap (λ (b : Bool). (told d b).moves) (c.is_got.ensures ∙ ap (got_word got) c.holder-holder.ensures) in
+    let number : c.number-n.result ≡ d.op = subst (λ (v : Shown). c.number-n.result ≡ (driver_of v.at h.0).op) back c.number-n.ensures in
+    let start = c.self.inside.log.records in
+    let x = records.Event (Told h got) in
+    let pushed = c.push.ensures.records ∙ ap (λ (l : List Record). l ++ x ∷ []) c.in_ok-reserve.ensures.records in
+    let looked = c.told-2.ensures.records ∙ ap (λ (o : Option HartNo). c.push.new.self.records ++ told_records h k got o) c.holder-holder.ensures in
+    let all = c.moves.ensures.records ∙ ap (λ (j : ℕ). c.told-2.new.self.records ++ moves_records h j (seen_as c.in_ok-moves.moves)) number ∙ ap (λ (v : Moved). c.told-2.new.self.records ++ moves_records h d.op v) moves in
+    let sum = searched_records start _ _ _ _ _ x pushed looked all ∙ ap (λ (l : List Record). start ++ l) (sym (told_by w (Told h got) (tell_goes w h got k) (tell_may w h got k at) (tell_is w h got k at))) in
+    subst (λ (v : Shown). c.moves.new.self.records ≡ v.records ++ event_records v.at (Told h got)) c.self.view_is sum
