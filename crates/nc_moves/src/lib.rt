@@ -4,8 +4,10 @@
 //! only for what it holds, so a step that moves nothing takes none. The driver makes moves; the world carries them out.
 #![tactic(auto)]
 
+mod entries;
 mod lists;
 mod moves;
+mod sides;
 
 pub use lists::{GrantList, IdList, SlotList, TransferList};
 pub use moves::Moves;

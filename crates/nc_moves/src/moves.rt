@@ -1,14 +1,16 @@
 //! What a step changes beside the machine.
 
-ghost use Rattle.std.specs.Prelude.{◌≡◌, [], OnOk, OnErr, IfOk};
-ghost use Rattle.std.specs.Prelude.{ℕ, ◌++◌, ◌<◌, ◌+◌, length};
-ghost use Rattle.nc_rules.specs.Turns.{moved, turned_by, transfers_of};
-ghost use Rattle.nc_moves.specs.Shown.{seen_as};
+ghost use Rattle.std.specs.Prelude.{◌≡◌, ◌≤◌, ◌<◌, [], OnOk, IfOk, All, length};
+ghost use Rattle.nc_rules.specs.Turns.{moved, turned_by, lots_after, slots_wanted, given_up};
+ghost use Rattle.nc_moves.specs.Shown.{seen_as, IsFew};
+ghost use Rattle.nc_moves.specs.Turned.{joined, of_turn, of_lots, after, of_one, of_lot, lent_lot, ended_lot};
 
+use crate::entries::{push_end, push_grants, push_ids, push_side, push_slots, push_wanted};
 use crate::lists::{GrantList, IdList, SlotList, TransferList};
+use crate::sides::{is_of, is_wanted, page_move, pages_given, pages_taken, side_after};
 use nc_model::Owner;
 use nc_num::{HartNo, NoMemory};
-use nc_rules::{Answer, PageMove, Turn};
+use nc_rules::{Answer, Lot, PageMove, Side, Turn};
 use std::alloc::Global;
 
 /// What a step changes beside the driver and the machine, and the answer that it gives.
@@ -43,41 +45,170 @@ impl Moves {
         }
     }
 
-    /// What two turns of the hart `me` do, one after the other, and an answer, where the hart has no lots. The error is
-    /// want of memory, where a turn changes owners.
+    /// What two turns of the hart `me` do to its lots, one after the other, and an answer. The slots start at the place
+    /// `slots_at`, which is at most 1,048,576. The error is want of memory, where a turn changes owners; a step whose
+    /// turns name no lots looks at none.
     #[tactic(auto, unfolding(nc_rules::specs::Turns::turned_by))]
     pub fn turn(
         alloc: Global,
         me: HartNo,
+        slots_at: u32,
+        lots: &[Lot],
         first: Turn,
         last: Turn,
         answer: Option<Answer>,
     ) -> Result<Moves, NoMemory>
-        ensures { (at : ℕ) → IfOk result (λ m. seen_as m ≡ turned_by me at [] first last answer) }
+        requires slots { slots_at ≤ 1048576 }
+        requires names { All (λ lot. lot.id.first < 2) lots.now }
+        requires few { IsFew (turned_by me slots_at lots.now first last answer) }
+        ensures { IfOk result (λ m. seen_as m ≡ turned_by me slots_at lots.now first last answer) }
     {
         let mut moves = Moves::answer(alloc, answer);
-        push_turn(&mut moves.transfers, me, first)?;
-        push_turn(&mut moves.transfers, me, last)?;
+        push_turn(&mut moves, me, slots_at, lots, Turn::Stay, first)?;
+        push_turn(&mut moves, me, slots_at, lots, first, last)?;
+        Ok(moves)
+    }
+
+    /// What an operation that gives up before it has lent anything changes: its lots' slots are given back. The error is
+    /// want of memory, where such a lot holds a slot.
+    pub fn given_up(alloc: Global, lots: &[Lot], answer: Answer) -> Result<Moves, NoMemory>
+        requires few { length (slots_wanted lots.now) ≤ 32 }
+        ensures { IfOk result (λ m. seen_as m ≡ given_up lots.now answer) }
+    {
+        let mut moves = Moves::answer(alloc, Some(answer));
+        push_wanted(&mut moves.backs, lots)?;
         Ok(moves)
     }
 }
 
-/// The changes of owners that a turn is, behind those that are there, where the hart has no lots.
-fn push_turn(transfers: &mut TransferList, me: HartNo, turn: Turn) -> Result<(), NoMemory>
-    requires room { length transfers.old < 34 }
-    ensures ok { OnOk result (transfers.new ≡ transfers.old ++ transfers_of me [] turn) }
-    ensures few { OnOk result (length transfers.new < length transfers.old + 2) }
-    ensures err { OnErr result (transfers.new ≡ transfers.old) }
+/// What the second turn does to the lots that the first one left, behind the moves that are there.
+fn push_turn(
+    moves: &mut Moves,
+    me: HartNo,
+    slots_at: u32,
+    lots: &[Lot],
+    first: Turn,
+    turn: Turn,
+) -> Result<(), NoMemory>
+    requires slots { slots_at ≤ 1048576 }
+    requires names { All (λ lot. lot.id.first < 2) lots.now }
+    requires few { IsFew (joined (seen_as moves.old) (of_turn me slots_at (lots_after first lots.now) turn)) }
+    ensures { OnOk result (seen_as moves.new ≡ joined (seen_as moves.old) (of_turn me slots_at (lots_after first lots.now) turn)) }
 {
     match turn {
-        Turn::Pass(range, to) => transfers.push(range, Owner::Passing(me, to)),
-        Turn::Own(range) => transfers.push(range, Owner::Thread(me)),
-        Turn::Stay
-        | Turn::Lend(_)
+        Turn::Stay => Ok(()),
+        Turn::Pass(range, to) => moves.transfers.push(range, Owner::Passing(me, to)),
+        Turn::Own(range) => moves.transfers.push(range, Owner::Thread(me)),
+        Turn::Lend(_)
         | Turn::Give(_)
         | Turn::Return(_)
         | Turn::Sync(_)
         | Turn::Settle(_)
-        | Turn::End(_) => Ok(()),
+        | Turn::End(_) => push_lots(moves, me, slots_at, lots, first, turn),
     }
+}
+
+/// The same, lot by lot.
+fn push_lots(
+    moves: &mut Moves,
+    me: HartNo,
+    slots_at: u32,
+    lots: &[Lot],
+    first: Turn,
+    turn: Turn,
+) -> Result<(), NoMemory>
+    requires slots { slots_at ≤ 1048576 }
+    requires names { All (λ lot. lot.id.first < 2) lots.now }
+    requires few { IsFew (joined (seen_as moves.old) (of_lots me slots_at first turn lots.now)) }
+    ensures { OnOk result (seen_as moves.new ≡ joined (seen_as moves.old) (of_lots me slots_at first turn lots.now)) }
+{
+    for lot in lots {
+        push_one(moves, me, slots_at, lot, first, turn)?;
+    }
+    Ok(())
+}
+
+/// What the second turn does to a lot, behind the first one.
+fn push_one(
+    moves: &mut Moves,
+    me: HartNo,
+    slots_at: u32,
+    lot: &Lot,
+    first: Turn,
+    turn: Turn,
+) -> Result<(), NoMemory>
+    requires slots { slots_at ≤ 1048576 }
+    requires name { lot.now.id.first < 2 }
+    requires few { IsFew (joined (seen_as moves.old) (of_one me slots_at turn (after first lot.now))) }
+    ensures { OnOk result (seen_as moves.new ≡ joined (seen_as moves.old) (of_one me slots_at turn (after first lot.now))) }
+{
+    match side_after(first, lot) {
+        Some(side) => {
+            if is_of(turn, lot) {
+                push_lot(moves, me, slots_at, lot, side, turn)
+            } else {
+                Ok(())
+            }
+        }
+        None => Ok(()),
+    }
+}
+
+/// What a turn of its name does to a lot that has this side.
+fn push_lot(
+    moves: &mut Moves,
+    me: HartNo,
+    slots_at: u32,
+    lot: &Lot,
+    side: Side,
+    turn: Turn,
+) -> Result<(), NoMemory>
+    requires slots { slots_at ≤ 1048576 }
+    requires name { lot.now.id.first < 2 }
+    requires few { IsFew (joined (seen_as moves.old) (of_lot me slots_at (record lot.now { side = side }) turn)) }
+    ensures { OnOk result (seen_as moves.new ≡ joined (seen_as moves.old) (of_lot me slots_at (record lot.now { side = side }) turn)) }
+{
+    match turn {
+        Turn::Stay | Turn::Pass(_, _) | Turn::Own(_) => Ok(()),
+        Turn::Lend(_) => push_lent(moves, me, slots_at, lot, side),
+        Turn::Give(_) => push_side(&mut moves.transfers, me, Side::Device, lot),
+        Turn::Return(_) => push_side(&mut moves.transfers, me, Side::Returning, lot),
+        Turn::Sync(_) => push_side(&mut moves.transfers, me, Side::Synced, lot),
+        Turn::Settle(_) => push_side(&mut moves.transfers, me, Side::Own, lot),
+        Turn::End(_) => push_ended(moves, me, lot),
+    }
+}
+
+/// The lot is being lent: where it was not lent before, its grants are added, and an area's pages are taken.
+fn push_lent(
+    moves: &mut Moves,
+    me: HartNo,
+    slots_at: u32,
+    lot: &Lot,
+    side: Side,
+) -> Result<(), NoMemory>
+    requires slots { slots_at ≤ 1048576 }
+    requires name { lot.now.id.first < 2 }
+    requires few { IsFew (joined (seen_as moves.old) (lent_lot me slots_at (record lot.now { side = side }))) }
+    ensures { OnOk result (seen_as moves.new ≡ joined (seen_as moves.old) (lent_lot me slots_at (record lot.now { side = side }))) }
+{
+    push_side(&mut moves.transfers, me, Side::Lending, lot)?;
+    if is_wanted(side) {
+        push_grants(&mut moves.grants, me, slots_at, lot)?;
+    }
+    moves.pages = page_move(moves.pages, pages_taken(lot, side));
+    Ok(())
+}
+
+/// The lot is gone: its bytes are the hart's or the pool's, its grants end, its slots and pages are given back.
+fn push_ended(moves: &mut Moves, me: HartNo, lot: &Lot) -> Result<(), NoMemory>
+    requires name { lot.now.id.first < 2 }
+    requires few { IsFew (joined (seen_as moves.old) (ended_lot me lot.now)) }
+    ensures { OnOk result (seen_as moves.new ≡ joined (seen_as moves.old) (ended_lot me lot.now)) }
+{
+    push_end(&mut moves.transfers, me, lot)?;
+    push_ids(&mut moves.ended, me, lot)?;
+    push_slots(&mut moves.backs, lot)?;
+    moves.pages = page_move(moves.pages, pages_given(lot));
+    Ok(())
 }

@@ -114,6 +114,13 @@ impl SgList {
         take_slot(&mut self.entries, i as usize);
     }
 
+    /// The direction in which it is mapped.
+    pub fn dir(&self) -> Dir
+        ensures { result ≡ self.now.dir }
+    {
+        self.dir
+    }
+
     /// The entries, in order.
     pub fn entries(&self) -> &[Entry]
         ensures value { result.now ≡ self.now.entries }
