@@ -42,11 +42,24 @@ impl PagePool {
         Ok(PagePool { at, free })
     }
 
+    /// The bytes of the pool: whole pages, the first at a multiple of 4,096, that end at 1,048,576 at most.
+    pub fn span(&self) -> Span
+        ensures value { result ≡ record { at = self.now.at; len = 4096 * length self.now.free } }
+        ensures whole { result.at % 4096 ≡ 0 }
+        ensures ends { result.at + result.len ≤ 1048576 }
+    {
+        Span {
+            at: self.at,
+            len: PAGE * self.free.len() as u32,
+        }
+    }
+
     /// The lowest run of n free pages, None exactly where there is no such run. This project's own: first fit.
     pub fn find(&self, n: u32) -> Option<Span>
         requires { 0 < n }
         ensures lowest { result ≡ lowest_span self.now n }
         ensures some { IfSome result (λ span. 0 < span.len) }
+        ensures whole { IfSome result (λ span. span.at % 4096 ≡ 0) }
         ensures ends { IfSome result (λ span. span.at + span.len ≤ 1048576) }
     {
         let first = first_run(&self.free, n as usize)?;

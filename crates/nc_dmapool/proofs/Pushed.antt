@@ -8,12 +8,12 @@ use Rattle.std.proofs.Math.Nat.{zero-div, zero-mod}
 use Rattle.nc_num.specs.declared.places.Span.{Span}
 use Rattle.nc_coherent.specs.Pages.{PageMap, lowest_span, with_pages}
 use Rattle.nc_dmapool.specs.Layouts.{Layout, Cuts, stride, each, offset_of, place_count}
-use Rattle.nc_dmapool.specs.Pieces.{Pieces, CanServe, IsTaken, given, given_at, given_on, lowest_free, with_piece, with_page, page_span}
+use Rattle.nc_dmapool.specs.Pieces.{Pieces, HasTaken, IsTaken, given, given_at, given_on, lowest_free, with_piece, with_page, page_span}
 use Rattle.nc_dmapool.specs.Marks.{Marks, IsPage, IsKept, IsSpot, AreTaken, used_set, shown, fresh_page, no_page, page_at, mark_at}
 use Rattle.nc_dmapool.proofs.Powers.{cuts}
 use Rattle.nc_dmapool.proofs.Offsets.{count_some, offset_within}
 use Rattle.nc_dmapool.proofs.Shown.{IsUsed, used_is, is_used, bool_cases, sets_same, of_insert, in_insert}
-use Rattle.nc_dmapool.proofs.Taking.{IsPageOf, free_apart, taken_now, taken_still, length_with}
+use Rattle.nc_dmapool.proofs.Taking.{IsPageOf, free_apart, taken_now, taken_still}
 
 none_of : (g s : ℕ) → 0 * g + 0 * s ≡ 0
 none_of g s = omega arith
@@ -154,24 +154,22 @@ given_none p map e = ap (given_at p map) e
 
 -- the pages taken stand by number in both
 
-pub taken_pages : (l : Layout) (ps : List Marks) (map' : PageMap) → CanServe map' (shown l ps) → IsKept l ps → AreTaken map' ps
-taken_pages l ps map' can is =
+pub taken_pages : (l : Layout) (ps : List Marks) (map' : PageMap) → HasTaken map' (shown l ps) → IsKept l ps → AreTaken map' ps
+taken_pages l ps map' has is =
     record {
-      taken = λ i lt. subst (IsTaken map') (get_or-map (λ (p : Marks). p.at) ps i no_page 0 lt) (can.taken i (omega (arith, length-map ps (λ (p : Marks). p.at), lt)));
+      taken = λ i lt. subst (IsTaken map') (get_or-map (λ (p : Marks). p.at) ps i no_page 0 lt) (has.taken i (omega (arith, length-map ps (λ (p : Marks). p.at), lt)));
       apart = is.apart;
     }
 
-pub serves : (l : Layout) (ps : List Marks) (map' : PageMap) → map'.at % 4096 ≡ 0 → map'.at + 4096 * length map'.free ≤ 1048576 → ((i : ℕ) → i < length ps → IsTaken map' (page_at ps i).at) → CanServe map' (shown l ps)
-serves l ps map' whole ends taken =
+pub has_taken : (l : Layout) (ps : List Marks) (map' : PageMap) → ((i : ℕ) → i < length ps → IsTaken map' (page_at ps i).at) → HasTaken map' (shown l ps)
+has_taken l ps map' taken =
     record {
-      whole = whole;
-      ends = ends;
       taken = λ i lt. let there : i < length ps = omega (arith, length-map ps (λ (p : Marks). p.at), lt) in subst (IsTaken map') (sym (get_or-map (λ (p : Marks). p.at) ps i no_page 0 there)) (taken i there);
     }
 
-pub serves_push : (l : Layout) (ps : List Marks) (m : PageMap) (at : ℕ) → m.at % 4096 ≡ 0 → m.at + 4096 * length m.free ≤ 1048576 → AreTaken m ps → IsPageOf m true at → CanServe (with_pages m (page_span at) false) (shown l (ps ++ fresh_page l at ∷ []))
-serves_push l ps m at whole ends are page =
-    serves l (ps ++ fresh_page l at ∷ []) (with_pages m (page_span at) false) whole (omega (arith, length_with m true false at page, ends))
+pub taken_push : (l : Layout) (ps : List Marks) (m : PageMap) (at : ℕ) → AreTaken m ps → IsPageOf m true at → HasTaken (with_pages m (page_span at) false) (shown l (ps ++ fresh_page l at ∷ []))
+taken_push l ps m at are page =
+    has_taken l (ps ++ fresh_page l at ∷ []) (with_pages m (page_span at) false)
     (λ i lt. elim (old_or_new ps (fresh_page l at) i lt) [
       | inl old ↦ subst (λ (p : Marks). IsTaken (with_pages m (page_span at) false) p.at) (sym (old_page ps (fresh_page l at) i old)) (taken_still m true at (page_at ps i).at page (are.taken i old))
       | inr new ↦ subst (λ (p : Marks). IsTaken (with_pages m (page_span at) false) p.at) (sym (new_page ps (fresh_page l at) i new)) (taken_now m true at page)
@@ -179,9 +177,6 @@ serves_push l ps m at whole ends are page =
 
 pub push_apart : (ps : List Marks) (m : PageMap) (at : ℕ) → AreTaken m ps → IsPageOf m true at → (i : ℕ) → i < length ps → (page_at ps i).at ≢ at
 push_apart ps m at are page i lt = free_apart m at (page_at ps i).at page (are.taken i lt)
-
-pub page_in_ram : (m : PageMap) (at : ℕ) → m.at % 4096 ≡ 0 → m.at + 4096 * length m.free ≤ 1048576 → IsPageOf m true at → (at % 4096 ≡ 0) × (at + 4096 ≤ 1048576)
-page_in_ram m at whole ends page = (omega (arith, page.starts, whole), omega (arith, page.starts, page.there, ends))
 
 none_on : (p : Pieces) (m : PageMap) (o : Option Span) → given_on p m o ≡ None → o ≡ None
 none_on p m None e = refl
@@ -193,9 +188,9 @@ no_page_given p m none e = none_on p m (lowest_span m 1) (sym (given_none p m no
 pub given_no_page : (p : Pieces) (m : PageMap) → lowest_free p ≡ None → lowest_span m 1 ≡ None → given p m ≡ None
 given_no_page p m none e = given_none p m none ∙ ap (given_on p m) e
 
-pub serves_same : (m : PageMap) (p q : Pieces) → q.pages ≡ p.pages → CanServe m p → CanServe m q
-serves_same m p q e can =
-    record { whole = can.whole; ends = can.ends; taken = subst (λ (xs : List ℕ). (i : ℕ) → i < length xs → IsTaken m (get_or xs i 0)) (sym e) can.taken }
+pub taken_same : (m : PageMap) (p q : Pieces) → q.pages ≡ p.pages → HasTaken m p → HasTaken m q
+taken_same m p q e has =
+    record { taken = subst (λ (xs : List ℕ). (i : ℕ) → i < length xs → IsTaken m (get_or xs i 0)) (sym e) has.taken }
 
 -- no piece in use starts at a page that is none of those taken
 
@@ -206,9 +201,9 @@ on_none l ps at is whole off u =
     let below : offset_of l u.number < 4096 = offset_within l (cuts l is.layout) u.number n in
     off u.page u.spot.page (omega (arith, u.spot.is, below, page.whole, whole))
 
-pub page_unused : (l : Layout) (ps : List Marks) (m : PageMap) (at : ℕ) → IsKept l ps → m.at % 4096 ≡ 0 → AreTaken m ps → IsPageOf m true at → fin.contains (used_set l ps) at ≡ false
+pub page_unused : (l : Layout) (ps : List Marks) (m : PageMap) (at : ℕ) → IsKept l ps → at % 4096 ≡ 0 → AreTaken m ps → IsPageOf m true at → fin.contains (used_set l ps) at ≡ false
 page_unused l ps m at is whole are page =
     elim (bool_cases (fin.contains (used_set l ps) at)) [
-      | inl used ↦ absurd (on_none l ps at is (omega (arith, page.starts, whole)) (push_apart ps m at are page) (used_is l ps at used))
+      | inl used ↦ absurd (on_none l ps at is whole (push_apart ps m at are page) (used_is l ps at used))
       | inr free ↦ free
     ]

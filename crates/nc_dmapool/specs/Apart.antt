@@ -39,7 +39,7 @@ abbrev pub after : Pieces → List Call → Pieces
 after p [] = p
 after p (c ∷ cs) = after (after_one p c) cs
 
--- each call meets what it asks
+-- each call meets what it asks, and the pages are whole and in RAM, as each pool of pages has them
 abbrev pub CanCall : Pieces → Call → Type 0
 CanCall p (Alloc map) = CanServe map p
 CanCall p (Free x) = Unit {0}

@@ -92,6 +92,10 @@ pub record IsTaken (map : PageMap) (x : ℕ) : Type 0 where
   pub starts : x ≡ map.at + 4096 * number
   pub taken : slice_index_or map.free number true ≡ false
 
+-- the pages that the pool of pieces took are taken there
+pub record HasTaken (map : PageMap) (p : Pieces) : Type 0 where
+  pub taken : (i : ℕ) → i < length p.pages → IsTaken map (slice_index_or p.pages i 0)
+
 -- the pages are whole and in RAM, as each pool of pages has them, and those that the pool of pieces took are taken there
 pub record CanServe (map : PageMap) (p : Pieces) : Type 0 where
   pub whole : map.at % 4096 ≡ 0

@@ -5,7 +5,7 @@ ghost use Rattle.std.specs.FinSet as set;
 ghost use Rattle.nc_coherent.specs.Pages.{lowest_span, with_pages};
 ghost use Rattle.nc_dmapool.specs.Apart.{PiecesAreApart};
 ghost use Rattle.nc_dmapool.specs.Layouts.{layout_of};
-ghost use Rattle.nc_dmapool.specs.Pieces.{CanServe, IsTaken, all_back, given, lowest_used, page_span, pool_of, without_piece};
+ghost use Rattle.nc_dmapool.specs.Pieces.{HasTaken, IsTaken, all_back, given, lowest_used, page_span, pool_of, without_piece};
 ghost use Rattle.nc_dmapool.specs.Marks.{AreTaken, fresh_page};
 
 use crate::layout::{Layout, PAGE, PoolBad};
@@ -86,19 +86,18 @@ impl DmaPool {
     /// Gives the lowest free place on the pages taken; where there is none, takes the lowest free page of `pages`, and
     /// gives its first place.
     ///
-    /// `pages` starts at a multiple of 4,096 and ends at 1,048,576 at most, as each pool of pages does, and each page of
-    /// this pool is taken there.
+    /// Each page of this pool is to be taken in `pages`, and is so afterwards.
     ///
     /// # Errors
     ///
     /// `NoPage` exactly where no place and no page is free; `NoMemory` where memory runs out. Nothing is changed then.
     pub fn alloc(&mut self, pages: &mut PagePool) -> Result<Span, AllocNo>
-        requires { CanServe pages.old self.old }
+        requires { HasTaken pages.old self.old }
         ensures given { IfOk result (λ piece. (given self.old pages.old ≡ Some (record { at = piece.at; pool = self.new; pages = pages.new })) × (piece.len ≡ self.old.layout.size)) }
         ensures fresh { IfOk result (λ piece. set.contains self.old.used piece.at ≡ false) }
         ensures no_page { IfErr result (λ e. (e ≡ AllocNo.NoPage) ↔ (given self.old pages.old ≡ None)) }
         ensures stays { OnErr result ((self.new ≡ self.old) × (pages.new ≡ pages.old)) }
-        ensures serves { CanServe pages.new self.new }
+        ensures taken { HasTaken pages.new self.new }
     {
         let len = self.layout.size();
         if let Some(spot) = lowest(&self.layout, &self.pages, false) {
@@ -133,7 +132,7 @@ impl DmaPool {
     ///
     /// `InUse` exactly where a piece is in use, with the pool unchanged and the lowest such place.
     pub fn destroy(self, pages: &mut PagePool) -> Result<(), InUse>
-        requires { CanServe pages.old self }
+        requires { HasTaken pages.old self }
         ensures back { OnOk result ((lowest_used self ≡ None) × (pages.new ≡ all_back pages.old self.pages)) }
         ensures in_use { IfErr result (λ e. (lowest_used self ≡ Some e.at.0) × (e.pool ≡ self) × (pages.new ≡ pages.old)) }
     {
@@ -150,9 +149,9 @@ impl DmaPool {
 
 /// Takes the lowest free page, and gives the place of its first piece, which is in use then.
 fn take_page(layout: &Layout, own: &mut Vec<Page>, pages: &mut PagePool) -> Result<u32, AllocNo>
-    requires whole { pages.old.at % 4096 ≡ 0 }
-    requires ends { pages.old.at + 4096 * length pages.old.free ≤ 1048576 }
     ensures taken { IfOk result (λ at. (lowest_span pages.old 1 ≡ Some (page_span at)) × (own.new.items ≡ own.old.items ++ fresh_page layout.now at ∷ []) × (pages.new ≡ with_pages pages.old (page_span at) false)) }
+    ensures whole { IfOk result (λ at. at % 4096 ≡ 0) }
+    ensures ends { IfOk result (λ at. at + 4096 ≤ 1048576) }
     ensures no_page { IfErr result (λ e. (e ≡ AllocNo.NoPage) ↔ (lowest_span pages.old 1 ≡ None)) }
     ensures stays { OnErr result ((own.new.items ≡ own.old.items) × (pages.new ≡ pages.old)) }
 {
@@ -172,9 +171,7 @@ fn take_page(layout: &Layout, own: &mut Vec<Page>, pages: &mut PagePool) -> Resu
 
 /// Gives pages back.
 fn give_back(own: &[Page], pages: &mut PagePool)
-    requires whole { pages.old.at % 4096 ≡ 0 }
-    requires ends { pages.old.at + 4096 * length pages.old.free ≤ 1048576 }
-    requires taken { AreTaken pages.old own.now }
+    requires { AreTaken pages.old own.now }
     ensures { pages.new ≡ all_back pages.old (map (λ p. p.at) own.now) }
 {
     for page in own {

@@ -1,5 +1,5 @@
 -- What a pool that serves keeps, and how many pieces are in use.
-use Rattle.std.proofs.Common.{◌≡◌, ℕ, ◌+◌, ◌-◌, ◌*◌, ◌%◌, ◌<◌, ◌≤◌, Bool, true, false, List, [], length, replicate, refl, sym, ap, subst, ◌∙◌, arith, Option, Some, None, Result, Ok, Err}
+use Rattle.std.proofs.Common.{◌≡◌, ℕ, ◌+◌, ◌-◌, ◌<◌, Bool, true, false, List, [], length, replicate, refl, sym, ap, subst, ◌∙◌, arith, Option, Some, None, Result, Ok, Err}
 use Rattle.std.specs.Prelude.{cond}
 use Rattle.std.specs.Ordering.{nat_cmp}
 use Rattle.std.specs.Cmp.{nat_cmp_total}
@@ -10,7 +10,7 @@ use Rattle.nc_num.specs.declared.places.Span.{Span}
 use Rattle.nc_coherent.specs.Pages.{PageMap, lowest_span}
 use Rattle.nc_dmapool.specs.declared.layout.PoolBad.{PoolBad}
 use Rattle.nc_dmapool.specs.Layouts.{Layout}
-use Rattle.nc_dmapool.specs.Pieces.{Pieces, Given, CanServe, given, given_at, given_on, lowest_free, pool_of}
+use Rattle.nc_dmapool.specs.Pieces.{Pieces, Given, HasTaken, given, given_at, given_on, lowest_free, pool_of}
 use Rattle.nc_dmapool.specs.Apart.{after_free}
 use Rattle.nc_pieces.specs.Serving.{IsServing, none_held}
 
@@ -59,9 +59,9 @@ none_is n off = omega (arith, off)
 pub one_used : (s : fin.FinSet nat_cmp) (x : ℕ) → fin.contains s x ≡ true → 0 < fin.len s
 one_used s x e = none_is (fin.len s) (λ none. let off : false ≡ true = sym (ap (λ t. fin.contains t x) (empty_of_len s none) ∙ contains-empty nat_cmp x) ∙ e in cc)
 
-pub freed_can : (m : PageMap) (p : Pieces) (x : ℕ) (b : Bool) → CanServe m p → CanServe m (after_free p x b)
-freed_can m p x true can = record { whole = can.whole; ends = can.ends; taken = can.taken }
-freed_can m p x false can = can
+pub freed_has : (m : PageMap) (p : Pieces) (x : ℕ) (b : Bool) → HasTaken m p → HasTaken m (after_free p x b)
+freed_has m p x true has = record { taken = has.taken }
+freed_has m p x false has = has
 
 -- at the start
 
@@ -81,11 +81,11 @@ starts_empty r p e = subst IsEmpty e (pool_is_empty r)
 pub starts_with_none : (r : Result Layout PoolBad) (p : Pieces) → pool_of r ≡ Ok p → 0 ≡ fin.len p.used
 starts_with_none r p e = sym (ap fin.len (starts_empty r p e).1 ∙ len-empty nat_cmp)
 
-none_taken : (m : PageMap) (p : Pieces) → m.at % 4096 ≡ 0 → m.at + 4096 * length m.free ≤ 1048576 → p.pages ≡ [] → CanServe m p
-none_taken m p whole ends e = record { whole = whole; ends = ends; taken = λ i lt. absurd (omega (arith, ap length e, lt)) }
+none_taken : (m : PageMap) (p : Pieces) → p.pages ≡ [] → HasTaken m p
+none_taken m p e = record { taken = λ i lt. absurd (omega (arith, ap length e, lt)) }
 
-pub starts_serving : (r : Result Layout PoolBad) (p : Pieces) (m : PageMap) (held : List (Option ℕ)) → pool_of r ≡ Ok p → m.at % 4096 ≡ 0 → m.at + 4096 * length m.free ≤ 1048576 → length held ≡ 1000 → IsServing (record { pool = p; pages = m; held = held })
-starts_serving r p m held e whole ends labels = record { can = none_taken m p whole ends (starts_empty r p e).0; labels = labels }
+pub starts_serving : (r : Result Layout PoolBad) (p : Pieces) (m : PageMap) (held : List (Option ℕ)) → pool_of r ≡ Ok p → length held ≡ 1000 → IsServing (record { pool = p; pages = m; held = held })
+starts_serving r p m held e labels = record { pages = none_taken m p (starts_empty r p e).0; labels = labels }
 
 -- so many labels, none of which has a piece
 nobody : ℕ → List (Option ℕ)

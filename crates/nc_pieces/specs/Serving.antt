@@ -6,7 +6,7 @@ use Rattle.nc_coherent.specs.Pages.{PageMap}
 use Rattle.nc_dmapool.specs.declared.layout.PoolBad.{PoolBad}
 use Rattle.nc_dmapool.specs.declared.layout.PoolBad.TheVariants.{Size, Align, Boundary}
 use Rattle.nc_dmapool.specs.Layouts.{layout_of}
-use Rattle.nc_dmapool.specs.Pieces.{Pieces, pieces_code, Given, CanServe, given, pool_of}
+use Rattle.nc_dmapool.specs.Pieces.{Pieces, pieces_code, Given, HasTaken, given, pool_of}
 use Rattle.nc_dmapool.specs.Apart.{after_free}
 use Rattle.nc_values.specs.Outcomes.{◌>>=◌}
 use Rattle.nc_rules.specs.Lines.{words, hex_digits}
@@ -119,5 +119,5 @@ GivesPool view (Err e) r = FailsPool e r
 
 -- what holds of a pool that serves
 pub record IsServing (s : Serving) : Type 0 where
-  pub can : CanServe s.pages s.pool
+  pub pages : HasTaken s.pages s.pool
   pub labels : length s.held ≡ 1000

@@ -3,7 +3,7 @@
 #![tactic(auto)]
 
 ghost use Rattle.std.specs.Prelude.{◌≡◌, IfSome};
-ghost use Rattle.nc_dmapool.specs.Pieces.{CanServe};
+ghost use Rattle.nc_dmapool.specs.Pieces.{HasTaken};
 
 use nc_coherent::PagePool;
 use nc_dmapool::DmaPool;
@@ -28,7 +28,7 @@ struct Both {
 
 /// A pool of pieces of 4 bytes over 64 free pages.
 fn fresh(alloc: Global) -> Option<Both>
-    ensures { IfSome result (λ b. CanServe b.pages b.pool) }
+    ensures { IfSome result (λ b. HasTaken b.pages b.pool) }
 {
     let Ok(pages) = PagePool::new(alloc, START, 64) else {
         return None;
@@ -41,8 +41,8 @@ fn fresh(alloc: Global) -> Option<Both>
 
 /// Gives pieces, and tells how many were given.
 fn fill(both: &mut Both) -> u32
-    requires { CanServe both.old.pages both.old.pool }
-    ensures { CanServe both.new.pages both.new.pool }
+    requires { HasTaken both.old.pages both.old.pool }
+    ensures { HasTaken both.new.pages both.new.pool }
 {
     let mut given = 0;
     for _ in 0..PIECES {
@@ -55,8 +55,8 @@ fn fill(both: &mut Both) -> u32
 
 /// Takes the pieces back, and tells how many were taken.
 fn empty(both: &mut Both) -> u32
-    requires { CanServe both.old.pages both.old.pool }
-    ensures { CanServe both.new.pages both.new.pool }
+    requires { HasTaken both.old.pages both.old.pool }
+    ensures { HasTaken both.new.pages both.new.pool }
 {
     let mut taken = 0;
     for piece in 0..PIECES {

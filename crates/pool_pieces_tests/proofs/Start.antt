@@ -3,7 +3,7 @@ use Rattle.std.proofs.Common.{◌≡◌, ℕ, ◌+◌, ◌*◌, ◌%◌, ◌<◌
 use Rattle.nc_coherent.specs.Pages.{PageMap}
 use Rattle.nc_dmapool.specs.declared.layout.PoolBad.{PoolBad}
 use Rattle.nc_dmapool.specs.Layouts.{Layout}
-use Rattle.nc_dmapool.specs.Pieces.{Pieces, CanServe, pool_of}
+use Rattle.nc_dmapool.specs.Pieces.{Pieces, HasTaken, pool_of}
 
 HasNone : Result Pieces PoolBad → Type 0
 HasNone (Ok p) = p.pages ≡ []
@@ -18,5 +18,5 @@ no_page_yet : (r : Result Layout PoolBad) (p : Pieces) → pool_of r ≡ Ok p �
 unfolding HasNone
 no_page_yet r p e = subst HasNone e (has_none r)
 
-pub can_start : (r : Result Layout PoolBad) (p : Pieces) (m : PageMap) → pool_of r ≡ Ok p → m.at % 4096 ≡ 0 → m.at + 4096 * length m.free ≤ 1048576 → CanServe m p
-can_start r p m e whole ends = record { whole = whole; ends = ends; taken = λ i lt. absurd (omega (arith, ap length (no_page_yet r p e), lt)) }
+pub can_start : (r : Result Layout PoolBad) (p : Pieces) (m : PageMap) → pool_of r ≡ Ok p → HasTaken m p
+can_start r p m e = record { taken = λ i lt. absurd (omega (arith, ap length (no_page_yet r p e), lt)) }

@@ -1,7 +1,7 @@
 //! What no clause says: a pool worked by hand, that the calls succeed, the printed lines, and a scenario moved.
 
-ghost use Rattle.std.specs.Prelude.{◌≡◌, ◌+◌, ◌*◌, ◌%◌, ◌≤◌, IfSome};
-ghost use Rattle.nc_dmapool.specs.Pieces.{CanServe};
+ghost use Rattle.std.specs.Prelude.{◌≤◌, IfSome};
+ghost use Rattle.nc_dmapool.specs.Pieces.{HasTaken};
 
 use nc_coherent::PagePool;
 use nc_dmapool::{AllocNo, DmaPool, InUse, NotPiece, PoolBad, pieces_are_apart};
@@ -21,7 +21,7 @@ struct Both {
 /// A pool of such pieces over so many pages from 49,152 on.
 fn over(alloc: Global, pages: u32, size: u32, align: u32, boundary: u32) -> Option<Both>
     requires { pages ≤ 64 }
-    ensures { IfSome result (λ b. CanServe b.pages b.pool) }
+    ensures { IfSome result (λ b. HasTaken b.pages b.pool) }
 {
     let Ok(pages) = PagePool::new(alloc, 49152, pages) else {
         return None;
@@ -34,23 +34,23 @@ fn over(alloc: Global, pages: u32, size: u32, align: u32, boundary: u32) -> Opti
 
 /// The place of a piece, or why there is none.
 fn given(both: &mut Both) -> Result<Span, AllocNo>
-    requires { CanServe both.old.pages both.old.pool }
-    ensures { CanServe both.new.pages both.new.pool }
+    requires { HasTaken both.old.pages both.old.pool }
+    ensures { HasTaken both.new.pages both.new.pool }
 {
     both.pool.alloc(&mut both.pages)
 }
 
 /// Whether a piece was taken back.
 fn taken_back(both: &mut Both, at: u32) -> bool
-    requires { CanServe both.old.pages both.old.pool }
-    ensures { CanServe both.new.pages both.new.pool }
+    requires { HasTaken both.old.pages both.old.pool }
+    ensures { HasTaken both.new.pages both.new.pool }
 {
     both.pool.free(Place(at)) != Err(NotPiece(Place(at)))
 }
 
 /// Ends the pool: the lowest place in use, or None where the first page is free again.
 fn ended(both: Both) -> Option<Place>
-    requires { CanServe both.pages both.pool }
+    requires { HasTaken both.pages both.pool }
 {
     let Both { mut pages, pool } = both;
     match pool.destroy(&mut pages) {
@@ -95,6 +95,13 @@ fn pages_are_taken_and_given_back(rt: HostRuntime) {
         assert!(rt; false);
         return;
     };
+    assert_eq!(rt;
+        both.pages.span(),
+        Span {
+            at: 0xc000,
+            len: 8192
+        }
+    );
     assert_eq!(rt;
         given(&mut both),
         Ok(Span {

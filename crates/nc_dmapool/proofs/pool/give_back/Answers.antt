@@ -4,7 +4,7 @@ use Rattle.nc_coherent.specs.Pages.{PageMap, with_pages}
 use Rattle.nc_dmapool.specs.Pieces.{IsTaken, all_back, page_span}
 use Rattle.nc_dmapool.specs.Marks.{Marks, page_at, no_page}
 use Rattle.nc_dmapool.proofs.Lowest.{page_is}
-use Rattle.nc_dmapool.proofs.Taking.{IsPageOf, page_taken, pages_are, taken_beside, length_with}
+use Rattle.nc_dmapool.proofs.Taking.{IsPageOf, page_taken, pages_are, taken_beside}
 use Rattle.nc_dmapool.proofs.pool.give_back.Goals as goal
 
 pub give-requires-clause-taken : goal.give-requires-clause-taken
@@ -24,13 +24,9 @@ loop-page-preserved c =
     let at : (page_at own i).at ≡ x = ap (λ (p : Marks). p.at) page ∙ sym c.at.ensures in
     let is : IsPageOf m false x = page_taken m x (subst (IsTaken m) at (c.loop-page.invariant.taken i (omega arith) lt)) in
     let now : c.give.new.self ≡ with_pages m (page_span x) true = c.give.ensures in
-    let len : length c.give.new.self.free ≡ length m.free = ap (λ (n : PageMap). length n.free) now ∙ length_with m false true x is in
-    let place : c.give.new.self.at ≡ m.at = ap (λ (n : PageMap). n.at) now in
     record {
-      whole = omega (arith, place, c.loop-page.invariant.whole);
-      ends = omega (arith, place, len, c.loop-page.invariant.ends);
       taken = λ j le there.
-          let off : (page_at own j).at ≢ x = λ e. (let same : j ≡ i = c.requires.taken.apart j i there lt (e ∙ sym at) in absurd (omega arith)) in
+          let off : (page_at own j).at ≢ x = λ e. (let same : j ≡ i = c.requires.apart j i there lt (e ∙ sym at) in absurd (omega arith)) in
           subst (λ (n : PageMap). IsTaken n (page_at own j).at) (sym now) (taken_beside m false x (page_at own j).at is (c.loop-page.invariant.taken j (omega arith) there) off);
       rest =
           ap (λ (n : PageMap). all_back n (drop (i + 1) (map (λ (p : Marks). p.at) own))) now

@@ -1,13 +1,13 @@
 use Rattle.std.proofs.Common.{◌≡◌, ◌∙◌, ap, sym, subst, length, true, false, List, Some, map}
 use Rattle.std.specs.FinSet as fin
 use Rattle.nc_coherent.specs.Pages.{PageMap, with_pages}
-use Rattle.nc_dmapool.specs.Pieces.{Pieces, Given, CanServe, given, page_span, with_piece, with_page}
+use Rattle.nc_dmapool.specs.Pieces.{Pieces, Given, HasTaken, given, page_span, with_piece, with_page}
 use Rattle.nc_dmapool.specs.Marks.{Marks, IsKept, IsLowest, HasNone, shown, fresh_page}
 use Rattle.nc_dmapool.proofs.Powers.{cuts}
 use Rattle.nc_dmapool.proofs.Shown.{shown_more, ats_mark}
 use Rattle.nc_dmapool.proofs.Found.{free_found, free_none, free_spot}
 use Rattle.nc_dmapool.proofs.Taking.{found}
-use Rattle.nc_dmapool.proofs.Pushed.{page_unused, given_free, given_more, kept_push, fresh_is_page, page_in_ram, push_apart, taken_pages, serves_push, serves_same, shown_push, no_page_given, given_no_page}
+use Rattle.nc_dmapool.proofs.Pushed.{page_unused, given_free, given_more, kept_push, fresh_is_page, push_apart, taken_pages, taken_push, taken_same, shown_push, no_page_given, given_no_page}
 use Rattle.std.proofs.lemmas.Result.{err_from_is_err_and}
 use Rattle.nc_dmapool.proofs.pool.DmaPool.alloc.Goals as goal
 
@@ -23,13 +23,13 @@ returns-in-Some-clause-given c =
       c.size-len.ensures ∙ ap (λ (p : Pieces). p.layout.size) c.self.view_is,
     )
 
-pub returns-in-Some-clause-serves : goal.returns-in-Some-clause-serves
-returns-in-Some-clause-serves c =
+pub returns-in-Some-clause-taken : goal.returns-in-Some-clause-taken
+returns-in-Some-clause-taken c =
     let l = c.self.inside.layout in
     let ps = c.self.inside.pages.items in
-    let can : CanServe c.args.pages.now (shown l ps) = subst (CanServe c.args.pages.now) (sym c.self.view_is) c.requires in
+    let has : HasTaken c.args.pages.now (shown l ps) = subst (HasTaken c.args.pages.now) (sym c.self.view_is) c.requires in
     let same : map (λ (p : Marks). p.at) c.mark.new.pages.items ≡ map (λ (p : Marks). p.at) ps = ap (map (λ (p : Marks). p.at)) c.mark.ensures ∙ ats_mark ps c.in-Some.spot.page c.in-Some.spot.number true in
-    serves_same c.args.pages.now (shown l ps) (shown l c.mark.new.pages.items) same can
+    taken_same c.args.pages.now (shown l ps) (shown l c.mark.new.pages.items) same has
 
 pub returns-in_err-at-clause-no_page : goal.returns-in_err-at-clause-no_page
 returns-in_err-at-clause-no_page c =
@@ -47,12 +47,11 @@ pub invariant_of-self-2 : goal.invariant_of-self-2
 invariant_of-self-2 c =
     let l = c.self.inside.layout in
     let ps = c.self.inside.pages.items in
-    let can : CanServe c.args.pages.now (shown l ps) = subst (CanServe c.args.pages.now) (sym c.self.view_is) c.requires in
-    let are = taken_pages l ps c.args.pages.now can c.self.invariant in
+    let has : HasTaken c.args.pages.now (shown l ps) = subst (HasTaken c.args.pages.now) (sym c.self.view_is) c.requires in
+    let are = taken_pages l ps c.args.pages.now has c.self.invariant in
     let page = (found c.args.pages.now (page_span c.in_ok-at.at) c.in_ok-at.ensures.taken.0).0 in
-    let ram = page_in_ram c.args.pages.now c.in_ok-at.at can.whole can.ends page in
     subst (IsKept l) (sym c.in_ok-at.ensures.taken.1)
-    (kept_push l ps (fresh_page l c.in_ok-at.at) c.self.invariant (fresh_is_page l c.in_ok-at.at ram.0 ram.1) (push_apart ps c.args.pages.now c.in_ok-at.at are page))
+    (kept_push l ps (fresh_page l c.in_ok-at.at) c.self.invariant (fresh_is_page l c.in_ok-at.at c.in_ok-at.ensures.whole c.in_ok-at.ensures.ends) (push_apart ps c.args.pages.now c.in_ok-at.at are page))
 
 pub returns-clause-given : goal.returns-clause-given
 returns-clause-given c =
@@ -66,15 +65,15 @@ returns-clause-given c =
       c.size-len.ensures ∙ ap (λ (p : Pieces). p.layout.size) c.self.view_is,
     )
 
-pub returns-clause-serves : goal.returns-clause-serves
-returns-clause-serves c =
+pub returns-clause-taken : goal.returns-clause-taken
+returns-clause-taken c =
     let l = c.self.inside.layout in
     let ps = c.self.inside.pages.items in
-    let can : CanServe c.args.pages.now (shown l ps) = subst (CanServe c.args.pages.now) (sym c.self.view_is) c.requires in
+    let has : HasTaken c.args.pages.now (shown l ps) = subst (HasTaken c.args.pages.now) (sym c.self.view_is) c.requires in
     let page = (found c.args.pages.now (page_span c.in_ok-at.at) c.in_ok-at.ensures.taken.0).0 in
-    subst (λ (m : PageMap). CanServe m (shown l c.take_page.new.own.items)) (sym c.in_ok-at.ensures.taken.2)
-    (subst (λ (qs : List Marks). CanServe (with_pages c.args.pages.now (page_span c.in_ok-at.at) false) (shown l qs)) (sym c.in_ok-at.ensures.taken.1)
-    (serves_push l ps c.args.pages.now c.in_ok-at.at can.whole can.ends (taken_pages l ps c.args.pages.now can c.self.invariant) page))
+    subst (λ (m : PageMap). HasTaken m (shown l c.take_page.new.own.items)) (sym c.in_ok-at.ensures.taken.2)
+    (subst (λ (qs : List Marks). HasTaken (with_pages c.args.pages.now (page_span c.in_ok-at.at) false) (shown l qs)) (sym c.in_ok-at.ensures.taken.1)
+    (taken_push l ps c.args.pages.now c.in_ok-at.at (taken_pages l ps c.args.pages.now has c.self.invariant) page))
 
 pub returns-in-Some-clause-fresh : goal.returns-in-Some-clause-fresh
 returns-in-Some-clause-fresh c =
@@ -87,6 +86,6 @@ pub returns-clause-fresh : goal.returns-clause-fresh
 returns-clause-fresh c =
     let l = c.self.inside.layout in
     let ps = c.self.inside.pages.items in
-    let can : CanServe c.args.pages.now (shown l ps) = subst (CanServe c.args.pages.now) (sym c.self.view_is) c.requires in
+    let has : HasTaken c.args.pages.now (shown l ps) = subst (HasTaken c.args.pages.now) (sym c.self.view_is) c.requires in
     let page = (found c.args.pages.now (page_span c.in_ok-at.at) c.in_ok-at.ensures.taken.0).0 in
-    ap (λ (p : Pieces). fin.contains p.used c.in_ok-at.at) (sym c.self.view_is) ∙ page_unused l ps c.args.pages.now c.in_ok-at.at c.self.invariant can.whole (taken_pages l ps c.args.pages.now can c.self.invariant) page
+    ap (λ (p : Pieces). fin.contains p.used c.in_ok-at.at) (sym c.self.view_is) ∙ page_unused l ps c.args.pages.now c.in_ok-at.at c.self.invariant c.in_ok-at.ensures.whole (taken_pages l ps c.args.pages.now has c.self.invariant) page

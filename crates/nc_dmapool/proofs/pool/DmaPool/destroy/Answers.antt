@@ -1,5 +1,5 @@
 use Rattle.std.proofs.Common.{◌∙◌, ap, sym, refl, subst, length, true, List, map}
-use Rattle.nc_dmapool.specs.Pieces.{Pieces, CanServe, lowest_used, all_back}
+use Rattle.nc_dmapool.specs.Pieces.{Pieces, HasTaken, lowest_used, all_back}
 use Rattle.nc_dmapool.specs.Marks.{Marks, IsLowest, HasNone, AreTaken}
 use Rattle.nc_dmapool.proofs.Found.{used_found, used_none}
 use Rattle.nc_dmapool.proofs.Pushed.{taken_pages}
@@ -11,10 +11,10 @@ returns-in-Some-clause-in_use c =
     subst (λ (ps : List Marks). IsLowest c.self.inside.layout true ps (length ps) c.in-Some.spot) c.deref.ensures.value c.in-Some.ensures in
     (ap lowest_used (sym c.self.view_is) ∙ used_found c.self.inside.layout c.self.inside.pages.items c.in-Some.spot low, refl, refl)
 
-pub give_back-requires-clause-taken : goal.give_back-requires-clause-taken
-give_back-requires-clause-taken c =
+pub give_back-requires : goal.give_back-requires
+give_back-requires c =
     subst (AreTaken c.args.pages.now) (sym c.deref-2.ensures.value)
-    (taken_pages c.self.inside.layout c.self.inside.pages.items c.args.pages.now (subst (CanServe c.args.pages.now) (sym c.self.view_is) c.requires) c.self.invariant)
+    (taken_pages c.self.inside.layout c.self.inside.pages.items c.args.pages.now (subst (HasTaken c.args.pages.now) (sym c.self.view_is) c.requires) c.self.invariant)
 
 pub returns-clause-back : goal.returns-clause-back
 returns-clause-back c =

@@ -1,6 +1,4 @@
-use Rattle.std.proofs.Common.{refl, ◌≡◌, arith, ap, sym, ◌∙◌, Ok, length, true}
-use Rattle.std.proofs.lemmas.List.{length-replicate}
-use Rattle.nc_coherent.specs.Pages.{PageMap}
+use Rattle.std.proofs.Common.{refl, ◌≡◌, ap, sym, ◌∙◌, Ok, length}
 use Rattle.nc_dmapool.specs.Layouts.{layout_of}
 use Rattle.nc_dmapool.specs.Pieces.{pool_of}
 use Rattle.nc_pieces.specs.Requests.{Request}
@@ -11,11 +9,8 @@ use Rattle.nc_pieces.proofs.serving.Serving.new.Goals as goal
 pub invariant_of-result : goal.invariant_of-result
 invariant_of-result c =
     let r = c.request.inside in
-    let made : pool_of (layout_of r.size r.align r.boundary) ≡ Ok c.in-Ok.pool = sym c.in-Ok.ensures in
-    let pages = c.in_ok-pages.ensures in
-    let len : length c.in_ok-pages.pages.free ≡ r.pages = ap (λ (m : PageMap). length m.free) pages ∙ length-replicate r.pages true in
-    let at : c.in_ok-pages.pages.at ≡ r.at = ap (λ (m : PageMap). m.at) pages in (
-      starts_serving (layout_of r.size r.align r.boundary) c.in-Ok.pool c.in_ok-pages.pages c.in_ok-held.held.items made (omega (arith, at, c.request.invariant.whole)) (omega (arith, at, len, c.request.invariant.ends)) (ap length (held_is _ _ refl c.in_ok-held.ensures) ∙ labels_many),
+    let made : pool_of (layout_of r.size r.align r.boundary) ≡ Ok c.in-Ok.pool = sym c.in-Ok.ensures in (
+      starts_serving (layout_of r.size r.align r.boundary) c.in-Ok.pool c.in_ok-pages.pages c.in_ok-held.held.items made (ap length (held_is _ _ refl c.in_ok-held.ensures) ∙ labels_many),
       starts_with_none (layout_of r.size r.align r.boundary) c.in-Ok.pool made,
     )
 
