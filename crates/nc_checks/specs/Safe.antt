@@ -1,4 +1,5 @@
--- What the code needs of what it is given: sums of places and lengths fit, and each page of the table has a valid word.
+-- What the code needs of what it is given: sums of places and lengths fit, each page of the table has a valid word, and
+-- a store and a list are short.
 use Rattle.std.specs.Prelude.{◌+◌, ◌≤◌, length, All, EachIndex, slice_index}
 use Rattle.nc_num.specs.Sizes.{IsBlockSize}
 use Rattle.nc_num.specs.declared.places.Span.{Span}
@@ -11,7 +12,7 @@ use Rattle.nc_rules.specs.Lots.{Fixed}
 pub record IsSmall (range : Span) : Type 0 where
   pub ends : range.at + range.len ≤ 1048576
 
--- a store has few bytes
+-- a store has few bytes, and a list few entries
 abbrev pub IsShort : Op → Type 0
 IsShort (St spot off bytes) = length bytes ≤ 4096
 IsShort (Ld spot off len) = Unit {0}
@@ -21,7 +22,7 @@ IsShort (Map label buf off len dir chan) = Unit {0}
 IsShort (Unmap label) = Unit {0}
 IsShort (ToCpu label) = Unit {0}
 IsShort (ToDev label) = Unit {0}
-IsShort (MapSg label entries dir chan) = Unit {0}
+IsShort (MapSg label entries dir chan) = length entries ≤ 16
 IsShort (UnmapSg label count) = Unit {0}
 IsShort (Calloc label pages chan) = Unit {0}
 IsShort (Cgive label) = Unit {0}
@@ -42,6 +43,7 @@ pub record IsSafe (f : Fixed) : Type 0 where
   pub sized : IsBlockSize f.size
   pub zero_sized : IsBlockSize f.zero_size
   pub buffers : All IsSmall f.buffers
+  pub slots : f.slots_at ≤ 1048576
   pub pages : length f.table ≤ 256
   pub table : EachIndex f.table (λ k. IsPteWord 1048576 (slice_index f.table k))
   pub script : All IsShort f.script

@@ -1,6 +1,6 @@
 //! Loads and stores of a script, piece by piece.
 
-ghost use Rattle.std.specs.Prelude.{[], ◌≡◌, ◌+◌, ◌<◌, ◌≤◌, ◌^◌, length, IfOk};
+ghost use Rattle.std.specs.Prelude.{◌≡◌, ◌+◌, ◌<◌, ◌≤◌, ◌^◌, length, IfOk};
 ghost use Rattle.nc_ops.specs.declared.ops.Op.TheVariants as ops;
 ghost use Rattle.nc_plan.specs.Accesses.{range};
 ghost use Rattle.nc_rules.specs.Accesses as rules;
@@ -8,13 +8,14 @@ ghost use Rattle.nc_rules.specs.Operations.{step_at};
 ghost use Rattle.nc_steps.specs.Mapped.{IsMapped};
 ghost use Rattle.nc_checks.specs.Safe.{IsSafe};
 
-use crate::refusals::{part_of, some_bytes};
+use crate::refusals::{named, part_of, some_bytes};
 use crate::setup::Setup;
 use crate::steps::hart_step;
+use nc_lots::only_entry;
 use nc_num::MemType;
 use nc_plan::HartOp;
 use nc_pte::PageFault;
-use nc_rules::{Refusal, Step};
+use nc_rules::{Kind, Lot, Refusal, Step};
 use nc_scen::Spot;
 use nc_steps::{At, load_step, store_step};
 
@@ -30,10 +31,10 @@ fn piece_step(piece: Result<Option<HartOp>, PageFault>) -> Result<Option<Step>, 
 }
 
 impl Setup {
-    /// Where an access of so many bytes starts.
-    fn spot_at(&self, spot: Spot, off: u32, len: u32) -> Result<At, Refusal>
+    /// Where an access of so many bytes starts. One of a coherent area is of type NC (Svpbmt).
+    fn spot_at(&self, lots: &[Lot], spot: Spot, off: u32, len: u32) -> Result<At, Refusal>
         requires { IsSafe self.now }
-        ensures value { result ≡ rules.spot_at self.now [] spot off len }
+        ensures value { result ≡ rules.spot_at self.now lots.now spot off len }
         ensures ends { IfOk result (λ to. (range to len).at + len < 2 ^ 32) }
         ensures mapped { IfOk result (λ to. IsMapped 1048576 to self.now.table len) }
     {
@@ -52,7 +53,14 @@ impl Setup {
                 }
                 Ok(At::Virtual { va: off })
             }
-            Spot::Area(_) => Err(Refusal::NoLabel),
+            Spot::Area(label) => {
+                let lot = named(lots, label, Kind::Area)?;
+                let range = part_of(only_entry(lot).span, off, len)?;
+                Ok(At::Ram {
+                    at: range.at,
+                    kind: MemType::Nc,
+                })
+            }
         }
     }
 
@@ -60,15 +68,16 @@ impl Setup {
     #[tactic(auto, unfolding(nc_rules::specs::Operations::step_at, nc_rules::specs::Operations::meaning, nc_rules::specs::Accesses::load))]
     pub(crate) fn load(
         &self,
+        lots: &[Lot],
         spot: Spot,
         off: u32,
         len: u32,
         n: u32,
     ) -> Result<Option<Step>, Refusal>
         requires { IsSafe self.now }
-        ensures { result ≡ step_at self.now [] (ops.Ld spot off len) n }
+        ensures { result ≡ step_at self.now lots.now (ops.Ld spot off len) n }
     {
-        let to = self.spot_at(spot, off, len)?;
+        let to = self.spot_at(lots, spot, off, len)?;
         piece_step(load_step(to, self.pbmte(), self.table(), len, n))
     }
 
@@ -76,6 +85,7 @@ impl Setup {
     #[tactic(auto, unfolding(nc_rules::specs::Operations::step_at, nc_rules::specs::Operations::meaning, nc_rules::specs::Accesses::store))]
     pub(crate) fn store(
         &self,
+        lots: &[Lot],
         spot: Spot,
         off: u32,
         bytes: &[u8],
@@ -83,9 +93,9 @@ impl Setup {
     ) -> Result<Option<Step>, Refusal>
         requires safe { IsSafe self.now }
         requires short { length bytes.now ≤ 4096 }
-        ensures { result ≡ step_at self.now [] (ops.St spot off bytes.now) n }
+        ensures { result ≡ step_at self.now lots.now (ops.St spot off bytes.now) n }
     {
-        let to = self.spot_at(spot, off, bytes.len() as u32)?;
+        let to = self.spot_at(lots, spot, off, bytes.len() as u32)?;
         piece_step(store_step(to, self.pbmte(), self.table(), bytes, n))
     }
 }

@@ -1,10 +1,9 @@
 //! Cache-block operations of a script (RISC-V CMO 1.0), and fences.
 
-ghost use Rattle.std.specs.Prelude.{[], ◌≡◌, slice_get, option_map};
-ghost use Rattle.nc_ops.specs.declared.ops.Op.TheVariants as ops;
+ghost use Rattle.std.specs.Prelude.{◌≡◌, slice_get, option_map};
 ghost use Rattle.nc_plan.specs.declared.ops.HartOp.TheVariants as hart;
 ghost use Rattle.nc_rules.specs.CacheOps as rules;
-ghost use Rattle.nc_rules.specs.Operations.{step_at};
+ghost use Rattle.nc_rules.specs.Meanings.{step_of_way};
 ghost use Rattle.nc_rules.specs.Plans as plans;
 ghost use Rattle.nc_checks.specs.Safe.{IsSafe};
 
@@ -51,10 +50,10 @@ impl Setup {
     }
 
     /// Block n of a cache operation.
-    #[tactic(auto, unfolding(nc_rules::specs::Operations::step_at, nc_rules::specs::Operations::meaning, nc_rules::specs::CacheOps::cache_operation))]
+    #[tactic(auto, unfolding(nc_rules::specs::CacheOps::cache_operation))]
     pub(crate) fn cbo(&self, op: CboOp, buf: u8, off: u32, n: u32) -> Result<Option<Step>, Refusal>
         requires { IsSafe self.now }
-        ensures { result ≡ step_at self.now [] (ops.Cbo op buf off) n }
+        ensures { result ≡ step_of_way (rules.cache_operation self.now op buf off).way n }
     {
         let byte = part_of(self.buffer(buf), off, 1)?;
         let effect = legal(self.effect(op))?;

@@ -1,16 +1,22 @@
 //! What a driver knows of its script from the start, and the steps of the operations by their number.
 //!
 //! The contract for the crates above: a `Setup` is nc_rules' `Fixed` of a hart of the scenario; `step_due` is the step
-//! that is due in the script, or its refusal, and `start_checks` the refusal of a start step. A file holds a family of
-//! operations, as in nc_rules; `operations` alone names them all. The driver stands above.
+//! that is due in the script, or its refusal; `begin` is the definition of that name, the tests of a start step and the
+//! lots that it makes, and `opening` its first turn. A file holds a family of operations, as in nc_rules; `operations`
+//! alone names them all. The driver stands above.
 #![tactic(auto)]
 
 mod accesses;
+mod areas;
 mod cache_ops;
 mod channels;
+mod copies;
 mod handing;
+mod mappings;
 mod operations;
+mod ranges;
 mod refusals;
+mod scatter_lists;
 mod setup;
 mod steps;
 

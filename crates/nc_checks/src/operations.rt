@@ -1,19 +1,25 @@
 //! All operations: the step of each by its number, and the tests and the turn of a start step.
 
-ghost use Rattle.std.specs.Prelude.{[], true, ◌≡◌, ◌+◌, ◌<◌, ◌≤◌, ◌^◌, length, All};
+ghost use Rattle.std.specs.Prelude.{true, false, ◌≡◌, ◌+◌, ◌≤◌, length, All, IfOk};
 ghost use Rattle.nc_rules.specs.Operations as rules;
-ghost use Rattle.nc_coherent.specs.Pages.{PageMap};
-ghost use Rattle.nc_rules.specs.Built.{is_built_op};
-ghost use Rattle.nc_checks.specs.Due.{step_due, makes_none};
+ghost use Rattle.nc_rules.specs.Lots.{lot_id, lot_waits};
+ghost use Rattle.nc_rules.specs.declared.steps.Turn.TheVariants as turns;
+ghost use Rattle.nc_checks.specs.Due.{step_due, ok_as, makes_none};
 ghost use Rattle.nc_checks.specs.Safe.{IsSafe, IsShort};
 
+use crate::areas::{free_opening, give_opening, take_opening};
 use crate::cache_ops::fence_step;
+use crate::mappings::{needs_lot, to_cpu_opening, to_dev_opening, unmap_opening};
 use crate::refusals::owned;
+use crate::scatter_lists::{unmap_sg_opening, unmap_sg_tests};
 use crate::setup::Setup;
 use crate::steps::{control_step, plain, single};
+use nc_coherent::PagePool;
+use nc_num::{Label, NoMemory};
 use nc_own::Book;
-use nc_rules::{Act, Refusal, Step, Turn};
-use nc_scen::Op;
+use nc_rules::{Act, Kind, Lot, LotId, Refusal, Step, Turn};
+use nc_scen::{Op, SgEntry};
+use std::alloc::Global;
 
 /// Whether an operation has a start step.
 pub fn has_start(op: &Op) -> bool
@@ -47,29 +53,47 @@ pub fn has_start(op: &Op) -> bool
     }
 }
 
+/// The lots of an operation that makes none, once its tests have passed.
+fn no_lots(alloc: Global, tested: Result<(), Refusal>) -> Result<Vec<Lot>, Refusal>
+    ensures { ok_as result (λ v. v.items) ≡ makes_none tested }
+{
+    tested?;
+    Ok(Vec::new(alloc))
+}
+
+/// The turn with which a new lot of this label is being lent.
+fn lend(label: Label) -> Turn
+    ensures { result ≡ turns.Lend (lot_id label 0) }
+{
+    Turn::Lend(LotId { label, first: 0 })
+}
+
 impl Setup {
-    /// The step that is due where n steps of operation k of the script are done: None where the operation has no step n
-    /// or there is no operation k, or the refusal of the step. An operation with a start step has none.
-    pub fn step_due(&self, k: u32, n: u32) -> Result<Option<Step>, Refusal>
-        requires { IsSafe self.now }
-        ensures { result ≡ step_due self.now k n }
+    /// The step that is due where n steps of operation k of the script are done and the hart has these lots, whose
+    /// entries that bounce all have their slots: None where the operation has no step n or there is no operation k, or
+    /// the refusal of the step. An operation with a start step has none.
+    pub fn step_due(&self, lots: &[Lot], k: u32, n: u32) -> Result<Option<Step>, Refusal>
+        requires safe { IsSafe self.now }
+        requires placed { All (λ lot. lot_waits lot ≡ false) lots.now }
+        ensures { result ≡ step_due self.now lots.now k n }
     {
         match self.op(k) {
-            Some(op) => self.step_at(op, n),
+            Some(op) => self.step_at(lots, op, n),
             None => Ok(None),
         }
     }
 
     /// Step n of an operation without a start step, counted from 0: None where it has no such step, or its refusal.
-    #[tactic(auto, unfolding(nc_rules::specs::Operations::step_at, nc_rules::specs::Operations::meaning, nc_rules::specs::Accesses::load, nc_rules::specs::Accesses::store, nc_rules::specs::CacheOps::cache_operation, nc_rules::specs::CacheOps::fence, nc_rules::specs::Handing::hand, nc_rules::specs::Handing::take, nc_rules::specs::Channels::claim, nc_rules::specs::Channels::free, nc_rules::specs::Channels::set_up, nc_rules::specs::Channels::run, nc_rules::specs::Channels::poll, nc_rules::specs::Channels::read_register, nc_rules::specs::Channels::write_register, nc_rules::specs::Mappings::map_single, nc_rules::specs::Mappings::unmap_single, nc_rules::specs::Mappings::sync_for_cpu, nc_rules::specs::Mappings::sync_for_device, nc_rules::specs::ScatterLists::map_sg, nc_rules::specs::ScatterLists::unmap_sg, nc_rules::specs::Areas::calloc, nc_rules::specs::Areas::give_area, nc_rules::specs::Areas::take_area, nc_rules::specs::Areas::free_area, nc_rules::specs::Copies::copy))]
-    fn step_at(&self, op: &Op, n: u32) -> Result<Option<Step>, Refusal>
+    #[tactic(auto, unfolding(nc_rules::specs::Operations::step_at, nc_rules::specs::Operations::meaning, nc_rules::specs::Accesses::load, nc_rules::specs::Accesses::store, nc_rules::specs::CacheOps::cache_operation, nc_rules::specs::CacheOps::fence, nc_rules::specs::Mappings::map_single, nc_rules::specs::Mappings::unmap_single, nc_rules::specs::Mappings::sync_for_cpu, nc_rules::specs::Mappings::sync_for_device, nc_rules::specs::ScatterLists::map_sg, nc_rules::specs::ScatterLists::unmap_sg, nc_rules::specs::Areas::calloc, nc_rules::specs::Areas::give_area, nc_rules::specs::Areas::take_area, nc_rules::specs::Areas::free_area, nc_rules::specs::Handing::hand, nc_rules::specs::Handing::take, nc_rules::specs::Channels::claim, nc_rules::specs::Channels::free, nc_rules::specs::Channels::set_up, nc_rules::specs::Channels::run, nc_rules::specs::Channels::poll, nc_rules::specs::Channels::read_register, nc_rules::specs::Channels::write_register, nc_rules::specs::Copies::copy))]
+    fn step_at(&self, lots: &[Lot], op: &Op, n: u32) -> Result<Option<Step>, Refusal>
         requires safe { IsSafe self.now }
         requires short { IsShort op.now }
-        ensures { result ≡ rules.step_at self.now [] op.now n }
+        requires placed { All (λ lot. lot_waits lot ≡ false) lots.now }
+        ensures { result ≡ rules.step_at self.now lots.now op.now n }
     {
         match op {
-            Op::Ld { spot, off, len } => self.load(*spot, *off, *len, n),
-            Op::St { spot, off, bytes } => self.store(*spot, *off, bytes.as_slice(), n),
+            Op::Ld { spot, off, len } => self.load(lots, *spot, *off, *len, n),
+            Op::St { spot, off, bytes } => self.store(lots, *spot, *off, bytes.as_slice(), n),
             Op::Cbo { op, buf, off } => self.cbo(*op, *buf, *off, n),
             Op::Fence { pred, succ } => Ok(single(fence_step(*pred, *succ), n)),
             Op::Take(buf) => Ok(single(self.take_step(*buf), n)),
@@ -81,7 +105,7 @@ impl Setup {
                 dst,
                 len,
                 cfg,
-            } => self.set_up(*chan, *src, *dst, *len, *cfg, n),
+            } => self.set_up(lots, *chan, *src, *dst, *len, *cfg, n),
             Op::Run(chan) => Ok(single(control_step(*chan, 3), n)),
             Op::Poll(chan) => Ok(single(plain(Act::Poll(*chan)), n)),
             Op::Regr { chan, off, width } => self.read_register(*chan, *off, *width, n),
@@ -91,8 +115,7 @@ impl Setup {
                 width,
                 value,
             } => self.write_register(*chan, *off, *width, *value, n),
-            Op::Hand { .. }
-            | Op::Map { .. }
+            Op::Map { .. }
             | Op::Unmap(_)
             | Op::ToCpu(_)
             | Op::ToDev(_)
@@ -102,35 +125,93 @@ impl Setup {
             | Op::Cgive(_)
             | Op::Ctake(_)
             | Op::Cfree(_)
+            | Op::Hand { .. }
             | Op::Copy { .. } => Ok(None),
         }
     }
 
-    /// The tests of an operation with a start step, of those that are built: none of them makes a lot.
-    #[tactic(auto, unfolding(nc_rules::specs::Operations::begin, nc_rules::specs::Operations::meaning, nc_rules::specs::Handing::hand))]
-    pub fn begin(&self, book: &Book, op: &Op) -> Result<(), Refusal>
+    /// The tests of a start step, by the lots that the hart has and the owners and the pages of now, and the lots that
+    /// the operation makes, or its refusal. The error is want of memory.
+    #[tactic(auto, unfolding(nc_rules::specs::Operations::begin, nc_rules::specs::Operations::meaning, nc_rules::specs::Accesses::load, nc_rules::specs::Accesses::store, nc_rules::specs::CacheOps::cache_operation, nc_rules::specs::CacheOps::fence, nc_rules::specs::Mappings::map_single, nc_rules::specs::Mappings::unmap_single, nc_rules::specs::Mappings::sync_for_cpu, nc_rules::specs::Mappings::sync_for_device, nc_rules::specs::ScatterLists::map_sg, nc_rules::specs::ScatterLists::unmap_sg, nc_rules::specs::Areas::calloc, nc_rules::specs::Areas::give_area, nc_rules::specs::Areas::take_area, nc_rules::specs::Areas::free_area, nc_rules::specs::Handing::hand, nc_rules::specs::Handing::take, nc_rules::specs::Channels::claim, nc_rules::specs::Channels::free, nc_rules::specs::Channels::set_up, nc_rules::specs::Channels::run, nc_rules::specs::Channels::poll, nc_rules::specs::Channels::read_register, nc_rules::specs::Channels::write_register, nc_rules::specs::Copies::copy))]
+    pub fn begin(
+        &self,
+        alloc: Global,
+        lots: &[Lot],
+        book: &Book,
+        pages: &PagePool,
+        op: &Op,
+    ) -> Result<Result<Vec<Lot>, Refusal>, NoMemory>
         requires safe { IsSafe self.now }
+        requires short { IsShort op.now }
         requires book { All (λ b. b.at + b.len ≤ length book.now.owners) self.now.buffers }
-        requires start { rules.has_start op.now ≡ true }
-        requires built { is_built_op op.now ≡ true }
-        ensures { (pages : PageMap) → rules.begin self.now [] book.now.owners pages op.now ≡ makes_none result }
+        requires entries { All (λ lot. All (λ e. e.span.at + e.span.len ≤ length book.now.owners) lot.list.entries) lots.now }
+        ensures { IfOk result (λ r. ok_as r (λ v. v.items) ≡ rules.begin self.now lots.now book.now.owners pages.now op.now) }
     {
         match op {
-            Op::Hand { buf, .. } => owned(self.me(), book, self.buffer(*buf)),
+            Op::Map {
+                label,
+                buf,
+                off,
+                len,
+                dir,
+                chan,
+            } => {
+                let entry = SgEntry {
+                    buf: *buf,
+                    off: *off,
+                    len: *len,
+                };
+                self.map_begin(alloc, lots, book, *label, entry, *dir, *chan)
+            }
+            Op::Unmap(label) | Op::ToCpu(label) | Op::ToDev(label) => {
+                Ok(no_lots(alloc, needs_lot(lots, *label, Kind::Single)))
+            }
+            Op::MapSg {
+                label,
+                entries,
+                dir,
+                chan,
+            } => self.map_sg_begin(alloc, lots, book, *label, entries.as_slice(), *dir, *chan),
+            Op::UnmapSg { label, count } => {
+                Ok(no_lots(alloc, unmap_sg_tests(lots, *label, *count)))
+            }
+            Op::Calloc {
+                label,
+                pages: count,
+                chan,
+            } => self.calloc_begin(alloc, lots, *label, *count, *chan, pages),
+            Op::Cgive(label) | Op::Ctake(label) => {
+                Ok(no_lots(alloc, needs_lot(lots, *label, Kind::Area)))
+            }
+            Op::Cfree(label) => Ok(no_lots(alloc, self.cfree_tests(lots, book, *label))),
+            Op::Hand { buf, .. } => {
+                Ok(no_lots(alloc, owned(self.me(), book, self.buffer(*buf))))
+            }
+            Op::Copy {
+                chan,
+                src,
+                src_off,
+                dst,
+                dst_off,
+                len,
+                ..
+            } => {
+                let read = SgEntry {
+                    buf: *src,
+                    off: *src_off,
+                    len: *len,
+                };
+                let written = SgEntry {
+                    buf: *dst,
+                    off: *dst_off,
+                    len: *len,
+                };
+                self.copy_begin(alloc, book, read, written, *chan)
+            }
             Op::Ld { .. }
             | Op::St { .. }
             | Op::Cbo { .. }
             | Op::Fence { .. }
-            | Op::Map { .. }
-            | Op::Unmap(_)
-            | Op::ToCpu(_)
-            | Op::ToDev(_)
-            | Op::MapSg { .. }
-            | Op::UnmapSg { .. }
-            | Op::Calloc { .. }
-            | Op::Cgive(_)
-            | Op::Ctake(_)
-            | Op::Cfree(_)
             | Op::Take(_)
             | Op::Claim(_)
             | Op::Free(_)
@@ -138,34 +219,32 @@ impl Setup {
             | Op::Run(_)
             | Op::Poll(_)
             | Op::Regr { .. }
-            | Op::Regw { .. }
-            | Op::Copy { .. } => Ok(()),
+            | Op::Regw { .. } => Ok(no_lots(alloc, Ok(()))),
         }
     }
 
-    /// What the start of an operation does to owners, of those with a start step that are built.
-    #[tactic(auto, unfolding(nc_rules::specs::Operations::opening, nc_rules::specs::Operations::meaning, nc_rules::specs::Handing::hand))]
-    pub fn opening(&self, op: &Op) -> Turn
-        requires start { rules.has_start op.now ≡ true }
-        requires built { is_built_op op.now ≡ true }
-        ensures { result ≡ rules.opening self.now [] op.now }
+    /// What comes with the last slot that was wanted, or with the start where none was. An operation without a start
+    /// step has no such turn: it stays.
+    #[tactic(auto, unfolding(nc_rules::specs::Operations::opening, nc_rules::specs::Operations::meaning, nc_rules::specs::Accesses::load, nc_rules::specs::Accesses::store, nc_rules::specs::CacheOps::cache_operation, nc_rules::specs::CacheOps::fence, nc_rules::specs::Mappings::map_single, nc_rules::specs::Mappings::unmap_single, nc_rules::specs::Mappings::sync_for_cpu, nc_rules::specs::Mappings::sync_for_device, nc_rules::specs::ScatterLists::map_sg, nc_rules::specs::ScatterLists::unmap_sg, nc_rules::specs::Areas::calloc, nc_rules::specs::Areas::give_area, nc_rules::specs::Areas::take_area, nc_rules::specs::Areas::free_area, nc_rules::specs::Handing::hand, nc_rules::specs::Handing::take, nc_rules::specs::Channels::claim, nc_rules::specs::Channels::free, nc_rules::specs::Channels::set_up, nc_rules::specs::Channels::run, nc_rules::specs::Channels::poll, nc_rules::specs::Channels::read_register, nc_rules::specs::Channels::write_register, nc_rules::specs::Copies::copy))]
+    pub fn opening(&self, lots: &[Lot], op: &Op) -> Turn
+        ensures { result ≡ rules.opening self.now lots.now op.now }
     {
         match op {
+            Op::Map { label, .. } | Op::MapSg { label, .. } | Op::Calloc { label, .. } => {
+                lend(*label)
+            }
+            Op::Unmap(label) => unmap_opening(lots, *label),
+            Op::ToCpu(label) => to_cpu_opening(lots, *label),
+            Op::ToDev(label) => to_dev_opening(lots, *label),
+            Op::UnmapSg { label, .. } => unmap_sg_opening(lots, *label),
+            Op::Cgive(label) => give_opening(lots, *label),
+            Op::Ctake(label) => take_opening(lots, *label),
+            Op::Cfree(label) => free_opening(lots, *label),
             Op::Hand { buf, to } => self.pass(*buf, *to),
             Op::Ld { .. }
             | Op::St { .. }
             | Op::Cbo { .. }
             | Op::Fence { .. }
-            | Op::Map { .. }
-            | Op::Unmap(_)
-            | Op::ToCpu(_)
-            | Op::ToDev(_)
-            | Op::MapSg { .. }
-            | Op::UnmapSg { .. }
-            | Op::Calloc { .. }
-            | Op::Cgive(_)
-            | Op::Ctake(_)
-            | Op::Cfree(_)
             | Op::Take(_)
             | Op::Claim(_)
             | Op::Free(_)

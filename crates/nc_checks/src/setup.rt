@@ -1,13 +1,15 @@
 //! What a driver knows from the start.
 
-ghost use Rattle.std.specs.Prelude.{◌≡◌, ◌<◌, length, IfOk, map, slice_get, option_map};
+ghost use Rattle.std.specs.Prelude.{◌≡◌, ◌<◌, length, IfOk, IfSome, map, slice_get, option_map};
 ghost use Rattle.nc_scen.specs.Accepted.{IsAccepted};
 ghost use Rattle.nc_rules.specs.CacheOps.{effect_of};
+ghost use Rattle.nc_rules.specs.Lots.{reach_of};
 ghost use Rattle.nc_rules.specs.Refusals.{buffer_of};
 ghost use Rattle.nc_rules.specs.Start.{fixed_of, hart_spec, pbmte_of};
+ghost use Rattle.nc_checks.specs.Safe.{IsSafe, IsShort};
 
 use nc_env::{CboOp, Illegal};
-use nc_num::{HartNo, NoMemory, Span};
+use nc_num::{ChanNo, HartNo, NoMemory, Span};
 use nc_plan::{Effects, effects_of};
 use nc_scen::{BufferSpec, HartSpec, Op, Scenario};
 use std::alloc::Global;
@@ -101,8 +103,15 @@ impl Setup {
         }
     }
 
+    /// What the cache operations of the hart are performed as, or by which field each is illegal (RISC-V CMO 1.0).
+    pub fn effects(&self) -> &Effects
+        ensures { result.now ≡ self.now.effects }
+    {
+        &self.effects
+    }
+
     /// The bytes of a cache block.
-    pub(crate) fn size(&self) -> u32
+    pub fn size(&self) -> u32
         ensures { result ≡ self.now.size }
     {
         self.size
@@ -113,6 +122,37 @@ impl Setup {
         ensures { result ≡ self.now.zero_size }
     {
         self.zero_size
+    }
+
+    /// Where a channel's reach ends, in bytes of RAM; 0 where there is no such channel.
+    pub(crate) fn reach(&self, chan: ChanNo) -> u32
+        ensures { result ≡ reach_of self.now chan }
+    {
+        match self.reach.get(usize::from(chan.0)) {
+            Some(reach) => *reach,
+            None => 0,
+        }
+    }
+
+    /// Where the bounce slots start, in bytes of RAM.
+    pub fn slots_at(&self) -> u32
+        ensures { result ≡ self.now.slots_at }
+    {
+        self.slots_at
+    }
+
+    /// How many bounce slots there are.
+    pub fn slots(&self) -> u32
+        ensures { result ≡ self.now.slots }
+    {
+        self.slots
+    }
+
+    /// The coherent pool, as bytes of RAM.
+    pub fn pool(&self) -> Span
+        ensures { result ≡ self.now.pool }
+    {
+        self.pool
     }
 
     /// What a cache operation of the script is performed as (RISC-V CMO 1.0).
@@ -136,7 +176,8 @@ impl Setup {
 
     /// Operation n of the script.
     pub fn op(&self, n: u32) -> Option<&Op>
-        ensures { option_map (λ o. o.now) result ≡ slice_get self.now.script n }
+        ensures value { option_map (λ o. o.now) result ≡ slice_get self.now.script n }
+        ensures short { IsSafe self.now → IfSome result (λ o. IsShort o.now) }
     {
         self.script.get(n as usize)
     }

@@ -45,7 +45,9 @@ impl PagePool {
     /// The lowest run of n free pages, None exactly where there is no such run. This project's own: first fit.
     pub fn find(&self, n: u32) -> Option<Span>
         requires { 0 < n }
-        ensures { result ≡ lowest_span self.now n }
+        ensures lowest { result ≡ lowest_span self.now n }
+        ensures some { IfSome result (λ span. 0 < span.len) }
+        ensures ends { IfSome result (λ span. span.at + span.len ≤ 1048576) }
     {
         let first = first_run(&self.free, n as usize)?;
         Some(Span {

@@ -5,13 +5,13 @@ ghost use Rattle.std.specs.List.{find};
 ghost use Rattle.std.specs.Option.{option_map};
 ghost use Rattle.nc_num.specs.Places.{covers};
 ghost use Rattle.nc_model.specs.Grants.{FitsIn, IsGrants, CanAdd, without};
-ghost use Rattle.nc_model.specs.Rights.{hart_may, synced_may, channel_may, grant_of, has_device, served_by, stands_for, resolve};
+ghost use Rattle.nc_model.specs.Rights.{is_thread as thread_of, hart_may, synced_may, channel_may, grant_of, has_device, served_by, stands_for, resolve};
 ghost use Rattle.nc_model.specs.Touches.{first_fault, rights_touch, channel_touch, owner_touch};
 ghost use Rattle.nc_model.specs.declared.owners.Owner.TheVariants as owner;
 ghost use Rattle.nc_own.specs.Books.{owner_in, transferred, AreIntervals, IsAround, Reaches};
 
 use crate::finds::{
-    buffer_place, cpu_may, grant_allows, grant_for_channel, grant_over, grant_with_id,
+    buffer_place, cpu_may, grant_allows, grant_for_channel, grant_over, grant_with_id, is_thread,
     remove_with_id,
 };
 use crate::guesses::Guesses;
@@ -163,6 +163,25 @@ impl Book {
             None => Ok(()),
             Some(t) => Err(t),
         }
+    }
+
+    /// The first place of a span whose byte is not a hart's own, with its owner. None exactly where each byte is the
+    /// hart's own. It looks at each interval of the span once.
+    pub fn first_other(&self, me: HartNo, span: Span) -> Option<(Place, Owner)>
+        requires { span.at + span.len ≤ length self.now.owners }
+        ensures first { option_map (λ p. p.0.0) result ≡ first_fault (λ x. thread_of me (owner_in self.now.owners x)) span }
+        ensures owner { IfSome result (λ p. p.1 ≡ owner_in self.now.owners p.0.0) }
+    {
+        let end = self.end_of(span);
+        let mut at = span.at;
+        while at < end {
+            let interval = self.interval(at);
+            if !is_thread(me, interval.owner) {
+                return Some((Place(at), interval.owner));
+            }
+            at = end_of(interval.span);
+        }
+        None
     }
 
     /// The touch that a hart's access is.

@@ -4,16 +4,31 @@ ghost use Rattle.std.specs.Prelude.{◌≡◌, ◌<◌, ◌≤◌, ◌+◌, ◌^
 ghost use Rattle.std.specs.List.{find};
 ghost use Rattle.nc_num.specs.Places.{covers as span_covers};
 ghost use Rattle.nc_model.specs.Grants.{without};
-ghost use Rattle.nc_model.specs.Rights.{grant_of, served_by, has_device, is_device, buffer_place as place_of_buffer, cpu_may as may_by_cpu, device_may as may_by_device};
+ghost use Rattle.nc_model.specs.Rights.{is_thread as thread_of, grant_of, served_by, has_device, is_device, buffer_place as place_of_buffer, cpu_may as may_by_cpu, device_may as may_by_device};
 
 use nc_model::{Access, Grant, Owner};
-use nc_num::{ChanNo, Dir, MapId, Span};
+use nc_num::{ChanNo, Dir, HartNo, MapId, Span};
 
 /// Whether the place lies in the span.
 fn covers(span: Span, at: u32) -> bool
     ensures { result ≡ span_covers span at }
 {
     span.at <= at && at - span.at < span.len
+}
+
+/// Whether a byte of this owner is the hart's own.
+pub fn is_thread(me: HartNo, owner: Owner) -> bool
+    ensures { result ≡ thread_of me owner }
+{
+    match owner {
+        Owner::Thread(hart) => hart == me,
+        Owner::Passing(..)
+        | Owner::Lending(_)
+        | Owner::Device(_)
+        | Owner::Returning(_)
+        | Owner::Synced(_)
+        | Owner::Pool => false,
+    }
 }
 
 /// The grant of a mapping.
