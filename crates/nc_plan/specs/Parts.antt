@@ -5,12 +5,11 @@ use Rattle.nc_num.specs.declared.names.Dir.{Dir}
 use Rattle.nc_num.specs.declared.names.Dir.TheVariants.{Both, ToDev, FromDev}
 use Rattle.nc_plan.specs.declared.parts.Part.{Part}
 
--- both ranges end below 2^32, and have equal lengths and equal starts mod 8, so their pieces are as long
+-- both ranges end below 2^32, and have equal lengths
 pub record IsPart (p : Part) : Type 0 where
   pub buffer : p.buffer.at + p.buffer.len < 2 ^ 32
   pub device : p.device.at + p.device.len < 2 ^ 32
   pub length : p.buffer.len ≡ p.device.len
-  pub offset : p.buffer.at % 8 ≡ p.device.at % 8
 
 -- the device range is not the buffer's; the two have equal lengths
 abbrev pub is_bounced : Part → Bool

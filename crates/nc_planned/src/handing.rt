@@ -1,35 +1,27 @@
 //! Buffers that are passed from hart to hart.
 
-ghost use Rattle.std.specs.Prelude.{◌≡◌};
+ghost use Rattle.std.specs.Prelude.{◌≡◌, ◌++◌, OnOk};
 ghost use Rattle.nc_rules.specs.Handing.{hand_steps};
-ghost use Rattle.nc_rules.specs.Plans as rules;
 
-use nc_num::HartNo;
+use crate::steps::{O, W, hart_step};
+use nc_num::{HartNo, NoMemory};
 use nc_plan::{HartOp, IoTarget};
-use nc_rules::{Act, Step, Turn};
-
-/// The FENCE bit of stores to memory (RISC-V FENCE).
-const W: u8 = 1;
-
-/// The FENCE bit of stores to I/O (RISC-V FENCE).
-const O: u8 = 4;
-
-fn hart_step(op: HartOp) -> Step
-    ensures { result ≡ rules.hart_step op }
-{
-    Step {
-        act: Act::Op(op),
-        first: Turn::Stay,
-        last: Turn::Stay,
-    }
-}
+use nc_rules::Step;
 
 /// A marker of W before O, and the message.
-pub(crate) fn hand(buf: u8, to: HartNo) -> [Step; 2]
+fn hand_steps(buf: u8, to: HartNo) -> [Step; 2]
     ensures { result ≡ hand_steps buf to }
 {
     [
         hart_step(HartOp::Mark { pred: W, succ: O }),
         hart_step(HartOp::IoStore(IoTarget::Mail { buf, to })),
     ]
+}
+
+/// Puts the plan of a buffer that is passed behind the steps.
+pub(crate) fn push_hand(steps: &mut Vec<Step>, buf: u8, to: HartNo) -> Result<(), NoMemory>
+    ensures { OnOk result (steps.new.items ≡ steps.old.items ++ hand_steps buf to) }
+{
+    steps.extend_from_slice(&hand_steps(buf, to))?;
+    Ok(())
 }

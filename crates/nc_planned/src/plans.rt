@@ -1,41 +1,48 @@
 //! The plans of all operations.
 
-ghost use Rattle.std.specs.Prelude.{◌≡◌, [], true, IfOk};
+ghost use Rattle.std.specs.Prelude.{◌≡◌, ◌≤◌, ◌++◌, false, IfOk, OnOk, All};
+ghost use Rattle.nc_num.specs.Sizes.{IsBlockSize};
+ghost use Rattle.nc_planned.specs.Lenders.{lender_of, fixed_by};
+ghost use Rattle.nc_rules.specs.Lots.{Fixed, lot_waits};
 ghost use Rattle.nc_rules.specs.Operations as rules;
-ghost use Rattle.nc_rules.specs.Built.{is_built_op};
-ghost use Rattle.nc_rules.specs.Lots.{Fixed};
 
-use crate::handing::hand;
+use crate::areas::{push_calloc, push_free, push_give, push_take};
+use crate::copies::push_copy;
+use crate::handing::push_hand;
+use crate::lender::Lender;
+use crate::mappings::{push_map, push_to_cpu, push_to_dev, push_unmap};
+use crate::scatter_lists::push_unmap_sg;
 use nc_num::NoMemory;
-use nc_rules::Step;
+use nc_rules::{Kind, Lot, Step};
 use nc_scen::Op;
 use std::alloc::Global;
 use std::collections::VecDeque;
 
-/// The plan of an operation, which follows its start, of those with a start step that are built. The error is want of
-/// memory.
-#[tactic(auto, unfolding(nc_rules::specs::Operations::plan_of, nc_rules::specs::Operations::meaning, nc_rules::specs::Handing::hand))]
-pub fn plan_of(alloc: Global, op: &Op) -> Result<VecDeque<Step>, NoMemory>
-    requires start { rules.has_start op.now ≡ true }
-    requires built { is_built_op op.now ≡ true }
-    ensures { (f : Fixed) → IfOk result (λ v. v.items ≡ rules.plan_of f [] op.now) }
+/// Puts the plan of an operation behind the steps.
+#[tactic(auto, unfolding(nc_rules::specs::Operations::plan_of, nc_rules::specs::Operations::meaning, nc_rules::specs::Accesses::load, nc_rules::specs::Accesses::store, nc_rules::specs::CacheOps::cache_operation, nc_rules::specs::CacheOps::fence, nc_rules::specs::Handing::hand, nc_rules::specs::Handing::take, nc_rules::specs::Channels::claim, nc_rules::specs::Channels::free, nc_rules::specs::Channels::set_up, nc_rules::specs::Channels::run, nc_rules::specs::Channels::poll, nc_rules::specs::Channels::read_register, nc_rules::specs::Channels::write_register, nc_rules::specs::Mappings::map_single, nc_rules::specs::Mappings::unmap_single, nc_rules::specs::Mappings::sync_for_cpu, nc_rules::specs::Mappings::sync_for_device, nc_rules::specs::ScatterLists::map_sg, nc_rules::specs::ScatterLists::unmap_sg, nc_rules::specs::Areas::calloc, nc_rules::specs::Areas::give_area, nc_rules::specs::Areas::take_area, nc_rules::specs::Areas::free_area, nc_rules::specs::Copies::copy))]
+fn push_plan(steps: &mut Vec<Step>, by: &Lender, lots: &[Lot], op: &Op) -> Result<(), NoMemory>
+    requires size { IsBlockSize by.now.size }
+    requires slots { by.now.slots_at ≤ 1048576 }
+    requires placed { All (λ lot. lot_waits lot ≡ false) lots.now }
+    ensures { OnOk result (steps.new.items ≡ steps.old.items ++ rules.plan_of (fixed_by by.now) lots.now op.now) }
 {
     match op {
-        Op::Hand { buf, to } => Ok(VecDeque::from_vec(Vec::from_array(alloc, hand(*buf, *to))?)),
+        Op::Map { label, .. } => push_map(steps, by, lots, *label, Kind::Single),
+        Op::Unmap(label) => push_unmap(steps, by, lots, *label),
+        Op::ToCpu(label) => push_to_cpu(steps, by, lots, *label),
+        Op::ToDev(label) => push_to_dev(steps, by, lots, *label),
+        Op::MapSg { label, .. } => push_map(steps, by, lots, *label, Kind::List),
+        Op::UnmapSg { label, .. } => push_unmap_sg(steps, by, lots, *label),
+        Op::Calloc { label, .. } => push_calloc(steps, by, lots, *label),
+        Op::Cgive(label) => push_give(steps, by, lots, *label),
+        Op::Ctake(label) => push_take(steps, lots, *label),
+        Op::Cfree(label) => push_free(steps, lots, *label),
+        Op::Hand { buf, to } => push_hand(steps, *buf, *to),
+        Op::Copy { chan, cfg, .. } => push_copy(steps, by, lots, *chan, *cfg),
         Op::Ld { .. }
         | Op::St { .. }
         | Op::Cbo { .. }
         | Op::Fence { .. }
-        | Op::Map { .. }
-        | Op::Unmap(_)
-        | Op::ToCpu(_)
-        | Op::ToDev(_)
-        | Op::MapSg { .. }
-        | Op::UnmapSg { .. }
-        | Op::Calloc { .. }
-        | Op::Cgive(_)
-        | Op::Ctake(_)
-        | Op::Cfree(_)
         | Op::Take(_)
         | Op::Claim(_)
         | Op::Free(_)
@@ -43,7 +50,26 @@ pub fn plan_of(alloc: Global, op: &Op) -> Result<VecDeque<Step>, NoMemory>
         | Op::Run(_)
         | Op::Poll(_)
         | Op::Regr { .. }
-        | Op::Regw { .. }
-        | Op::Copy { .. } => Ok(VecDeque::new(alloc)),
+        | Op::Regw { .. } => Ok(()),
     }
+}
+
+/// The plan of an operation, which follows its start; an operation whose steps go by their number has an empty one. The
+/// lots are those that the hart has, the new ones among them, and each of their entries that bounces has its slot. The
+/// error is want of memory.
+#[tactic(auto, using(crate::proofs::PlanLaws::plans_by))]
+pub fn plan_of(
+    alloc: Global,
+    by: &Lender,
+    lots: &[Lot],
+    op: &Op,
+) -> Result<VecDeque<Step>, NoMemory>
+    requires size { IsBlockSize by.now.size }
+    requires slots { by.now.slots_at ≤ 1048576 }
+    requires placed { All (λ lot. lot_waits lot ≡ false) lots.now }
+    ensures { (f : Fixed) → lender_of f ≡ by.now → IfOk result (λ v. v.items ≡ rules.plan_of f lots.now op.now) }
+{
+    let mut steps = Vec::new(alloc);
+    push_plan(&mut steps, by, lots, op)?;
+    Ok(VecDeque::from_vec(steps))
 }
