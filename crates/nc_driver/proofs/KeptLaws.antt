@@ -1,45 +1,38 @@
--- What a driver goes on to keeps what every driver keeps, and is what nc_rules says: no driver that is built has a lot.
-use Rattle.std.proofs.Common.{arith, ◌≡◌, ℕ, ◌<◌, ◌+◌, true, false, List, [], ◌∷◌, ◌++◌, length, refl, sym, ap, subst, ◌∙◌, Option, Some, None, Ok, Err, Result}
-use Rattle.std.specs.Prelude.{drop, if◌then◌else◌, Bool, All, slice_index_or}
-use Rattle.std.proofs.lemmas.List.Elements.{All-tail}
+-- What nc_rules says of a driver's calls, case by case.
+use Rattle.std.proofs.Common.{arith, ◌≡◌, ℕ, zero, suc, ◌<◌, ◌≤◌, ◌+◌, true, false, List, [], ◌∷◌, ◌++◌, length, refl, sym, ap, subst, ◌∙◌, Option, Some, None, Ok, Err, Result}
+use Rattle.std.specs.Prelude.{drop, if◌then◌else◌, Bool, All, slice_index_or, slice_get, nat_lt}
 use Rattle.std.proofs.lemmas.Option.{slice_get_within}
-use Rattle.nc_num.specs.declared.names.HartNo.{HartNo}
 use Rattle.nc_model.specs.declared.owners.Owner.{Owner}
 use Rattle.nc_coherent.specs.Pages.{PageMap}
 use Rattle.nc_ops.specs.declared.ops.Op.{Op}
-use Rattle.nc_scen.specs.Accepted.{IsAccepted}
-use Rattle.nc_scen.specs.declared.scenario.Scenario.{Scenario}
-use Rattle.nc_rules.specs.declared.answers.Answer.{Answer}
 use Rattle.nc_rules.specs.declared.answers.Refusal.{Refusal}
+use Rattle.nc_rules.specs.declared.answers.Refusal.TheVariants as refusals
 use Rattle.nc_rules.specs.declared.lots.Lot.{Lot}
+use Rattle.nc_rules.specs.declared.steps.Act.{Act}
+use Rattle.nc_rules.specs.declared.steps.Act.TheVariants as acts
+use Rattle.nc_rules.specs.declared.steps.Next.{Next}
+use Rattle.nc_rules.specs.declared.steps.Next.TheVariants as nexts
 use Rattle.nc_rules.specs.declared.steps.Phase.{Phase}
 use Rattle.nc_rules.specs.declared.steps.Phase.TheVariants.{Steps, Search, Work}
 use Rattle.nc_rules.specs.declared.steps.Seen.{Seen}
 use Rattle.nc_rules.specs.declared.steps.Step.{Step}
+use Rattle.nc_rules.specs.declared.answers.Answer.{Answer}
 use Rattle.nc_rules.specs.declared.steps.Turn.{Turn}
 use Rattle.nc_rules.specs.declared.steps.Turn.TheVariants as turns
-use Rattle.nc_rules.specs.Built.{IsBuilt, is_built_op}
-use Rattle.nc_rules.specs.Lots.{Fixed}
-use Rattle.nc_rules.specs.Turns.{Moved, moved, lots_after, lots_after_both, turned}
-use Rattle.nc_rules.specs.Operations.{has_start, begin, plan_of, opening, step_at, good_answer, bad_answer}
-use Rattle.nc_rules.specs.Driver.{DriverState, Went, in_hand, next_of, next_of_op, next_in, over, stands, stays, kept, give_up, went_to, answered, opened, placed, with_lots, begun, refused_step, steps_done, started, started_op, started_of, busy, stepped_to, step_answer, stepped, worked, done, done_of, done_unless, done_in}
-use Rattle.nc_rules.specs.Start.{first_driver}
-use Rattle.nc_scripts.specs.Scripts.{IsDriver, IsPhase, StepIsThere, is_act}
-use Rattle.nc_scripts.proofs.DriverLaws.{IsInHand, first_drivers, in_hand_is, went_is, plan_there, few_steps, next_step_is}
+use Rattle.nc_rules.specs.Lots.{Fixed, some_lot_waits, slot_given}
+use Rattle.nc_rules.specs.Turns.{lots_after, lots_after_both, turned}
+use Rattle.nc_rules.specs.Operations.{has_start, begin, step_at, opening, plan_of}
+use Rattle.nc_rules.specs.Driver.{DriverState, Went, in_hand, next_of, next_of_op, next_in, next_rest, next_act, over, stands, stays, searches, kept, give_up, went_to, answered, opened, placed, with_lots, begun, refused_step, steps_done, started, started_of, told, told_of, told_in, missed, busy, stepped_to, step_answer, stepped, worked, done, done_of, done_unless, done_in}
+use Rattle.nc_scripts.specs.Scripts.{is_act}
+use Rattle.nc_scripts.specs.Drivers.{AreThere, IsAtWork, IsPhase}
+use Rattle.nc_scripts.proofs.DriverLaws.{next_step_is, both_stay, stepped_to_fixed, went_fixed}
+use Rattle.nc_scripts.proofs.DriverSteps.{IsStep}
+use Rattle.nc_scripts.proofs.EveryDriver.{IsInHand, in_hand_is, step_of as step_of_script}
 use Rattle.nc_checks.specs.Due.{step_of, step_due}
-use Rattle.nc_driver.specs.Kept.{IsKept, IsReady, due_of}
+use Rattle.nc_driver.specs.Kept.{IsKept, IsDue, IsDueIn, IsSound, due_of}
 use Rattle.nc_driver.specs.Rests.{is_more, is_nil, made_first, made_last}
 
-pub first_kept : (sc : Scenario) (me : HartNo) → IsAccepted sc → IsBuilt sc → me.0 < length sc.harts → IsKept (first_driver sc me)
-first_kept sc me a b lt = record { ram = sc.ram; harts = length sc.harts; driver = first_drivers sc me a b lt }
-
-pub built_op : (d : DriverState) (o : Op) → IsKept d → in_hand d ≡ Some o → is_built_op o ≡ true
-built_op d o k e = (in_hand_is k.ram k.harts d o k.driver e).built
-
-pub plan_kept : (d : DriverState) (o : Op) → IsKept d → in_hand d ≡ Some o → has_start o ≡ true → IsKept (went_to d [] d.saw (plan_of d.fixed [] o))
-plan_kept d o k e start =
-    let h = in_hand_is k.ram k.harts d o k.driver e in
-    record { ram = k.ram; harts = k.harts; driver = went_is k.ram k.harts d [] d.saw (plan_of d.fixed [] o) k.driver h.here refl (plan_there k.ram k.harts d.fixed o k.driver.fixed h.fits start h.built) }
+-- ---- the operation in hand
 
 here_by : (d : DriverState) (o : Option Op) → in_hand d ≡ o → is_act (next_of_op d o) ≡ true → d.op < length d.fixed.script
 here_by d None e act = absurd (cc)
@@ -63,37 +56,36 @@ pub act_in : (d : DriverState) (o : Op) → in_hand d ≡ Some o → is_act (nex
 unfolding next_of
 act_in d o e act = subst (λ (x : Option Op). is_act (next_of_op d x) ≡ true) e act
 
-pub few_act : (d : DriverState) (n : ℕ) → IsKept d → d.phase ≡ Steps n → is_act (next_of d) ≡ true → n < 4096
-few_act d n k p act =
-    let o = act_hand d act in
-    few_steps k.ram k.harts d o.0 n k.driver (in_hand_is k.ram k.harts d o.0 k.driver o.1) (subst (λ (q : Phase). is_act (next_in d o.0 q) ≡ true) p (act_in d o.0 o.1 act))
+pub same_op : (d : DriverState) (o p : Op) → in_hand d ≡ Some o → in_hand d ≡ Some p → o ≡ p
+same_op d o p e f = cc
 
--- ---- no lots
+searches_not : (d : DriverState) (o : Option Op) (k : ℕ) (p : Phase) → p ≡ d.phase → d.phase ≡ Search k → is_act (next_of_op d o) ≡ true → ⊥
+searches_not d None k p e at act = absurd (cc)
+searches_not d (Some o) k p e at act = let not : is_act (next_in d o (Search k)) ≡ true = subst (λ (q : Phase). is_act (next_in d o q) ≡ true) at act in absurd (cc)
 
-none_after : (t : Turn) → lots_after t [] ≡ []
-none_after turns.Stay = refl
-none_after (turns.Pass range to) = refl
-none_after (turns.Own range) = refl
-none_after (turns.Lend id) = refl
-none_after (turns.Give id) = refl
-none_after (turns.Return id) = refl
-none_after (turns.Sync id) = refl
-none_after (turns.Settle id) = refl
-none_after (turns.End id) = refl
+-- where a slot is searched the machine makes no step
+pub not_searching : (d : DriverState) (k : ℕ) → is_act (next_of d) ≡ true → d.phase ≡ Search k → ⊥
+unfolding next_of
+not_searching d k act at = searches_not d (in_hand d) k d.phase refl at act
 
-none_after_both : (t u : Turn) → lots_after_both t u [] ≡ []
-none_after_both t u = ap (λ (ls : List Lot). lots_after u ls) (none_after t) ∙ none_after u
+-- an operation of that number is in hand
+pub none_not : {A : Type 0} (xs : List A) (n : ℕ) → slice_get xs n ≡ None → n < length xs → ⊥
+none_not [] n e lt = absurd (omega (arith, lt))
+none_not (x ∷ xs) zero e lt = absurd (cc)
+none_not (x ∷ xs) (suc n) e lt = none_not xs n e (omega (arith, lt))
 
-bare : (d : DriverState) → d.lots ≡ [] → d ≡ with_lots d []
-bare d none = ap (with_lots d) none
+hand_of : (d : DriverState) (o : Option Op) → in_hand d ≡ o → d.op < length d.fixed.script → (p : Op) × (in_hand d ≡ Some p)
+hand_of d None e lt = absurd (none_not d.fixed.script d.op e lt)
+hand_of d (Some o) e lt = (o, e)
 
--- ---- giving up
-
-pub gave_up : (d : DriverState) (o : Op) (r : Refusal) → d.lots ≡ [] → give_up d o r ≡ record { driver = over d []; moves = moved [] (Some (bad_answer d.fixed d.lots o r)) }
-gave_up d o r none =
-    subst (λ (ls : List Lot). give_up (with_lots d ls) o r ≡ record { driver = over d []; moves = moved [] (Some (bad_answer d.fixed ls o r)) }) (sym none) refl
+pub some_hand : (d : DriverState) → d.op < length d.fixed.script → (o : Op) × (in_hand d ≡ Some o)
+some_hand d lt = hand_of d (in_hand d) refl lt
 
 -- ---- start
+
+pub start_ends : (d : DriverState) (ws : List Owner) (pages : PageMap) → in_hand d ≡ None → started d ws pages ≡ stays d
+unfolding started
+start_ends d ws pages e = ap (λ (x : Option Op). started_of d ws pages x) e
 
 on_start : (d : DriverState) (ws : List Owner) (pages : PageMap) (o : Op) → in_hand d ≡ Some o → has_start o ≡ true → started d ws pages ≡ begun d o (begin d.fixed d.lots ws pages o)
 unfolding started
@@ -101,129 +93,102 @@ on_start d ws pages o e start =
     ap (λ (x : Option Op). started_of d ws pages x) e
     ∙ ap (λ (t : Bool). if t then begun d o (begin d.fixed d.lots ws pages o) else refused_step d o (step_at d.fixed d.lots o (steps_done d.phase))) start
 
-pub begun_refused : (d : DriverState) (ws : List Owner) (pages : PageMap) (o : Op) (r : Refusal) → d.lots ≡ [] → in_hand d ≡ Some o → has_start o ≡ true → begin d.fixed [] ws pages o ≡ Err r → started d ws pages ≡ give_up d o r
-begun_refused d ws pages o r none e start is =
-    on_start d ws pages o e start ∙ ap (λ (ls : List Lot). begun d o (begin d.fixed ls ws pages o)) none ∙ ap (begun d o) is
+pub begun_refused : (d : DriverState) (ws : List Owner) (pages : PageMap) (o : Op) (r : Refusal) → in_hand d ≡ Some o → has_start o ≡ true → begin d.fixed d.lots ws pages o ≡ Err r → started d ws pages ≡ give_up d o r
+begun_refused d ws pages o r e start is = on_start d ws pages o e start ∙ ap (begun d o) is
 
-went_bare : (d : DriverState) (saw : Seen) (rest : List Step) → went_to (with_lots d []) [] saw rest ≡ went_to d [] saw rest
-went_bare d saw [] = refl
-went_bare d saw (s ∷ rest) = refl
+pub begun_placed : (d : DriverState) (ws : List Owner) (pages : PageMap) (o : Op) (new : List Lot) → in_hand d ≡ Some o → has_start o ≡ true → begin d.fixed d.lots ws pages o ≡ Ok new → started d ws pages ≡ placed (with_lots d (d.lots ++ new)) o
+begun_placed d ws pages o new e start is = on_start d ws pages o e start ∙ ap (begun d o) is
 
-opened_none : (d : DriverState) (o : Op) → opened (with_lots d []) o ≡ record {
-  driver = went_to d [] d.saw (plan_of d.fixed [] o);
-  moves = turned d.fixed [] (opening d.fixed [] o) turns.Stay (answered (with_lots d []) o d.saw (plan_of d.fixed [] o));
-}
-opened_none d o =
-    ap (λ (ls : List Lot). record { driver = went_to (with_lots d []) ls d.saw (plan_of d.fixed [] o); moves = turned d.fixed [] (opening d.fixed [] o) turns.Stay (answered (with_lots d []) o d.saw (plan_of d.fixed [] o)) })
-    (none_after (opening d.fixed [] o))
-    ∙ ap (λ (x : DriverState). record { driver = x; moves = turned d.fixed [] (opening d.fixed [] o) turns.Stay (answered (with_lots d []) o d.saw (plan_of d.fixed [] o)) }) (went_bare d d.saw (plan_of d.fixed [] o))
-
-pub begun_opened : (d : DriverState) (ws : List Owner) (pages : PageMap) (o : Op) → d.lots ≡ [] → in_hand d ≡ Some o → has_start o ≡ true → begin d.fixed [] ws pages o ≡ Ok []
-    → started d ws pages ≡ record {
-      driver = went_to d [] d.saw (plan_of d.fixed [] o);
-      moves = turned d.fixed [] (opening d.fixed [] o) turns.Stay (answered d o d.saw (plan_of d.fixed [] o));
-    }
-begun_opened d ws pages o none e start is =
-    on_start d ws pages o e start ∙ ap (λ (ls : List Lot). begun d o (begin d.fixed ls ws pages o)) none ∙ ap (begun d o) is
-    ∙ ap (λ (ls : List Lot). placed (with_lots d (ls ++ [])) o) none ∙ opened_none d o
-    ∙ ap (λ (x : DriverState). record { driver = went_to d [] d.saw (plan_of d.fixed [] o); moves = turned d.fixed [] (opening d.fixed [] o) turns.Stay (answered x o d.saw (plan_of d.fixed [] o)) }) (sym (bare d none))
-
--- a refusal of a step
-pub start_refused : (d : DriverState) (ws : List Owner) (pages : PageMap) (o : Op) (r : Refusal) → d.lots ≡ [] → in_hand d ≡ Some o → has_start o ≡ false → due_of d ≡ Err r → started d ws pages ≡ give_up d o r
+no_start : (d : DriverState) (ws : List Owner) (pages : PageMap) (o : Op) → in_hand d ≡ Some o → has_start o ≡ false → started d ws pages ≡ refused_step d o (due_of d)
 unfolding started
-start_refused d ws pages o r none e start is =
+no_start d ws pages o e start =
     ap (λ (x : Option Op). started_of d ws pages x) e
     ∙ ap (λ (t : Bool). if t then begun d o (begin d.fixed d.lots ws pages o) else refused_step d o (step_at d.fixed d.lots o (steps_done d.phase))) start
-    ∙ ap (λ (ls : List Lot). refused_step d o (step_at d.fixed ls o (steps_done d.phase))) none
-    ∙ ap (refused_step d o) (sym (ap (λ (x : Option Op). step_of d.fixed (steps_done d.phase) x) e) ∙ is)
+    ∙ ap (refused_step d o) (sym (ap (λ (x : Option Op). step_of d.fixed d.lots (steps_done d.phase) x) e))
+
+next_act_not : (a : Act) → next_act a ≡ nexts.Start → ⊥
+next_act_not (acts.Op op) e = absurd (cc)
+next_act_not (acts.Claim chan) e = absurd (cc)
+next_act_not (acts.Poll chan) e = absurd (cc)
+next_act_not (acts.Take buf) e = absurd (cc)
+
+next_rest_not : (rest : List Step) → 0 < length rest → next_rest rest ≡ nexts.Start → ⊥
+next_rest_not [] lt e = absurd (omega arith)
+next_rest_not (s ∷ rest) lt e = next_act_not s.act e
+
+-- a start is due where steps are counted
+steps_start : (d : DriverState) (o : Op) (p : Phase) → IsPhase d p → next_in d o p ≡ nexts.Start → (n : ℕ) × (p ≡ Steps n)
+steps_start d o (Steps n) h e = (n, refl)
+steps_start d o (Search k) h e = absurd (cc)
+steps_start d o Work h e = absurd (next_rest_not d.rest h.some e)
+
+pub start_at : (d : DriverState) (o : Op) → IsKept d → in_hand d ≡ Some o → next_of d ≡ nexts.Start → (n : ℕ) × (d.phase ≡ Steps n)
+unfolding next_of
+start_at d o k e start = steps_start d o d.phase k.driver.phase (subst (λ (x : Option Op). next_of_op d x ≡ nexts.Start) e start)
+
+due_in : (d : DriverState) (n : ℕ) (p : Phase) (due : Result (Option Step) Refusal) → p ≡ Steps n → IsDueIn d p due → due ≡ step_due d.fixed d.lots d.op n
+due_in d n (Steps m) due e at = let same : m ≡ n = cc in at ∙ ap (λ (k : ℕ). step_due d.fixed d.lots d.op k) same
+due_in d n (Search k) due e at = absurd (cc)
+due_in d n Work due e at = absurd (cc)
+
+pub due_at : (d : DriverState) (n : ℕ) (due : Result (Option Step) Refusal) → d.phase ≡ Steps n → IsDue d due → due ≡ step_due d.fixed d.lots d.op n
+due_at d n due e at = due_in d n d.phase due e at
+
+pub due_start : (d : DriverState) (o : Op) (due : Result (Option Step) Refusal) → IsKept d → in_hand d ≡ Some o → next_of d ≡ nexts.Start → IsDue d due → due_of d ≡ due
+due_start d o due k e start at =
+    let s = start_at d o k e start in
+    ap (λ (p : Phase). step_due d.fixed d.lots d.op (steps_done p)) s.1 ∙ sym (due_at d s.0 due s.1 at)
+
+pub start_refused : (d : DriverState) (ws : List Owner) (pages : PageMap) (o : Op) (r : Refusal) → in_hand d ≡ Some o → has_start o ≡ false → due_of d ≡ Err r → started d ws pages ≡ give_up d o r
+start_refused d ws pages o r e start is = no_start d ws pages o e start ∙ ap (refused_step d o) is
+
+pub start_stays : (d : DriverState) (ws : List Owner) (pages : PageMap) (o : Op) (s : Option Step) → in_hand d ≡ Some o → has_start o ≡ false → due_of d ≡ Ok s → started d ws pages ≡ stays d
+start_stays d ws pages o s e start is = no_start d ws pages o e start ∙ ap (refused_step d o) is
+
+-- ---- a search, or the opening
+
+pub placed_waits : (d : DriverState) (o : Op) → some_lot_waits d.lots ≡ true → placed d o ≡ stays (searches d 0)
+placed_waits d o e = ap (λ (t : Bool). if t then stays (searches d 0) else opened d o) e
+
+pub placed_opens : (d : DriverState) (o : Op) → some_lot_waits d.lots ≡ false → placed d o ≡ opened d o
+placed_opens d o e = ap (λ (t : Bool). if t then stays (searches d 0) else opened d o) e
+
+-- ---- told
+
+pub told_ends : (d : DriverState) (got : Bool) → in_hand d ≡ None → told d got ≡ stays d
+unfolding told
+told_ends d got e = ap (λ (x : Option Op). told_of d x got) e
+
+told_some : (d : DriverState) (o : Op) (got : Bool) (p : Phase) → in_hand d ≡ Some o → d.phase ≡ p → told d got ≡ told_in d o p got
+unfolding told
+told_some d o got p e at = ap (λ (x : Option Op). told_of d x got) e ∙ ap (λ (q : Phase). told_in d o q got) at
+
+told_idle : (d : DriverState) (o : Option Op) (got : Bool) (p : Phase) → p ≡ d.phase → ((o : Op) → told_in d o p got ≡ stays d) → told_of d o got ≡ stays d
+told_idle d None got p e h = refl
+told_idle d (Some o) got p e h = subst (λ (q : Phase). told_in d o q got ≡ stays d) e (h o)
+
+pub told_steps : (d : DriverState) (got : Bool) (n : ℕ) → d.phase ≡ Steps n → told d got ≡ stays d
+unfolding told
+told_steps d got n e = told_idle d (in_hand d) got (Steps n) (sym e) (λ o. refl)
+
+pub told_work : (d : DriverState) (got : Bool) → d.phase ≡ Work → told d got ≡ stays d
+unfolding told
+told_work d got e = told_idle d (in_hand d) got Work (sym e) (λ o. refl)
+
+pub told_got : (d : DriverState) (o : Op) (k : ℕ) → in_hand d ≡ Some o → d.phase ≡ Search k → told d true ≡ placed (with_lots d (slot_given k d.lots)) o
+told_got d o k e at = told_some d o true (Search k) e at
+
+pub told_missed : (d : DriverState) (o : Op) (k : ℕ) → in_hand d ≡ Some o → d.phase ≡ Search k → told d false ≡ missed d o k
+told_missed d o k e at = told_some d o false (Search k) e at
+
+pub missed_more : (d : DriverState) (o : Op) (k : ℕ) → nat_lt (k + 1) d.fixed.slots ≡ true → missed d o k ≡ stays (searches d (k + 1))
+missed_more d o k e = ap (λ (t : Bool). if t then stays (searches d (k + 1)) else give_up d o refusals.NoSlot) e
+
+pub missed_all : (d : DriverState) (o : Op) (k : ℕ) → nat_lt (k + 1) d.fixed.slots ≡ false → missed d o k ≡ give_up d o refusals.NoSlot
+missed_all d o k e = ap (λ (t : Bool). if t then stays (searches d (k + 1)) else give_up d o refusals.NoSlot) e
 
 -- ---- done
 
-stepped_bare : (d : DriverState) (n : ℕ) (saw : Seen) (next : Result (Option Step) Refusal) → stepped_to (with_lots d []) n [] saw next ≡ stepped_to d n [] saw next
-stepped_bare d n saw (Err r) = refl
-stepped_bare d n saw (Ok (Some s)) = refl
-stepped_bare d n saw (Ok None) = refl
-
--- step n is made, and leaves this one
-abbrev pub Stepped : DriverState → DriverState → Op → ℕ → Seen → Result (Option Step) Refusal → Result (Option Step) Refusal → Type 0
-Stepped b d o n saw r next = stepped b o n saw r next ≡ record {
-  driver = stepped_to d n [] saw next;
-  moves = turned d.fixed [] (made_first r) (made_last r) (step_answer b o saw next);
-}
-
-stepped_none : (d : DriverState) (o : Op) (n : ℕ) (saw : Seen) (s : Step) (next : Result (Option Step) Refusal) → Stepped (with_lots d []) d o n saw (Ok (Some s)) next
-stepped_none d o n saw s next =
-    let moves = turned d.fixed [] s.first s.last (step_answer (with_lots d []) o saw next) in
-    ap (λ (ls : List Lot). record { driver = stepped_to (with_lots d []) n ls saw next; moves = moves }) (none_after_both s.first s.last)
-    ∙ ap (λ (x : DriverState). record { driver = x; moves = moves }) (stepped_bare d n saw next)
-
-due_is : (d : DriverState) (o : Op) (n : ℕ) → d.phase ≡ Steps n → in_hand d ≡ Some o → due_of d ≡ step_at d.fixed [] o n
-due_is d o n p e = ap (λ (q : Phase). step_due d.fixed d.op (steps_done q)) p ∙ ap (λ (x : Option Op). step_of d.fixed n x) e
-
-after_is : (d : DriverState) (o : Op) (n : ℕ) → in_hand d ≡ Some o → step_due d.fixed d.op n ≡ step_at d.fixed [] o n
-after_is d o n e = ap (λ (x : Option Op). step_of d.fixed n x) e
-
-stepped_by : (d : DriverState) (o : Op) (n : ℕ) (saw : Seen) (s : Step) (after : Result (Option Step) Refusal) → d.phase ≡ Steps n → in_hand d ≡ Some o → step_at d.fixed [] o n ≡ Ok (Some s)
-    → after ≡ step_due d.fixed d.op (n + 1)
-    → done_in (with_lots d []) o saw (Steps n) ≡ record {
-      driver = stepped_to d (n + 1) [] saw after;
-      moves = turned d.fixed [] (made_first (due_of d)) (made_last (due_of d)) (step_answer (with_lots d []) o saw after);
-    }
-stepped_by d o n saw s after p e is a =
-    let next = step_at d.fixed [] o (n + 1) in
-    let b = with_lots d [] in
-    let made = subst (λ (r : Result (Option Step) Refusal). Stepped b d o (n + 1) saw r next) (sym is) (stepped_none d o (n + 1) saw s next) in
-    made
-    ∙ ap (λ (r : Result (Option Step) Refusal). record { driver = stepped_to d (n + 1) [] saw next; moves = turned d.fixed [] (made_first r) (made_last r) (step_answer b o saw next) }) (sym (due_is d o n p e))
-    ∙ ap (λ (t : Result (Option Step) Refusal). record { driver = stepped_to d (n + 1) [] saw t; moves = turned d.fixed [] (made_first (due_of d)) (made_last (due_of d)) (step_answer b o saw t) }) (sym (a ∙ after_is d o (n + 1) e))
-
-step_of_next : (d : DriverState) (o : Op) (n : ℕ) → d.lots ≡ [] → d.phase ≡ Steps n → in_hand d ≡ Some o → is_act (next_of d) ≡ true → (s : Step) × (step_at d.fixed [] o n ≡ Ok (Some s))
-step_of_next d o n none p e act =
-    let s = next_step_is d o n (subst (λ (q : Phase). is_act (next_in d o q) ≡ true) p (act_in d o e act)) in
-    (s.0, ap (λ (ls : List Lot). step_at d.fixed ls o n) (sym none) ∙ s.1)
-
--- the step that is due, and what it leaves
-pub step_done : (d : DriverState) (o : Op) (n : ℕ) (saw : Seen) (after : Result (Option Step) Refusal) → d.lots ≡ [] → d.phase ≡ Steps n → in_hand d ≡ Some o → is_act (next_of d) ≡ true
-    → after ≡ step_due d.fixed d.op (n + 1)
-    → done_in d o saw (Steps n) ≡ record {
-      driver = stepped_to d (n + 1) [] saw after;
-      moves = turned d.fixed [] (made_first (due_of d)) (made_last (due_of d)) (step_answer d o saw after);
-    }
-step_done d o n saw after none p e act a =
-    let s = step_of_next d o n none p e act in
-    ap (λ (x : DriverState). done_in x o saw (Steps n)) (bare d none)
-    ∙ stepped_by d o n saw s.0 after p e s.1 a
-    ∙ ap (λ (x : DriverState). record { driver = stepped_to d (n + 1) [] saw after; moves = turned d.fixed [] (made_first (due_of d)) (made_last (due_of d)) (step_answer x o saw after) }) (sym (bare d none))
-
-pub more_left : (d : DriverState) (n : ℕ) (saw : Seen) (step : Result (Option Step) Refusal) → is_more step ≡ true → stepped_to d n [] saw step ≡ stands d (Steps n) [] [] saw
-more_left d n saw (Err r) m = refl
-more_left d n saw (Ok (Some s)) m = refl
-more_left d n saw (Ok None) m = absurd (cc)
-
-pub none_left : (d : DriverState) (n : ℕ) (saw : Seen) (step : Result (Option Step) Refusal) → is_more step ≡ false → stepped_to d n [] saw step ≡ over d []
-none_left d n saw (Err r) m = absurd (cc)
-none_left d n saw (Ok (Some s)) m = absurd (cc)
-none_left d n saw (Ok None) m = refl
-
--- the first step of a rest, and what it leaves
-worked_none : (d : DriverState) (o : Op) (saw : Seen) (s : Step) (rest : List Step) → worked (with_lots d []) o saw (s ∷ rest) ≡ record {
-  driver = went_to d [] saw rest;
-  moves = turned d.fixed [] s.first s.last (answered (with_lots d []) o saw rest);
-}
-worked_none d o saw s rest =
-    let moves = turned d.fixed [] s.first s.last (answered (with_lots d []) o saw rest) in
-    ap (λ (ls : List Lot). record { driver = went_to (with_lots d []) ls saw rest; moves = moves }) (none_after_both s.first s.last)
-    ∙ ap (λ (x : DriverState). record { driver = x; moves = moves }) (went_bare d saw rest)
-
-pub work_done : (d : DriverState) (o : Op) (saw : Seen) (s : Step) (rest : List Step) → d.lots ≡ [] → d.rest ≡ s ∷ rest → worked d o saw d.rest ≡ record {
-  driver = went_to d [] saw rest;
-  moves = turned d.fixed [] s.first s.last (answered d o saw rest);
-}
-work_done d o saw s rest none is =
-    ap (worked d o saw) is ∙ ap (λ (x : DriverState). worked x o saw (s ∷ rest)) (bare d none) ∙ worked_none d o saw s rest
-    ∙ ap (λ (x : DriverState). record { driver = went_to d [] saw rest; moves = turned d.fixed [] s.first s.last (answered x o saw rest) }) (sym (bare d none))
-
--- what a step that was made is
 pub done_busy : (d : DriverState) (saw : Seen) (o : Op) (r : Refusal) → in_hand d ≡ Some o → busy saw ≡ Some r → done d saw ≡ give_up d o r
 unfolding done
 done_busy d saw o r e b = ap (λ (x : Option Op). done_of d saw x) e ∙ ap (λ (x : Option Refusal). done_unless d o saw x) b
@@ -232,50 +197,116 @@ pub done_made : (d : DriverState) (saw : Seen) (o : Op) (p : Phase) → in_hand 
 unfolding done
 done_made d saw o p e b at = ap (λ (x : Option Op). done_of d saw x) e ∙ ap (λ (x : Option Refusal). done_unless d o saw x) b ∙ ap (λ (q : Phase). done_in d o (kept d.saw saw) q) at
 
--- ---- the rest behind the first step
+-- the step that is due is one of the operation in hand
+due_is : (d : DriverState) (o : Op) (n : ℕ) → in_hand d ≡ Some o → step_due d.fixed d.lots d.op n ≡ step_at d.fixed d.lots o n
+due_is d o n e = ap (λ (x : Option Op). step_of d.fixed d.lots n x) e
 
-some_rest : (rest : List Step) → is_nil rest ≡ false → 0 < length rest
-some_rest [] e = absurd (cc)
-some_rest (s ∷ rest) e = omega arith
+-- a step that is made, which is due: its turns leave the lots as they are, and few steps are done
+pub record IsMade (d : DriverState) (n : ℕ) : Type 0 where
+  pub step : Step
+  pub due : step_due d.fixed d.lots d.op n ≡ Ok (Some step)
+  pub few : n < 4096
+  pub lots : lots_after_both step.first step.last d.lots ≡ d.lots
 
-rest_there : (P : Step → Type 0) (rest : List Step) → All P rest → All P (drop 1 rest)
-rest_there P [] all = all
-rest_there P (s ∷ rest) all = All-tail P s rest all
+pub made_at : (d : DriverState) (o : Op) (n : ℕ) → IsKept d → d.phase ≡ Steps n → in_hand d ≡ Some o → is_act (next_of d) ≡ true → IsMade d n
+made_at d o n k p e act =
+    let s = next_step_is d o n (subst (λ (q : Phase). is_act (next_in d o q) ≡ true) p (act_in d o e act)) in
+    let is = step_of_script k.ram k.harts d o n s.0 k.driver (in_hand_is k.ram k.harts d o k.driver.fixed e) s.1 in
+    record { step = s.0; due = due_is d o n e ∙ s.1; few = is.few; lots = both_stay k.ram d.lots s.0.first s.0.last is.there.first is.there.last }
 
-pub drop_ready : (d : DriverState) (step : Result (Option Step) Refusal) (saw : Seen) → IsReady d step → d.phase ≡ Work → is_nil (drop 1 d.rest) ≡ false
-    → IsReady (record { fixed = d.fixed; op = d.op; phase = d.phase; rest = drop 1 d.rest; lots = []; saw = saw }) step
-drop_ready d step saw r p more = record {
-  kept = record {
-    ram = r.kept.ram;
-    harts = r.kept.harts;
-    driver = record {
-      fixed = r.kept.driver.fixed;
-      op = r.kept.driver.op;
-      phase = subst (λ (q : Phase). IsPhase q (drop 1 d.rest)) (sym p) (some_rest (drop 1 d.rest) more);
-      rest = rest_there (StepIsThere r.kept.ram r.kept.harts d.fixed) d.rest r.kept.driver.rest;
-      lots = refl;
-    };
-  };
-  due = r.due;
+-- step n is made, and leaves this one
+abbrev Stepped : DriverState → Op → ℕ → Seen → Result (Option Step) Refusal → Result (Option Step) Refusal → Type 0
+Stepped d o n saw r next = stepped d o (n + 1) saw r next ≡ record {
+  driver = stepped_to d (n + 1) d.lots saw next;
+  moves = turned d.fixed d.lots (made_first r) (made_last r) (step_answer d o saw next);
 }
 
-first_is : (rest : List Step) (s : Step) → 0 < length rest → s ≡ slice_index_or rest 0 s → rest ≡ s ∷ drop 1 rest
+stepped_by : (d : DriverState) (o : Op) (n : ℕ) (saw : Seen) (s : Step) (next : Result (Option Step) Refusal) → lots_after_both s.first s.last d.lots ≡ d.lots → Stepped d o n saw (Ok (Some s)) next
+stepped_by d o n saw s next same =
+    ap (λ (ls : List Lot). record { driver = stepped_to d (n + 1) ls saw next; moves = turned d.fixed d.lots s.first s.last (step_answer d o saw next) }) same
+
+pub step_done : (d : DriverState) (o : Op) (n : ℕ) (saw : Seen) (due after : Result (Option Step) Refusal) → IsMade d n → in_hand d ≡ Some o → due ≡ step_due d.fixed d.lots d.op n → after ≡ step_due d.fixed d.lots d.op (n + 1)
+    → done_in d o saw (Steps n) ≡ record {
+      driver = stepped_to d (n + 1) d.lots saw after;
+      moves = turned d.fixed d.lots (made_first due) (made_last due) (step_answer d o saw after);
+    }
+step_done d o n saw due after m e b a =
+    let next = step_at d.fixed d.lots o (n + 1) in
+    let is = sym (due_is d o n e) ∙ m.due in
+    let made = subst (λ (r : Result (Option Step) Refusal). Stepped d o n saw r next) (sym is) (stepped_by d o n saw m.step next m.lots) in
+    made
+    ∙ ap (λ (r : Result (Option Step) Refusal). record { driver = stepped_to d (n + 1) d.lots saw next; moves = turned d.fixed d.lots (made_first r) (made_last r) (step_answer d o saw next) }) (sym (b ∙ due_is d o n e))
+    ∙ ap (λ (t : Result (Option Step) Refusal). record { driver = stepped_to d (n + 1) d.lots saw t; moves = turned d.fixed d.lots (made_first due) (made_last due) (step_answer d o saw t) }) (sym (a ∙ due_is d o (n + 1) e))
+
+-- what it moves is there
+pub step_there : (d : DriverState) (o : Op) (n : ℕ) (saw : Seen) (due after : Result (Option Step) Refusal) (t u : Turn) (a : Option Answer) → IsMade d n → in_hand d ≡ Some o → due ≡ step_due d.fixed d.lots d.op n → after ≡ step_due d.fixed d.lots d.op (n + 1)
+    → t ≡ made_first due → u ≡ made_last due → a ≡ step_answer d o saw after → IsSound (done_in d o saw (Steps n)) → (ram : ℕ) × AreThere ram d.fixed (turned d.fixed d.lots t u a)
+step_there d o n saw due after t u a m e b k first last is sound =
+    let s = subst (λ (w : Went). IsSound w) (step_done d o n saw due after m e b k) sound in
+    let fixed = stepped_to_fixed d (n + 1) d.lots saw after in
+    (s.ram, rw (first, last, is) (subst (λ (f : Fixed). AreThere s.ram f (turned d.fixed d.lots (made_first due) (made_last due) (step_answer d o saw after))) fixed s.moves))
+
+pub more_left : (d : DriverState) (n : ℕ) (lots : List Lot) (saw : Seen) (step : Result (Option Step) Refusal) → is_more step ≡ true → stepped_to d n lots saw step ≡ stands d (Steps n) [] lots saw
+more_left d n lots saw (Err r) m = refl
+more_left d n lots saw (Ok (Some s)) m = refl
+more_left d n lots saw (Ok None) m = absurd (cc)
+
+pub none_left : (d : DriverState) (n : ℕ) (lots : List Lot) (saw : Seen) (step : Result (Option Step) Refusal) → is_more step ≡ false → stepped_to d n lots saw step ≡ over d lots
+none_left d n lots saw (Err r) m = absurd (cc)
+none_left d n lots saw (Ok (Some s)) m = absurd (cc)
+none_left d n lots saw (Ok None) m = refl
+
+-- ---- a plan that is at work
+
+-- the first step of a rest, and what it leaves
+pub work_done : (d : DriverState) (o : Op) (saw : Seen) (s : Step) (rest : List Step) → d.rest ≡ s ∷ rest → worked d o saw d.rest ≡ record {
+  driver = went_to d (lots_after_both s.first s.last d.lots) saw rest;
+  moves = turned d.fixed d.lots s.first s.last (answered d o saw rest);
+}
+work_done d o saw s rest is = ap (worked d o saw) is
+
+pub first_is : (rest : List Step) (s : Step) → 0 < length rest → s ≡ slice_index_or rest 0 s → rest ≡ s ∷ drop 1 rest
 first_is [] s lt e = absurd (omega (arith, lt))
 first_is (t ∷ rest) s lt e = ap (λ (x : Step). x ∷ rest) (sym e)
 
--- a plan that is at work has a first step
-pub front_rest : (d : DriverState) (s : Step) → IsKept d → d.phase ≡ Work → s ≡ slice_index_or d.rest 0 s → d.rest ≡ s ∷ drop 1 d.rest
-front_rest d s k p e = first_is d.rest s (subst (λ (q : Phase). IsPhase q d.rest) p k.driver.phase) e
+-- a plan that is at work has a first step, and all lots have their slots
+work_in : (d : DriverState) (p : Phase) → p ≡ Work → IsPhase d p → IsAtWork d
+work_in d (Steps n) e h = absurd (cc)
+work_in d (Search k) e h = absurd (cc)
+work_in d Work e h = h
 
--- a step that is due and not refused is no start
-pub start_stays : (d : DriverState) (ws : List Owner) (pages : PageMap) (o : Op) (s : Option Step) → d.lots ≡ [] → in_hand d ≡ Some o → has_start o ≡ false → due_of d ≡ Ok s → started d ws pages ≡ stays d
-unfolding started
-start_stays d ws pages o s none e start is =
-    ap (λ (x : Option Op). started_of d ws pages x) e
-    ∙ ap (λ (t : Bool). if t then begun d o (begin d.fixed d.lots ws pages o) else refused_step d o (step_at d.fixed d.lots o (steps_done d.phase))) start
-    ∙ ap (λ (ls : List Lot). refused_step d o (step_at d.fixed ls o (steps_done d.phase))) none
-    ∙ ap (refused_step d o) (sym (ap (λ (x : Option Op). step_of d.fixed (steps_done d.phase) x) e) ∙ is)
+pub at_work : (d : DriverState) → IsKept d → d.phase ≡ Work → IsAtWork d
+at_work d k e = work_in d d.phase e k.driver.phase
 
-pub start_ends : (d : DriverState) (ws : List Owner) (pages : PageMap) → in_hand d ≡ None → started d ws pages ≡ stays d
-unfolding started
-start_ends d ws pages e = ap (λ (x : Option Op). started_of d ws pages x) e
+pub work_there : (d : DriverState) (o : Op) (saw : Seen) (s : Step) (a : Option Answer) → 0 < length d.rest → s ≡ slice_index_or d.rest 0 s → a ≡ answered d o saw (drop 1 d.rest) → IsSound (worked d o saw d.rest)
+    → (ram : ℕ) × AreThere ram d.fixed (turned d.fixed d.lots s.first s.last a)
+work_there d o saw s a some first is sound =
+    let k = subst (λ (w : Went). IsSound w) (work_done d o saw s (drop 1 d.rest) (first_is d.rest s some first)) sound in
+    let fixed = went_fixed d (lots_after_both s.first s.last d.lots) saw (drop 1 d.rest) in
+    (k.ram, rw is (subst (λ (f : Fixed). AreThere k.ram f (turned d.fixed d.lots s.first s.last (answered d o saw (drop 1 d.rest)))) fixed k.moves))
+
+-- what an opening moves is there
+pub open_there : (d : DriverState) (o : Op) (t : Turn) (a : Option Answer) → t ≡ opening d.fixed d.lots o → a ≡ answered d o d.saw (plan_of d.fixed d.lots o) → IsSound (opened d o) → (ram : ℕ) × AreThere ram d.fixed (turned d.fixed d.lots t turns.Stay a)
+open_there d o t a first is k =
+    let fixed = went_fixed d (lots_after (opening d.fixed d.lots o) d.lots) d.saw (plan_of d.fixed d.lots o) in
+    (k.ram, rw (first, is) (subst (λ (f : Fixed). AreThere k.ram f (turned d.fixed d.lots (opening d.fixed d.lots o) turns.Stay (answered d o d.saw (plan_of d.fixed d.lots o)))) fixed k.moves))
+
+-- ---- the lots before a step are of no account behind it
+
+went_lots : (d : DriverState) (now lots : List Lot) (saw : Seen) (rest : List Step) → went_to (with_lots d now) lots saw rest ≡ went_to d lots saw rest
+went_lots d now lots saw [] = refl
+went_lots d now lots saw (s ∷ rest) = refl
+
+pub open_went : (d : DriverState) (o p : Op) (t : Turn) (now : List Lot) (plan : List Step) → in_hand d ≡ Some o → in_hand d ≡ Some p → now ≡ lots_after t d.lots → t ≡ opening d.fixed d.lots p → plan ≡ plan_of d.fixed d.lots p
+    → went_to (with_lots d now) now d.saw plan ≡ (opened d o).driver
+open_went d o p t now plan e f after turn is =
+    went_lots d now now d.saw plan
+    ∙ ap (λ (ls : List Lot). went_to d ls d.saw plan) (after ∙ ap (λ (u : Turn). lots_after u d.lots) turn)
+    ∙ ap (λ (rest : List Step). went_to d (lots_after (opening d.fixed d.lots p) d.lots) d.saw rest) is
+    ∙ ap (λ (q : Op). (opened d q).driver) (same_op d p o f e)
+
+pub work_went : (d : DriverState) (o : Op) (saw : Seen) (s : Step) (now : List Lot) → 0 < length d.rest → s ≡ slice_index_or d.rest 0 s → now ≡ lots_after_both s.first s.last d.lots → went_to (with_lots d now) now saw (drop 1 d.rest) ≡ (worked d o saw d.rest).driver
+work_went d o saw s now some first after =
+    went_lots d now now saw (drop 1 d.rest)
+    ∙ ap (λ (ls : List Lot). went_to d ls saw (drop 1 d.rest)) after
+    ∙ sym (ap (λ (w : Went). w.driver) (work_done d o saw s (drop 1 d.rest) (first_is d.rest s some first)))

@@ -1,2 +1,3 @@
+mod FitLaws
 mod KeptLaws
-mod SafeLaws
+mod SoundLaws

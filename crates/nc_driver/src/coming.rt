@@ -4,7 +4,7 @@ ghost use Rattle.std.specs.Prelude.{◌≡◌};
 ghost use Rattle.nc_rules.specs.Driver as due;
 ghost use Rattle.nc_driver.specs.Rests.{is_more, made_first, made_last};
 
-use nc_rules::{Act, Next, Refusal, Step, Turn};
+use nc_rules::{Act, Next, Refusal, Seen, Step, Turn};
 use std::collections::VecDeque;
 
 fn next_act(act: &Act) -> Next
@@ -65,5 +65,25 @@ pub(crate) fn last_turn(step: &Result<Option<Step>, Refusal>) -> Turn
     match step {
         Ok(Some(step)) => step.last,
         Ok(None) | Err(_) => Turn::Stay,
+    }
+}
+
+/// A claim that found the channel granted is refused.
+pub(crate) fn busy(saw: Seen) -> Option<Refusal>
+    ensures { result ≡ due.busy saw }
+{
+    match saw {
+        Seen::Busy(hart) => Some(Refusal::ChannelBusy(hart)),
+        Seen::Nothing | Seen::Control(_) | Seen::Claimed | Seen::Value(_) => None,
+    }
+}
+
+/// What was seen last, but for Nothing.
+pub(crate) fn kept(old: Seen, new: Seen) -> Seen
+    ensures { result ≡ due.kept old new }
+{
+    match new {
+        Seen::Nothing => old,
+        Seen::Control(_) | Seen::Claimed | Seen::Busy(_) | Seen::Value(_) => new,
     }
 }

@@ -1,85 +1,55 @@
-//! Where a script stands.
+//! The driver of a script.
 
-ghost use Rattle.std.specs.Prelude.{ℕ, ◌≡◌, ◌+◌, ◌<◌, ◌≤◌, ◌^◌, [], true, false, length, drop, All, IfOk, IfSome, OnSome, OnErr, MatchOption, Some, None};
-ghost use Rattle.nc_coherent.specs.Pages.{PageMap};
+ghost use Rattle.std.specs.Prelude.{◌≡◌, ◌<◌, true, length, IfOk, OnErr};
 ghost use Rattle.nc_scen.specs.Accepted.{IsAccepted};
-ghost use Rattle.nc_ops.specs.declared.ops.Op.{Op};
 ghost use Rattle.nc_rules.specs.declared.steps.Next.TheVariants as nexts;
-ghost use Rattle.nc_rules.specs.declared.steps.Phase.TheVariants.{Steps, Work};
-ghost use Rattle.nc_rules.specs.declared.steps.Turn.TheVariants as turns;
-ghost use Rattle.nc_rules.specs.Built.{IsBuilt, is_built_op};
 ghost use Rattle.nc_rules.specs.Driver as due;
-ghost use Rattle.nc_rules.specs.Operations as rules;
+ghost use Rattle.nc_rules.specs.Lots.{lot_id};
 ghost use Rattle.nc_rules.specs.Start.{first_driver};
-ghost use Rattle.nc_rules.specs.Turns.{turned};
 ghost use Rattle.nc_scripts.specs.Scripts.{is_act};
-ghost use Rattle.nc_checks.specs.Due.{step_due};
-ghost use Rattle.nc_checks.specs.Safe.{IsSafe};
-ghost use Rattle.nc_driver.specs.Kept.{IsKept, due_of};
-ghost use Rattle.nc_driver.specs.Rests.{is_nil, made_first, made_last};
+ghost use Rattle.nc_scripts.specs.Drivers.{ArePagesOf, IsSeenAt, IsLentAt};
+ghost use Rattle.nc_driver.specs.Kept.{IsKept, IsOver};
 ghost use Rattle.nc_moves.specs.Shown.{seen_as};
 
-use crate::answers::{bad_answer, busy, good_answer, kept, waited_label};
-use crate::coming::{first_turn, is_more, last_turn, next_rest, next_step};
-use nc_checks::{Setup, has_start};
+use crate::course::Course;
 use nc_coherent::PagePool;
 use nc_moves::Moves;
 use nc_num::{HartNo, Label, NoMemory};
 use nc_own::Book;
-use nc_planned::plan_of;
-use nc_rules::{Answer, Next, Phase, Refusal, Seen, Step, Turn};
-use nc_scen::{Op, Scenario};
+use nc_planned::waited_label;
+use nc_rules::{Next, Phase, Seen};
+use nc_scen::Scenario;
 use std::alloc::Global;
-use std::collections::VecDeque;
 use std::marker::Model;
 
 /// The control of one hart's script: it gives the script's steps one at a time. Contracts see what the written machine
 /// keeps of a driver: what it knows from the start, the number of the operation in hand, where it stands in it, the rest
-/// of its plan, its lots and what it saw. The step that is due is worked out once, when the driver comes to it. No
-/// operation that is built makes a lot.
+/// of its plan, its lots and what it saw.
 #[derive(Drop)]
 pub struct Driver {
-    alloc: Global,
-    setup: Setup,
-    op: u32,
-    phase: Phase,
-    rest: VecDeque<Step>,
-    saw: Seen,
-    due: Result<Option<Step>, Refusal>,
+    course: Course,
 }
 
 impl Model for Driver {
-    ghost use Rattle.std.specs.Prelude.{[]};
     ghost use Rattle.nc_rules.specs.Driver.{DriverState};
-    ghost use Rattle.nc_driver.specs.Kept.{IsReady};
+    ghost use Rattle.nc_driver.specs.Kept.{state, IsReady};
 
     ghost Value = { DriverState };
 
-    ghost view = { λ d. record { fixed = d.setup; op = d.op; phase = d.phase; rest = d.rest.items; lots = []; saw = d.saw } };
+    ghost view = { λ d. state d.course };
 
-    ghost invariant = { λ d. IsReady (record { fixed = d.setup; op = d.op; phase = d.phase; rest = d.rest.items; lots = []; saw = d.saw }) d.due };
+    ghost invariant = { λ d. IsReady (state d.course) d.course.due };
 }
 
 impl Driver {
     /// The driver of hart `me` of a scenario, before its first operation. The error is want of memory.
-    #[tactic(auto, unfolding(nc_rules::specs::Start::first_driver))]
     pub fn new(alloc: Global, me: HartNo, sc: &Scenario) -> Result<Driver, NoMemory>
         requires hart { me.0 < length sc.now.harts }
         requires accepted { IsAccepted sc.now }
-        requires built { IsBuilt sc.now }
         ensures { IfOk result (λ d. d ≡ first_driver sc.now me) }
     {
-        let setup = Setup::of(alloc, me, sc)?;
-        let due = setup.step_due(0, 0);
-        Ok(Driver {
-            alloc,
-            setup,
-            op: 0,
-            phase: Phase::Steps(0),
-            rest: VecDeque::new(alloc),
-            saw: Seen::Nothing,
-            due,
-        })
+        let course = Course::new(alloc, me, sc)?;
+        Ok(Driver { course })
     }
 
     /// What the driver does next. It takes no memory and changes nothing.
@@ -87,23 +57,29 @@ impl Driver {
         ensures next { result ≡ due.next_of self.now }
         ensures there { IsKept self.now }
     {
-        let _setup = &self.setup;
-        self.coming()
+        self.course.next()
+    }
+
+    /// Is there to be called in proofs: every driver is one of an accepted scenario.
+    pub fn sound(&self)
+        ensures { IsKept self.now }
+    {
+        let _course = &self.course;
     }
 
     /// The number of the operation in hand, counted from 0; at the script's end, the number of its operations.
     pub fn op(&self) -> u32
         ensures { result ≡ self.now.op }
     {
-        self.op
+        self.course.op
     }
 
     /// The number of the operation in hand, or None at the script's end.
     pub fn left(&self) -> Option<u32>
         ensures { result ≡ due.left_op self.now }
     {
-        match self.in_hand() {
-            Some(_) => Some(self.op),
+        match self.course.in_hand() {
+            Some(_) => Some(self.course.op),
             None => None,
         }
     }
@@ -112,7 +88,7 @@ impl Driver {
     pub fn is_script(&self) -> bool
         ensures { result ≡ due.is_script self.now.phase }
     {
-        match self.phase {
+        match self.course.phase {
             Phase::Steps(_) => true,
             Phase::Search(_) | Phase::Work => false,
         }
@@ -124,317 +100,63 @@ impl Driver {
     pub fn waits_for(&self) -> Option<Label>
         ensures { result ≡ due.waits_for self.now }
     {
-        if !self.setup.light() {
+        if !self.course.setup.light() {
             return None;
         }
-        match (self.in_hand(), self.phase) {
+        match (self.course.in_hand(), self.course.phase) {
             (Some(op), Phase::Steps(_)) => waited_label(op),
             (None, _) | (_, Phase::Search(_) | Phase::Work) => None,
         }
     }
 
-    /// Makes a step without an operation of the hart: the refusal of the operation in hand, or its start. The error is
-    /// want of memory, for the plan.
+    /// Makes a step without an operation of the hart: the refusal of the operation in hand, or its start. The book is that
+    /// of the scenario's RAM, and the pages are its pool's. The error is want of memory, and the driver is as before.
     pub fn start(&mut self, book: &Book, pages: &PagePool) -> Result<Moves, NoMemory>
         requires next { due.next_of self.old ≡ nexts.Start }
-        requires book { All (λ b. b.at + b.len ≤ length book.now.owners) self.old.fixed.buffers }
+        requires book { IsOver book.now.owners self.old }
+        requires pages { ArePagesOf self.old.fixed pages.now }
         ensures driver { IfOk result (λ m. self.new ≡ (due.started self.old book.now.owners pages.now).driver) }
         ensures moves { IfOk result (λ m. seen_as m ≡ (due.started self.old book.now.owners pages.now).moves) }
         ensures fixed { self.new.fixed ≡ self.old.fixed }
         ensures err { OnErr result (self.new ≡ self.old) }
     {
-        let _pages = pages;
-        let alloc = self.alloc;
-        let Some(op) = self.in_hand() else {
-            return Ok(Moves::answer(alloc, None));
-        };
-        if has_start(op) {
-            return self.begin(book);
-        }
-        match self.due {
-            Ok(_) => Ok(Moves::answer(alloc, None)),
-            Err(refusal) => Ok(self.give_up(refusal)),
-        }
+        self.course.start(book, pages)
     }
 
-    /// Tells whether a slot word that was tried is got. No operation that is built searches for a slot.
-    #[tactic(auto, unfolding(nc_rules::specs::Driver::told))]
+    /// Tells whether the slot word that was tried is got. Where the driver searches none, nothing changes. The error is
+    /// want of memory, and the driver is as before.
     pub fn told(&mut self, got: bool) -> Result<Moves, NoMemory>
         ensures driver { IfOk result (λ m. self.new ≡ (due.told self.old got).driver) }
         ensures moves { IfOk result (λ m. seen_as m ≡ (due.told self.old got).moves) }
         ensures fixed { self.new.fixed ≡ self.old.fixed }
         ensures err { OnErr result (self.new ≡ self.old) }
     {
-        let _got = got;
-        Ok(Moves::answer(self.alloc, None))
+        self.course.told(got)
     }
 
     /// Tells what a step saw that the machine made: `Claimed` or `Busy` of a claim, `Control` of a poll, `Value` of a
-    /// load of a register, and `Nothing` of each other. The error is want of memory, where the step changes owners.
+    /// load of a register, and `Nothing` of each other. The error is want of memory, and the driver is as before.
     pub fn done(&mut self, seen: Seen) -> Result<Moves, NoMemory>
         requires next { is_act (due.next_of self.old) ≡ true }
+        requires seen { IsSeenAt (due.next_of self.old) seen }
         ensures driver { IfOk result (λ m. self.new ≡ (due.done self.old seen).driver) }
         ensures moves { IfOk result (λ m. seen_as m ≡ (due.done self.old seen).moves) }
         ensures fixed { self.new.fixed ≡ self.old.fixed }
         ensures err { OnErr result (self.new ≡ self.old) }
     {
-        if let Some(refusal) = busy(seen) {
-            return Ok(self.give_up(refusal));
-        }
-        let saw = kept(self.saw, seen);
-        match self.phase {
-            Phase::Steps(n) => self.step(n, saw),
-            Phase::Search(_) => Ok(Moves::answer(self.alloc, None)),
-            Phase::Work => self.work(saw),
-        }
+        self.course.done(seen)
     }
 
-    /// The start step of the operation in hand, which has one: its refusal, or its opening turn and its plan.
-    fn begin(&mut self, book: &Book) -> Result<Moves, NoMemory>
-        requires start { (o : Op) → due.in_hand self.old ≡ Some o → rules.has_start o ≡ true }
-        requires book { All (λ b. b.at + b.len ≤ length book.now.owners) self.old.fixed.buffers }
-        ensures driver { (o : Op) (pages : PageMap) → due.in_hand self.old ≡ Some o → IfOk result (λ m. self.new ≡ (due.started self.old book.now.owners pages).driver) }
-        ensures moves { (o : Op) (pages : PageMap) → due.in_hand self.old ≡ Some o → IfOk result (λ m. seen_as m ≡ (due.started self.old book.now.owners pages).moves) }
+    /// Tells that the token of a lot is out of the hart's queue: of this label, from this entry on, so many entries. The
+    /// lot is the device's with it. The error is want of memory, and the driver is as before.
+    pub fn lent(&mut self, label: Label, first: u8, count: u8) -> Result<Moves, NoMemory>
+        requires lent { IsLentAt self.old.lots (lot_id label first) }
+        ensures driver { IfOk result (λ m. self.new ≡ (due.lent self.old label first).driver) }
+        ensures moves { IfOk result (λ m. seen_as m ≡ (due.lent self.old label first).moves) }
         ensures fixed { self.new.fixed ≡ self.old.fixed }
         ensures err { OnErr result (self.new ≡ self.old) }
     {
-        let alloc = self.alloc;
-        let Some(op) = self.in_hand() else {
-            return Ok(Moves::answer(alloc, None));
-        };
-        if let Err(refusal) = self.setup().begin(book, op) {
-            return Ok(self.give_up(refusal));
-        }
-        let plan = plan_of(alloc, op)?;
-        let moves = self.opened(op, &plan)?;
-        self.go(plan);
-        Ok(moves)
-    }
-
-    /// What the opening turn of the operation in hand changes, before this plan.
-    fn opened(&self, op: &Op, plan: &VecDeque<Step>) -> Result<Moves, NoMemory>
-        requires start { rules.has_start op.now ≡ true }
-        requires built { is_built_op op.now ≡ true }
-        ensures { IfOk result (λ m. seen_as m ≡ turned self.now.fixed [] (rules.opening self.now.fixed [] op.now) turns.Stay (due.answered self.now op.now self.now.saw plan.now.items)) }
-    {
-        let answer = if plan.is_empty() {
-            good_answer(op, self.saw)
-        } else {
-            None
-        };
-        let turn = self.setup.opening(op);
-        Moves::turn(self.alloc, self.setup.me(), turn, Turn::Stay, answer)
-    }
-
-    /// The operation in hand is refused, and over. It takes no memory.
-    fn give_up(&mut self, refusal: Refusal) -> Moves
-        requires { self.old.op < length self.old.fixed.script }
-        ensures driver { (o : Op) → due.in_hand self.old ≡ Some o → self.new ≡ (due.give_up self.old o refusal).driver }
-        ensures moves { (o : Op) → due.in_hand self.old ≡ Some o → seen_as result ≡ (due.give_up self.old o refusal).moves }
-        ensures fixed { self.new.fixed ≡ self.old.fixed }
-    {
-        let alloc = self.alloc;
-        let answer = self.refused(refusal);
-        self.close();
-        Moves::answer(alloc, answer)
-    }
-
-    /// The answer of the operation in hand, where it is refused.
-    fn refused(&self, refusal: Refusal) -> Option<Answer>
-        ensures { (o : Op) → due.in_hand self.now ≡ Some o → result ≡ Some (rules.bad_answer self.now.fixed [] o refusal) }
-    {
-        match self.in_hand() {
-            Some(op) => Some(bad_answer(op, refusal)),
-            None => None,
-        }
-    }
-
-    /// Step n of the operation in hand, which is due, is made.
-    fn step(&mut self, n: u32, saw: Seen) -> Result<Moves, NoMemory>
-        requires phase { self.old.phase ≡ Steps n }
-        requires next { is_act (due.next_of self.old) ≡ true }
-        ensures driver { (o : Op) → due.in_hand self.old ≡ Some o → IfOk result (λ m. self.new ≡ (due.done_in self.old o saw (Steps n)).driver) }
-        ensures moves { (o : Op) → due.in_hand self.old ≡ Some o → IfOk result (λ m. seen_as m ≡ (due.done_in self.old o saw (Steps n)).moves) }
-        ensures fixed { self.new.fixed ≡ self.old.fixed }
-        ensures err { OnErr result (self.new ≡ self.old) }
-    {
-        let after = self.setup().step_due(self.op, n + 1);
-        let moves = self.stepped(&after, saw)?;
-        self.advance(n, after, saw);
-        Ok(moves)
-    }
-
-    /// What the step that is due changes, where this one is behind it.
-    fn stepped(&self, after: &Result<Option<Step>, Refusal>, saw: Seen) -> Result<Moves, NoMemory>
-        ensures { (o : Op) → due.in_hand self.now ≡ Some o → IfOk result (λ m. seen_as m ≡ turned self.now.fixed [] (made_first (due_of self.now)) (made_last (due_of self.now)) (due.step_answer self.now o saw after.now)) }
-    {
-        let answer = self.step_answer(after, saw);
-        let (first, last) = (first_turn(&self.due), last_turn(&self.due));
-        Moves::turn(self.alloc, self.setup.me(), first, last, answer)
-    }
-
-    /// The answer of the operation in hand, where this step is behind the one that is due.
-    fn step_answer(&self, after: &Result<Option<Step>, Refusal>, saw: Seen) -> Option<Answer>
-        ensures { (o : Op) → due.in_hand self.now ≡ Some o → result ≡ due.step_answer self.now o saw after.now }
-    {
-        let Some(op) = self.in_hand() else {
-            return None;
-        };
-        match after {
-            Ok(None) => good_answer(op, saw),
-            Ok(Some(_)) | Err(_) => None,
-        }
-    }
-
-    /// Step n of the operation in hand is done, and this one is behind it; the operation is over where there is none.
-    fn advance(&mut self, n: u32, after: Result<Option<Step>, Refusal>, saw: Seen)
-        requires here { self.old.op < length self.old.fixed.script }
-        requires few { n < 4096 }
-        requires after { after ≡ step_due self.old.fixed self.old.op (n + 1) }
-        ensures driver { self.new ≡ due.stepped_to self.old (n + 1) [] saw after }
-        ensures fixed { self.new.fixed ≡ self.old.fixed }
-    {
-        if is_more(&after) {
-            self.count(n + 1, after, saw);
-            return;
-        }
-        self.close();
-    }
-
-    /// The first step of the rest is made.
-    fn work(&mut self, saw: Seen) -> Result<Moves, NoMemory>
-        requires phase { self.old.phase ≡ Work }
-        requires next { is_act (due.next_of self.old) ≡ true }
-        ensures driver { (o : Op) → due.in_hand self.old ≡ Some o → IfOk result (λ m. self.new ≡ (due.worked self.old o saw self.old.rest).driver) }
-        ensures moves { (o : Op) → due.in_hand self.old ≡ Some o → IfOk result (λ m. seen_as m ≡ (due.worked self.old o saw self.old.rest).moves) }
-        ensures fixed { self.new.fixed ≡ self.old.fixed }
-        ensures err { OnErr result (self.new ≡ self.old) }
-    {
-        let Some(step) = self.rest.front() else {
-            return Ok(Moves::answer(self.alloc, None));
-        };
-        let (first, last) = (step.first, step.last);
-        let answer = self.last_answer(saw);
-        let moves = Moves::turn(self.alloc, self.setup.me(), first, last, answer)?;
-        self.drop_step(saw);
-        Ok(moves)
-    }
-
-    /// The answer of the operation in hand, where the rest has no second step.
-    fn last_answer(&self, saw: Seen) -> Option<Answer>
-        ensures { (o : Op) → due.in_hand self.now ≡ Some o → result ≡ due.answered self.now o saw (drop 1 self.now.rest) }
-    {
-        match self.in_hand() {
-            Some(op) if self.is_last() => good_answer(op, saw),
-            Some(_) | None => None,
-        }
-    }
-
-    /// The operation in hand, or None at the script's end.
-    fn in_hand(&self) -> Option<&Op>
-        ensures op { MatchOption result (due.in_hand self.now ≡ None) (λ o. due.in_hand self.now ≡ Some o.now) }
-        ensures here { OnSome result (self.now.op < length self.now.fixed.script) }
-        ensures built { IfSome result (λ o. is_built_op o.now ≡ true) }
-        ensures bare { self.now.lots ≡ [] }
-    {
-        self.setup.op(self.op)
-    }
-
-    /// What is known from the start.
-    fn setup(&self) -> &Setup
-        ensures value { result.now ≡ self.now.fixed }
-        ensures safe { IsSafe result.now }
-    {
-        &self.setup
-    }
-
-    /// What comes next.
-    #[tactic(auto, unfolding(nc_rules::specs::Driver::next_of))]
-    fn coming(&self) -> Next
-        ensures { result ≡ due.next_of self.now }
-    {
-        match self.in_hand() {
-            Some(op) => self.next_in(op),
-            None => Next::End,
-        }
-    }
-
-    /// What comes next in the operation in hand.
-    fn next_in(&self, op: &Op) -> Next
-        requires { due.in_hand self.now ≡ Some op.now }
-        ensures { result ≡ due.next_in self.now op.now self.now.phase }
-    {
-        match self.phase {
-            Phase::Steps(_) if has_start(op) => Next::Start,
-            Phase::Steps(_) => next_step(&self.due),
-            Phase::Search(k) => Next::Search(k),
-            Phase::Work => next_rest(&self.rest),
-        }
-    }
-
-    /// The rest is one step, or none.
-    fn is_last(&self) -> bool
-        ensures { result ≡ is_nil (drop 1 self.now.rest) }
-    {
-        self.rest.get(1).is_none()
-    }
-
-    /// The operation in hand is over.
-    fn close(&mut self)
-        requires { self.old.op < length self.old.fixed.script }
-        ensures driver { self.new ≡ due.over self.old [] }
-        ensures fixed { self.new.fixed ≡ self.old.fixed }
-    {
-        let due = self.setup().step_due(self.op + 1, 0);
-        self.op += 1;
-        self.phase = Phase::Steps(0);
-        self.rest.clear();
-        self.saw = Seen::Nothing;
-        self.due = due;
-    }
-
-    /// So many steps of the operation in hand are done, and this one is due.
-    fn count(&mut self, n: u32, step: Result<Option<Step>, Refusal>, saw: Seen)
-        requires few { n ≤ 4096 }
-        requires step { step ≡ step_due self.old.fixed self.old.op n }
-        ensures driver { self.new ≡ due.stands self.old (Steps n) [] [] saw }
-        ensures fixed { self.new.fixed ≡ self.old.fixed }
-    {
-        self.phase = Phase::Steps(n);
-        self.rest.clear();
-        self.saw = saw;
-        self.due = step;
-    }
-
-    /// On with this plan; the operation in hand is over where nothing is left of it.
-    fn go(&mut self, rest: VecDeque<Step>)
-        requires here { self.old.op < length self.old.fixed.script }
-        requires kept { IsKept (due.went_to self.old [] self.old.saw rest.items) }
-        ensures driver { self.new ≡ due.went_to self.old [] self.old.saw rest.items }
-        ensures fixed { self.new.fixed ≡ self.old.fixed }
-    {
-        if rest.is_empty() {
-            self.close();
-            return;
-        }
-        self.due = self.setup().step_due(self.op, 0);
-        self.phase = Phase::Work;
-        self.rest = rest;
-    }
-
-    /// The first step of the rest is done.
-    fn drop_step(&mut self, saw: Seen)
-        requires here { self.old.op < length self.old.fixed.script }
-        requires work { self.old.phase ≡ Work }
-        requires some { is_nil self.old.rest ≡ false }
-        ensures driver { self.new ≡ due.went_to self.old [] saw (drop 1 self.old.rest) }
-        ensures fixed { self.new.fixed ≡ self.old.fixed }
-    {
-        if self.is_last() {
-            self.close();
-            return;
-        }
-        self.rest.pop_front();
-        self.saw = saw;
+        let _count = count;
+        self.course.lent(label, first)
     }
 }
