@@ -37,6 +37,7 @@ use Rattle.nc_scripts.specs.Drivers.{IsFixed, IsDriver, NextIsThere, NextFitsLas
 use Rattle.nc_scripts.specs.Scripts.{IsDriven, IsRangeIn}
 use Rattle.nc_holds.specs.Holds.{Holds, DriverHolds, MayMove, StartHolds, EventsKeepHolding, MovesMayBeMade, mover}
 use Rattle.nc_world.specs.State.{IsKept}
+use Rattle.nc_driver.specs.Kept.{IsOver}
 use Rattle.nc_world.specs.Steps.{NextFits, IsBeside, step_seen}
 
 -- ---- what a driver does next is there
@@ -100,12 +101,13 @@ seen_at m h (nexts.Poll chan) = tt
 seen_at m h (nexts.Take buf) = tt
 
 -- the owners and the pages are those of each driver's scenario
-pub beside : (w : WorldState) (h : ℕ) → Holds w → h < length w.machine.harts → IsBeside (driver_of w h).fixed w.owners w.pages
-beside w h is lt =
+over : (w : WorldState) (h : ℕ) → Holds w → h < length w.machine.harts → IsOver w.owners (driver_of w h)
+over w h is lt =
     let of = is.each h lt in
     record {
       buffers = λ k d below. omega (arith, is.owners, (of.driver.fixed.buffers k d below).ends);
-      pool = omega (arith, is.owners, of.driver.fixed.pool_end);
-      pages_of = of.setting.pages;
+      lots = λ k d below j e under. omega (arith, is.owners, ((of.driver.lots k d below).entries j e under).range.ends);
     }
 
+pub beside : (w : WorldState) (h : ℕ) → Holds w → h < length w.machine.harts → IsBeside (driver_of w h) w.owners w.pages
+beside w h is lt = record { over = over w h is lt; pages_of = (is.each h lt).setting.pages }

@@ -1,6 +1,6 @@
 -- The parts of a driver's step: what it names is there, what the machine answers to it, and what it moves. Each is a part
 -- of nc_rules' outcomes that speaks of the machine or of the driver alone.
-use Rattle.std.specs.Prelude.{ℕ, ◌+◌, ◌<◌, ◌≤◌, Bool, true, false, List, [], length, Option, Some, None, All, IsTrue}
+use Rattle.std.specs.Prelude.{ℕ, ◌<◌, Bool, true, false, List, [], length, Option, Some, None, IsTrue}
 use Rattle.nc_num.specs.declared.names.HartNo.{HartNo}
 use Rattle.nc_model.specs.declared.owners.Owner.{Owner}
 use Rattle.nc_model.specs.declared.touches.Touch.{Touch}
@@ -16,11 +16,11 @@ use Rattle.nc_rules.specs.Driver.{DriverState, Went, stays, started, done, is_sc
 use Rattle.nc_rules.specs.Machine.{MachineState, grantee_of}
 use Rattle.nc_rules.specs.Outcomes.{seen_of, claim_seen}
 use Rattle.nc_rules.specs.Records.{op_records}
-use Rattle.nc_rules.specs.Lots.{Fixed}
 use Rattle.nc_rules.specs.Sound.{OpIsThere}
 use Rattle.nc_rules.specs.Watched.{issue_touch, poll_touch}
 use Rattle.nc_rules.specs.World.{WorldState, driver_of}
 use Rattle.nc_scripts.specs.Drivers.{ArePagesOf}
+use Rattle.nc_driver.specs.Kept.{IsOver}
 
 -- ---- the machine's part
 
@@ -87,10 +87,9 @@ step_touch w h (nexts.Search k) = None
 -- ---- the driver's part
 
 -- the owners and the pages are those of the driver's scenario
-pub record IsBeside (f : Fixed) (owners : List Owner) (pages : PageMap) : Type 0 where
-  pub buffers : All (λ b. b.at + b.len ≤ length owners) f.buffers
-  pub pool : f.pool.at + f.pool.len ≤ length owners
-  pub pages_of : ArePagesOf f pages
+pub record IsBeside (d : DriverState) (owners : List Owner) (pages : PageMap) : Type 0 where
+  pub over : IsOver owners d
+  pub pages_of : ArePagesOf d.fixed pages
 
 -- a step that a driver makes
 abbrev pub is_going : Next → Bool

@@ -7,7 +7,7 @@ ghost use Rattle.nc_rules.specs.Events.{is_idle_step};
 ghost use Rattle.nc_rules.specs.Outcomes.{got_word, told_slots};
 ghost use Rattle.nc_rules.specs.Lots.{lot_id};
 ghost use Rattle.nc_rules.specs.World.{no_driver, owners_moved, grants_added, grants_ended, slots_back, pages_moved, one_more};
-ghost use Rattle.nc_scripts.specs.Drivers.{ArePagesOf, IsSeenAt, IsLentAt};
+ghost use Rattle.nc_scripts.specs.Drivers.{IsSeenAt, IsLentAt};
 ghost use Rattle.nc_scripts.specs.Scripts.{is_act, IsRangeIn};
 ghost use Rattle.nc_holds.specs.Holds.{CanAddAll, AreBack, MayMovePages};
 ghost use Rattle.nc_moves.specs.Shown.{seen_as};
@@ -59,7 +59,7 @@ pub(crate) fn go_on(
     requires coming { due.next_of (slice_index_or drivers.old.items h.0 no_driver) ≡ next.now }
     requires going { is_going next.now ≡ true }
     requires seen { IsSeenAt next.now saw }
-    requires beside { IsBeside (slice_index_or drivers.old.items h.0 no_driver).fixed book.now.owners pages.now }
+    requires beside { IsBeside (slice_index_or drivers.old.items h.0 no_driver) book.now.owners pages.now }
     ensures driver { IfOk result (λ m. drivers.new.items ≡ slice_set drivers.old.items h.0 (went_on (slice_index_or drivers.old.items h.0 no_driver) book.now.owners pages.now next.now saw).driver) }
     ensures moves { IfOk result (λ m. seen_as m ≡ (went_on (slice_index_or drivers.old.items h.0 no_driver) book.now.owners pages.now next.now saw).moves) }
     ensures err { OnErr result (drivers.new.items ≡ drivers.old.items) }
@@ -80,7 +80,7 @@ fn start(
 ) -> Result<Moves, NoMemory>
     requires hart { h.0 < length drivers.old.items }
     requires next { due.next_of (slice_index_or drivers.old.items h.0 no_driver) ≡ nexts.Start }
-    requires beside { IsBeside (slice_index_or drivers.old.items h.0 no_driver).fixed book.now.owners pages.now }
+    requires beside { IsBeside (slice_index_or drivers.old.items h.0 no_driver) book.now.owners pages.now }
     ensures driver { IfOk result (λ m. drivers.new.items ≡ slice_set drivers.old.items h.0 (due.started (slice_index_or drivers.old.items h.0 no_driver) book.now.owners pages.now).driver) }
     ensures moves { IfOk result (λ m. seen_as m ≡ (due.started (slice_index_or drivers.old.items h.0 no_driver) book.now.owners pages.now).moves) }
     ensures err { OnErr result (drivers.new.items ≡ drivers.old.items) }
