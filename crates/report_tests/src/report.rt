@@ -13,7 +13,7 @@ use nc_report::{event_line, line, refused, step_out, tail};
 use nc_rules::{Answer, Record, Refusal, ToldAnswer};
 use nc_scen::{Event, Path, Refused, Scenario, read};
 use nc_slots::TryAnswer;
-use nc_world::{Stepped, World, is_built};
+use nc_world::{Stepped, World};
 use std::alloc::Global;
 use std::test::Fail;
 
@@ -517,9 +517,6 @@ fn started(alloc: Global, text: &str) -> Option<(Scenario, World)>
     let Ok(sc) = read(alloc, text.as_bytes()) else {
         return None;
     };
-    if !is_built(&sc) {
-        return None;
-    }
     let Ok(w) = World::new(alloc, &sc) else {
         return None;
     };

@@ -6,7 +6,7 @@ ghost use Rattle.nc_scen.specs.Accepted.{IsAccepted};
 use nc_num::{Block, ChanNo, HartNo};
 use nc_scen::{Event, Scenario, read};
 use nc_sched::{Sched, replay_law};
-use nc_world::{Stepped, World, is_built};
+use nc_world::{Stepped, World};
 use std::alloc::Global;
 use std::test::Fail;
 
@@ -24,9 +24,6 @@ fn started(alloc: Global, text: &str) -> Option<(Scenario, World)>
     let Ok(sc) = read(alloc, text.as_bytes()) else {
         return None;
     };
-    if !is_built(&sc) {
-        return None;
-    }
     let Ok(w) = World::new(alloc, &sc) else {
         return None;
     };
