@@ -1,1 +1,4 @@
 pub mod Agrees
+pub mod ListsC
+pub mod QuietSteps
+pub mod TokenLots
