@@ -2,3 +2,5 @@ pub mod Agrees
 pub mod ListsC
 pub mod QuietSteps
 pub mod TokenLots
+pub mod TokenRests
+pub mod TokenPlans
