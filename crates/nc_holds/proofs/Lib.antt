@@ -4,3 +4,5 @@ pub mod QuietSteps
 pub mod TokenLots
 pub mod TokenRests
 pub mod TokenPlans
+pub mod TokenOpens
+pub mod TokenCopies
