@@ -6,3 +6,4 @@ pub mod TokenRests
 pub mod TokenPlans
 pub mod TokenOpens
 pub mod TokenCopies
+pub mod MessageSteps
