@@ -7,3 +7,5 @@ pub mod TokenPlans
 pub mod TokenOpens
 pub mod TokenCopies
 pub mod MessageSteps
+pub mod TokenKeeps
+pub mod TokenCalls

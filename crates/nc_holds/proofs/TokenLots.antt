@@ -141,7 +141,7 @@ pub ended_lent : (id : LotId) (lots : List Lot) (i : LotId) → AreLent lots i �
 ended_lent id [] i all = All-nil (IsLentSo i)
 ended_lent id (lot ∷ lots) i all = end_lent i lot (ended id lots) (not (is_lot id lot)) (All-head (IsLentSo i) lot lots all) (ended_lent id lots i (All-tail (IsLentSo i) lot lots all))
 
-none_lent : (i : LotId) (lots : List Lot) → list_any (is_lot i) lots ≡ false → AreLent lots i
+pub none_lent : (i : LotId) (lots : List Lot) → list_any (is_lot i) lots ≡ false → AreLent lots i
 none_lent i [] e = All-nil (IsLentSo i)
 none_lent i (lot ∷ lots) e =
     let parts = or_parts (is_lot i lot) (list_any (is_lot i) lots) e in
