@@ -9,3 +9,4 @@ pub mod TokenCopies
 pub mod MessageSteps
 pub mod TokenKeeps
 pub mod TokenCalls
+pub mod TokenDone
