@@ -10,3 +10,4 @@ pub mod MessageSteps
 pub mod TokenKeeps
 pub mod TokenCalls
 pub mod TokenDone
+pub mod MessageWorlds
