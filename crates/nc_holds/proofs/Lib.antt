@@ -11,3 +11,4 @@ pub mod TokenKeeps
 pub mod TokenCalls
 pub mod TokenDone
 pub mod MessageWorlds
+pub mod TokenHarts
