@@ -12,3 +12,4 @@ pub mod TokenCalls
 pub mod TokenDone
 pub mod MessageWorlds
 pub mod TokenHarts
+pub mod TokenEvents

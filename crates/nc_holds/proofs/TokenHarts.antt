@@ -53,11 +53,11 @@ pub record HartSo (d : DriverState) (q : List Entry) (n : ℕ) : Type 0 where
 abbrev pub Queued : List Entry → LotId → Type 0
 Queued q i = (e : Entry) × In e q × (token_of e ≡ Some i)
 
-before : (d : DriverState) (q : List Entry) (n : ℕ) → HartSo d q n → Before (Queued q) d
+pub before : (d : DriverState) (q : List Entry) (n : ℕ) → HartSo d q n → Before (Queued q) d
 before d q n h = record { rest = h.rest; follows = h.follows; stays = λ i has. h.queued has.0 i has.1 has.2 }
 
 -- what a call leaves, with the queue behind it
-so_left : (N : Type 0) (now : DriverState) (q : List Entry) (n : ℕ) → Leaves (Queued q) N now → ((e : Entry) (i : LotId) → In e q → token_of e ≡ Some i → now.fixed.light ≡ true) → LoadsFit n now.rest → HartSo now q n
+pub so_left : (N : Type 0) (now : DriverState) (q : List Entry) (n : ℕ) → Leaves (Queued q) N now → ((e : Entry) (i : LotId) → In e q → token_of e ≡ Some i → now.fixed.light ≡ true) → LoadsFit n now.rest → HartSo now q n
 so_left N now q n h light loads = record { queued = λ e i here is. h.stays i (e, here, is); follows = h.follows; light = light; rest = h.rest; loads = loads }
 
 -- ---- the queue alone moves
