@@ -13,3 +13,4 @@ pub mod TokenDone
 pub mod MessageWorlds
 pub mod TokenHarts
 pub mod TokenEvents
+pub mod TokenWorlds
