@@ -14,3 +14,4 @@ pub mod MessageWorlds
 pub mod TokenHarts
 pub mod TokenEvents
 pub mod TokenWorlds
+pub mod TokenGoesOn

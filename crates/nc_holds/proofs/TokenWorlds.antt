@@ -73,15 +73,15 @@ here w h a = a.holds.each h.0 a.lt
 
 -- ---- a driver goes on, or none
 
-abbrev AllSo : WorldState → WorldState → Type 0
+abbrev pub AllSo : WorldState → WorldState → Type 0
 AllSo w n = (g : ℕ) → g < length w.machine.harts → WorldSo n g
 
 -- the drivers of a world in which hart h's goes on, with the machine after it
-record Went1 (w n : WorldState) (h : HartNo) (m : MachineState) (d : DriverState) : Type 0 where
-  machine : n.machine ≡ m
-  drivers : n.drivers ≡ slice_set w.drivers h.0 d
+pub record Went1 (w n : WorldState) (h : HartNo) (m : MachineState) (d : DriverState) : Type 0 where
+  pub machine : n.machine ≡ m
+  pub drivers : n.drivers ≡ slice_set w.drivers h.0 d
 
-so_at : (w n : WorldState) (h : HartNo) (m : MachineState) (d : DriverState) → At w h → Went1 w n h m d → ((g : ℕ) → g ≢ h.0 → hart_of m g ≡ hart_of w.machine g) → HartSo d (queue_of m h.0) (length (hart_of m h.0).last) → AllSo w n
+pub so_at : (w n : WorldState) (h : HartNo) (m : MachineState) (d : DriverState) → At w h → Went1 w n h m d → ((g : ℕ) → g ≢ h.0 → hart_of m g ≡ hart_of w.machine g) → HartSo d (queue_of m h.0) (length (hart_of m h.0).last) → AllSo w n
 so_at w n h m d a k others so g lt =
     subst (λ (ds : List DriverState). HartSo (slice_index_or ds g no_driver) (queue_of n.machine g) (length (hart_of n.machine g).last)) (sym k.drivers)
     (subst (λ (v : MachineState). HartSo (slice_index_or (slice_set w.drivers h.0 d) g no_driver) (queue_of v g) (length (hart_of v g).last)) (sym k.machine)
@@ -92,16 +92,16 @@ so_at w n h m d a k others so g lt =
           (subst (λ (s : HartState). HartSo (driver_of w g) s.queue.entries (length s.last)) (sym (others g ne)) (world_so w g (a.holds.each g lt)))
     ]))
 
-same_so : (w n : WorldState) → Holds w → n.drivers ≡ w.drivers → n.machine.harts ≡ w.machine.harts → AllSo w n
+pub same_so : (w n : WorldState) → Holds w → n.drivers ≡ w.drivers → n.machine.harts ≡ w.machine.harts → AllSo w n
 same_so w n holds ds hs g lt =
     subst (λ (xs : List DriverState). HartSo (slice_index_or xs g no_driver) (queue_of n.machine g) (length (hart_of n.machine g).last)) (sym ds)
     (subst (λ (xs : List HartState). HartSo (driver_of w g) (slice_index_or xs g no_hart).queue.entries (length (slice_index_or xs g no_hart).last)) (sym hs) (world_so w g (holds.each g lt)))
 
-hart_same : (m n : MachineState) (g : ℕ) → n.harts ≡ m.harts → hart_of n g ≡ hart_of m g
+pub hart_same : (m n : MachineState) (g : ℕ) → n.harts ≡ m.harts → hart_of n g ≡ hart_of m g
 hart_same m n g e = ap (λ (hs : List HartState). slice_index_or hs g no_hart) e
 
 -- the queue and the last load of the hart that goes on stay too
-so_same : (w n : WorldState) (h : HartNo) (m : MachineState) (d : DriverState) → At w h → Went1 w n h m d → m.harts ≡ w.machine.harts → HartSo d (queue_of w.machine h.0) (length (hart_of w.machine h.0).last) → AllSo w n
+pub so_same : (w n : WorldState) (h : HartNo) (m : MachineState) (d : DriverState) → At w h → Went1 w n h m d → m.harts ≡ w.machine.harts → HartSo d (queue_of w.machine h.0) (length (hart_of w.machine h.0).last) → AllSo w n
 so_same w n h m d a k e so =
     so_at w n h m d a k (λ g ne. hart_same w.machine m g e) (subst (λ (s : HartState). HartSo d s.queue.entries (length s.last)) (sym (hart_same w.machine m h.0 e)) so)
 
@@ -117,16 +117,12 @@ claim_at : (nx : Next) (chan : ChanNo) (g : Option HartNo) → nx ≡ nexts.Clai
 claim_at nx chan None e = tt
 claim_at nx chan (Some g) e = (chan.0, e)
 
-out_of : (w : WorldState) (h : HartNo) → is_out w.machine h (waits_for (driver_of w h.0)) ≡ true → TokensAreOut (driver_of w h.0) (queue_of w.machine h.0)
-out_of w h out label e = not_true (queues.lends (queue_of w.machine h.0) label.0) (subst (λ (o : Option Label). is_out w.machine h o ≡ true) e out)
-  where
-    not_true : (t : Bool) → not t ≡ true → t ≡ false
-    not_true true e = absurd (false≢true e)
-    not_true false e = refl
-
-not_so : (t : Bool) → not t ≡ true → t ≡ false
+pub not_so : (t : Bool) → not t ≡ true → t ≡ false
 not_so true e = absurd (false≢true e)
 not_so false e = refl
+
+out_of : (w : WorldState) (h : HartNo) → is_out w.machine h (waits_for (driver_of w h.0)) ≡ true → TokensAreOut (driver_of w h.0) (queue_of w.machine h.0)
+out_of w h out label e = not_so (queues.lends (queue_of w.machine h.0) label.0) (subst (λ (o : Option Label). is_out w.machine h o ≡ true) e out)
 
 -- nothing of class O is queued
 alone : (w : WorldState) (h : HartNo) → not (io_waits w.machine h.0) ≡ true → QueuedThen (driver_of w h.0) (queue_of w.machine h.0) (queue_of w.machine h.0)
@@ -140,10 +136,7 @@ issued_then w h op nx may lt e i is token =
       | inr new ↦ inr (ap token_next nx ∙ sym (entry_token (hart_of w.machine h.0).last op e new) ∙ token)
     ]
 
-went1 : (w n : WorldState) (h : HartNo) (m : MachineState) (went : Went) (slots : List (Option HartNo)) (touch : Option Touch) (rs : List Record) → Comes w n (goes w h m went slots touch rs) → Went1 w n h m went.driver
-went1 w n h m went slots touch rs k = record { machine = k.machine; drivers = k.drivers }
-
-step_so : (w n : WorldState) (h : HartNo) (nx : Next) → At w h → next_of (driver_of w h.0) ≡ nx → may_go_on w h nx ≡ true → is_out w.machine h (waits_for (driver_of w h.0)) ≡ true → Comes w n (step_outcome w h nx) → AllSo w n
+pub step_so : (w n : WorldState) (h : HartNo) (nx : Next) → At w h → next_of (driver_of w h.0) ≡ nx → may_go_on w h nx ≡ true → is_out w.machine h (waits_for (driver_of w h.0)) ≡ true → Comes w n (step_outcome w h nx) → AllSo w n
 unfolding step_outcome start_outcome op_outcome claim_outcome poll_outcome take_outcome
 step_so w n h nexts.End a nx may out k = absurd (false≢true may)
 step_so w n h (nexts.Search x) a nx may out k = absurd (false≢true may)
