@@ -15,3 +15,4 @@ pub mod TokenHarts
 pub mod TokenEvents
 pub mod TokenWorlds
 pub mod TokenGoesOn
+pub mod MessageOwners
