@@ -17,3 +17,4 @@ pub mod TokenWorlds
 pub mod TokenGoesOn
 pub mod MessageOwners
 pub mod MessageCalls
+pub mod MessageMoves

@@ -118,7 +118,7 @@ placed_by : (ram harts : ℕ) (d : DriverState) (o : Op) (lots : List Lot) (x : 
 placed_by ram harts d o lots x true k start no_hand all off = no_moves x
 placed_by ram harts d o lots x false k start no_hand all off = opened_off ram harts d o lots x k start no_hand all off
 
-placed_off : (ram harts : ℕ) (d : DriverState) (o : Op) (lots : List Lot) (x : ℕ) → IsInHand harts d o → has_start o ≡ true → NoHand o → All (IsLotIn ram d.fixed) lots → AreOff x lots → Spares x (placed (with_lots d lots) o).moves.transfers
+pub placed_off : (ram harts : ℕ) (d : DriverState) (o : Op) (lots : List Lot) (x : ℕ) → IsInHand harts d o → has_start o ≡ true → NoHand o → All (IsLotIn ram d.fixed) lots → AreOff x lots → Spares x (placed (with_lots d lots) o).moves.transfers
 placed_off ram harts d o lots x k start no_hand all off = placed_by ram harts d o lots x (some_lot_waits lots) k start no_hand all off
 
 begun_off : (ram harts : ℕ) (d : DriverState) (ws : List Owner) (pool : PageMap) (o : Op) (r : Result (List Lot) Refusal) (x : ℕ) → IsDriver ram harts d → IsInHand harts d o → has_start o ≡ true → NoHand o
