@@ -18,3 +18,4 @@ pub mod TokenGoesOn
 pub mod MessageOwners
 pub mod MessageCalls
 pub mod MessageMoves
+pub mod MessageRests

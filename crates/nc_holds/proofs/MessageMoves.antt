@@ -92,7 +92,7 @@ TakesOther d next x = (buf : ℕ) → next ≡ nexts.Take buf → covers (buffer
 stay_of : (t : Turn) → t ≡ turns.Stay → OfLots t
 stay_of t e = subst OfLots (sym e) tt
 
-next_takes : (d : DriverState) (o : Op) (n : ℕ) (s : Step) (t : Bool) → step_at d.fixed d.lots o n ≡ Ok (Some s) → is_act (if t then nexts.Start else next_step (step_at d.fixed d.lots o n)) ≡ true
+pub next_takes : (d : DriverState) (o : Op) (n : ℕ) (s : Step) (t : Bool) → step_at d.fixed d.lots o n ≡ Ok (Some s) → is_act (if t then nexts.Start else next_step (step_at d.fixed d.lots o n)) ≡ true
     → (if t then nexts.Start else next_step (step_at d.fixed d.lots o n)) ≡ next_act s.act
 next_takes d o n s true e act = absurd (false≢true act)
 next_takes d o n s false e act = ap next_step e
