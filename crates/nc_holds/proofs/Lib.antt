@@ -19,3 +19,4 @@ pub mod MessageOwners
 pub mod MessageCalls
 pub mod MessageMoves
 pub mod MessageRests
+pub mod MessageStatus
