@@ -20,3 +20,4 @@ pub mod MessageCalls
 pub mod MessageMoves
 pub mod MessageRests
 pub mod MessageStatus
+pub mod MessageGoes
