@@ -21,3 +21,4 @@ pub mod MessageMoves
 pub mod MessageRests
 pub mod MessageStatus
 pub mod MessageGoes
+pub mod MessageStarts

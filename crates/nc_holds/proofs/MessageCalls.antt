@@ -84,7 +84,7 @@ area_off f ws x kinds.Copy id es r p e h = absurd (false≢true e)
 area_off f ws x kinds.Area id es r p e h =
     all_to (λ (e : Entry). IsInPool f.pool e.span) (IsOff x) es h.2 (λ e is. not_covered (covers e.span x) (λ on. r.buffers_off_pool p.b x p.inside (in_pool f.pool e.span x is on)))
 
-owned_off : (me : HartNo) (ws : List Owner) (x : ℕ) (from to : HartNo) (span : Span) → owner_in ws x ≡ owners.Passing from to → IsOwned me ws span → covers span x ≡ false
+pub owned_off : (me : HartNo) (ws : List Owner) (x : ℕ) (from to : HartNo) (span : Span) → owner_in ws x ≡ owners.Passing from to → IsOwned me ws span → covers span x ≡ false
 owned_off me ws x from to span is own = not_covered (covers span x) (λ on. false≢true (ap (λ (o : Owner). is_thread me o) (sym is) ∙ own x on))
 
 spans_off : (me : HartNo) (ws : List Owner) (x : ℕ) (from to : HartNo) (es : List Entry) (rs : List Span) → owner_in ws x ≡ owners.Passing from to → AreOwned me ws (map (λ (e : Entry). e.span) es ++ rs) → All (IsOff x) es × AreOwned me ws rs
