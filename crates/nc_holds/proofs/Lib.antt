@@ -22,3 +22,4 @@ pub mod MessageRests
 pub mod MessageStatus
 pub mod MessageGoes
 pub mod MessageStarts
+pub mod MessageEvents

@@ -107,13 +107,13 @@ so_same w n h m d a k e so =
 
 -- ---- a step
 
-seen_at : (nx : Next) (r : Issued) → IsSeenAt nx (seen_of r)
+pub seen_at : (nx : Next) (r : Issued) → IsSeenAt nx (seen_of r)
 seen_at nx (issued.Value value) = tt
 seen_at nx (issued.Loaded bytes bus) = tt
 seen_at nx issued.Queued = tt
 seen_at nx issued.Passed = tt
 
-claim_at : (nx : Next) (chan : ChanNo) (g : Option HartNo) → nx ≡ nexts.Claim chan → IsSeenAt nx (claim_seen g)
+pub claim_at : (nx : Next) (chan : ChanNo) (g : Option HartNo) → nx ≡ nexts.Claim chan → IsSeenAt nx (claim_seen g)
 claim_at nx chan None e = tt
 claim_at nx chan (Some g) e = (chan.0, e)
 
