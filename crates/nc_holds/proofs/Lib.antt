@@ -23,3 +23,4 @@ pub mod MessageStatus
 pub mod MessageGoes
 pub mod MessageStarts
 pub mod MessageEvents
+pub mod MessageGoesOn

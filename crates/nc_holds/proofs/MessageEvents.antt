@@ -82,11 +82,11 @@ pushed_mails b q (Some e) h = last_gone (is_mail b) q.entries e (h e refl)
 seen_op : (d : DriverState) (op : HartOp) (r : Issued) → IsSeenAt (next_of d) (seen_of r)
 seen_op d op r = seen_at (next_of d) r
 
-done_fixed : (w : WorldState) (h : HartNo) (saw : Seen) → At w h → is_act (next_of (driver_of w h.0)) ≡ true → IsSeenAt (next_of (driver_of w h.0)) saw → (done (driver_of w h.0) saw).driver.fixed ≡ (driver_of w h.0).fixed
+pub done_fixed : (w : WorldState) (h : HartNo) (saw : Seen) → At w h → is_act (next_of (driver_of w h.0)) ≡ true → IsSeenAt (next_of (driver_of w h.0)) saw → (done (driver_of w h.0) saw).driver.fixed ≡ (driver_of w h.0).fixed
 done_fixed w h saw a act at = ((drivers_stay _ _ (driver_of w h.0) (here w h a).driver).goes_on saw act at).fixed
 
 -- the bytes that are passed keep their owners
-done_spares : (w : WorldState) (h : HartNo) (saw : Seen) (b : ℕ) → At w h → is_act (next_of (driver_of w h.0)) ≡ true → ((x : ℕ) → covers (buffer_of (driver_of w h.0).fixed b) x ≡ true → TakesOther (driver_of w h.0) (next_of (driver_of w h.0)) x)
+pub done_spares : (w : WorldState) (h : HartNo) (saw : Seen) (b : ℕ) → At w h → is_act (next_of (driver_of w h.0)) ≡ true → ((x : ℕ) → covers (buffer_of (driver_of w h.0).fixed b) x ≡ true → TakesOther (driver_of w h.0) (next_of (driver_of w h.0)) x)
     → (x : ℕ) → covers (buffer_of (driver_of w h.0).fixed b) x ≡ true → IsPassing (driver_of w h.0).fixed w.owners x → Spares x (done (driver_of w h.0) saw).moves.transfers
 done_spares w h saw b a act takes x on p = done_off (driver_of w h.0) saw x (turns_lots (driver_of w h.0).lots (driver_of w h.0).rest (here w h a).turns) act (lots_off w h x a p) (takes x on)
 
@@ -95,7 +95,7 @@ no_take d nx x e not_take buf is = absurd (not_take buf (sym e ∙ is))
 
 -- ---- a claim or a poll
 
-still_step : (w n : WorldState) (h : HartNo) (m : MachineState) (nx : Next) (saw : Seen) → At w h → next_of (driver_of w h.0) ≡ nx → is_act nx ≡ true → IsSeenAt (next_of (driver_of w h.0)) saw → ((b : ℕ) → mail_next b nx ≡ false) → ((buf : ℕ) → nx ≡ nexts.Take buf → ⊥)
+pub still_step : (w n : WorldState) (h : HartNo) (m : MachineState) (nx : Next) (saw : Seen) → At w h → next_of (driver_of w h.0) ≡ nx → is_act nx ≡ true → IsSeenAt (next_of (driver_of w h.0)) saw → ((b : ℕ) → mail_next b nx ≡ false) → ((buf : ℕ) → nx ≡ nexts.Take buf → ⊥)
     → GoesOn w n h m (done (driver_of w h.0) saw) → SameHarts w.machine m → AllStatus w n
 still_step w n h m nx saw a e act at off not_take k same b lt =
     let s = here w h a in
@@ -171,7 +171,7 @@ op_by w n h (hart.Fence pred succ) saw b a e at k lt on = absurd (false≢true o
 op_by w n h (hart.IoLoad chan off width) saw b a e at k lt on = absurd (false≢true on)
 op_by w n h (hart.Mark pred succ) saw b a e at k lt on = absurd (false≢true on)
 
-op_messages : (w n : WorldState) (h : HartNo) (op : HartOp) (saw : Seen) → At w h → next_of (driver_of w h.0) ≡ nexts.Op op → IsSeenAt (next_of (driver_of w h.0)) saw → GoesOn w n h (issue_next w.machine h.0 op) (done (driver_of w h.0) saw) → AllStatus w n
+pub op_messages : (w n : WorldState) (h : HartNo) (op : HartOp) (saw : Seen) → At w h → next_of (driver_of w h.0) ≡ nexts.Op op → IsSeenAt (next_of (driver_of w h.0)) saw → GoesOn w n h (issue_next w.machine h.0 op) (done (driver_of w h.0) saw) → AllStatus w n
 op_messages w n h op saw a e at k b lt = elim (cases_Bool (is_mail_op b op)) [
   | inl on ↦ op_by w n h op saw b a e at k lt on
   | inr off ↦ op_other w n h op saw b a e at off k lt

@@ -61,7 +61,7 @@ word_so w n f (Some k) some c h = h k c
 -- ---- a drain
 
 -- a token that drains is of a lot that is lent
-lent_at : (w : WorldState) (h i : ℕ) (label : Label) (first : ℕ) (e : Entry) → WorldSo w h → In e (queue_of w.machine h) → token_of e ≡ Some (lot_id label first) → IsLentAt (driver_of w h).lots (lot_id label first)
+pub lent_at : (w : WorldState) (h i : ℕ) (label : Label) (first : ℕ) (e : Entry) → WorldSo w h → In e (queue_of w.machine h) → token_of e ≡ Some (lot_id label first) → IsLentAt (driver_of w h).lots (lot_id label first)
 lent_at w h i label first e so here is = (stays_has (lot_id label first) (driver_of w h).lots (driver_of w h).rest (so.queued e (lot_id label first) here is)).lent
 
 -- the driver stays
