@@ -24,3 +24,4 @@ pub mod MessageGoes
 pub mod MessageStarts
 pub mod MessageEvents
 pub mod MessageGoesOn
+pub mod MessageLaws

@@ -117,7 +117,7 @@ take_messages w n h buf a e may k b lt =
 fixed_of_saw : (w : WorldState) (h : HartNo) (saw : Seen) (nx : Next) → At w h → next_of (driver_of w h.0) ≡ nx → is_act nx ≡ true → IsSeenAt (next_of (driver_of w h.0)) saw → (done (driver_of w h.0) saw).driver.fixed ≡ (driver_of w h.0).fixed
 fixed_of_saw w h saw nx a e act at = done_fixed w h saw a (ap is_act e ∙ act) at
 
-step_messages : (w n : WorldState) (h : HartNo) (nx : Next) → At w h → next_of (driver_of w h.0) ≡ nx → may_go_on w h nx ≡ true → Comes w n (step_outcome w h nx) → AllStatus w n
+pub step_messages : (w n : WorldState) (h : HartNo) (nx : Next) → At w h → next_of (driver_of w h.0) ≡ nx → may_go_on w h nx ≡ true → Comes w n (step_outcome w h nx) → AllStatus w n
 unfolding step_outcome start_outcome op_outcome claim_outcome poll_outcome take_outcome
 step_messages w n h nexts.End a nx may c = absurd (false≢true may)
 step_messages w n h (nexts.Search k) a nx may c = absurd (false≢true may)
@@ -184,15 +184,15 @@ word_messages w n h got k a e m ds os b lt =
     (record { machine = m; drivers = ds; owners = os; fixed = ((drivers_stay _ _ (driver_of w h.0) s.driver).hears got).fixed }) refl lt (left.mails bare b ∙ sym (ap (mail_steps b) bare))
     (λ x on p. told_off _ _ (driver_of w h.0) got x s.driver (lots_off w h x a p))
 
-try_messages : (w n : WorldState) (h : HartNo) (k : ℕ) → At w h → searching (driver_of w h.0) ≡ Some k → Comes w n (try_outcome w h k) → AllStatus w n
+pub try_messages : (w n : WorldState) (h : HartNo) (k : ℕ) → At w h → searching (driver_of w h.0) ≡ Some k → Comes w n (try_outcome w h k) → AllStatus w n
 unfolding try_outcome
 try_messages w n h k a e c = word_messages w n h (is_none (holder_of w.slots k)) k a e c.machine c.drivers c.owners
 
-told_messages : (w n : WorldState) (h : HartNo) (got : Bool) (k : ℕ) → At w h → searching (driver_of w h.0) ≡ Some k → Comes w n (told_outcome w h got k) → AllStatus w n
+pub told_messages : (w n : WorldState) (h : HartNo) (got : Bool) (k : ℕ) → At w h → searching (driver_of w h.0) ≡ Some k → Comes w n (told_outcome w h got k) → AllStatus w n
 unfolding told_outcome
 told_messages w n h got k a e c = word_messages w n h (got_word got (holder_of w.slots k)) k a e c.machine c.drivers c.owners
 
-at_word_messages : (w n : WorldState) (f : ℕ → Outcome) (d : DriverState) (o : Option ℕ) → searching d ≡ o → is_some o ≡ true → Comes w n (at_word w f o) → ((k : ℕ) → searching d ≡ Some k → Comes w n (f k) → AllStatus w n) → AllStatus w n
+pub at_word_messages : (w n : WorldState) (f : ℕ → Outcome) (d : DriverState) (o : Option ℕ) → searching d ≡ o → is_some o ≡ true → Comes w n (at_word w f o) → ((k : ℕ) → searching d ≡ Some k → Comes w n (f k) → AllStatus w n) → AllStatus w n
 at_word_messages w n f d None e some c h = absurd (false≢true some)
 at_word_messages w n f d (Some k) e some c h = h k e c
 
@@ -213,14 +213,14 @@ pub record Unmoved (w n : WorldState) : Type 0 where
   pub drivers : n.drivers ≡ w.drivers
   pub owners : n.owners ≡ w.owners
 
-unmoved_rest : (w n : WorldState) (g : ℕ) → Unmoved w n → rest_of n g ≡ rest_of w g
+pub unmoved_rest : (w n : WorldState) (g : ℕ) → Unmoved w n → rest_of n g ≡ rest_of w g
 unmoved_rest w n g u = ap (λ (ds : List DriverState). (slice_index_or ds g no_driver).rest) u.drivers
 
-unmoved_owners : (w n : WorldState) (b : ℕ) → Unmoved w n → (k to : HartNo) → IsOwnedBy w.owners (buffer_of (driver_of w 0).fixed b) (owners.Passing k to) → IsOwnedBy n.owners (buffer_of (driver_of n 0).fixed b) (owners.Passing k to)
+pub unmoved_owners : (w n : WorldState) (b : ℕ) → Unmoved w n → (k to : HartNo) → IsOwnedBy w.owners (buffer_of (driver_of w 0).fixed b) (owners.Passing k to) → IsOwnedBy n.owners (buffer_of (driver_of n 0).fixed b) (owners.Passing k to)
 unmoved_owners w n b u k to own x on =
     ap (λ (ws : List Owner). owner_in ws x) u.owners ∙ own x (subst (λ (ds : List DriverState). covers (buffer_of (slice_index_or ds 0 no_driver).fixed b) x ≡ true) u.drivers on)
 
-unmoved_status : (w n : WorldState) (h : HartNo) (i : ℕ) (e : Entry) (b : ℕ) → At w h → Unmoved w n → Drains w.machine (drain_next w.machine h.0 i) h.0 i e → is_mail b e ≡ false → n.machine ≡ drain_next w.machine h.0 i → box_of (drain_next w.machine h.0 i) b ≡ box_of w.machine b → b < length w.machine.boxes → Status n b
+pub unmoved_status : (w n : WorldState) (h : HartNo) (i : ℕ) (e : Entry) (b : ℕ) → At w h → Unmoved w n → Drains w.machine (drain_next w.machine h.0 i) h.0 i e → is_mail b e ≡ false → n.machine ≡ drain_next w.machine h.0 i → box_of (drain_next w.machine h.0 i) b ≡ box_of w.machine b → b < length w.machine.boxes → Status n b
 unmoved_status w n h i e b a u out off m box lt =
     status_kept w n b (record {
       steps = λ g. ap (mail_steps b) (unmoved_rest w n g u);
@@ -229,10 +229,10 @@ unmoved_status w n h i e b a u out off m box lt =
       owners = unmoved_owners w n b u;
     }) (a.holds.messages b lt)
 
-same_boxes : (m v : MachineState) (b : ℕ) → v.boxes ≡ m.boxes → box_of v b ≡ box_of m b
+pub same_boxes : (m v : MachineState) (b : ℕ) → v.boxes ≡ m.boxes → box_of v b ≡ box_of m b
 same_boxes m v b e = ap (λ (bs : List (Option HartNo)). slice_index_or bs b None) e
 
-mail_leaves : (w n : WorldState) (h : HartNo) (i buf : ℕ) (to : HartNo) → At w h → Unmoved w n → Drains w.machine (drain_next w.machine h.0 i) h.0 i (entries.Mail buf to) → n.machine ≡ drain_next w.machine h.0 i → AllStatus w n
+pub mail_leaves : (w n : WorldState) (h : HartNo) (i buf : ℕ) (to : HartNo) → At w h → Unmoved w n → Drains w.machine (drain_next w.machine h.0 i) h.0 i (entries.Mail buf to) → n.machine ≡ drain_next w.machine h.0 i → AllStatus w n
 mail_leaves w n h i buf to a u out m b lt = elim (cases_eq b buf) [
   | inr ne ↦ unmoved_status w n h i (entries.Mail buf to) b a u out (ne_eqb buf b (λ e. ne (sym e))) m (out.devices.others b ne) lt
   | inl same ↦ subst (λ (c : ℕ). Status n c) (sym same) (status_sent w n buf h.0 to
@@ -249,7 +249,7 @@ mail_leaves w n h i buf to a u out m b lt = elim (cases_eq b buf) [
     (a.holds.messages buf (subst (λ (c : ℕ). c < length w.machine.boxes) same lt)))
 ]
 
-token_leaves : (w n : WorldState) (h : HartNo) (i : ℕ) (label : Label) (first count : ℕ) → At w h → Drains w.machine (drain_next w.machine h.0 i) h.0 i (entries.Lend label first count) → GoesOn w n h (drain_next w.machine h.0 i) (lent (driver_of w h.0) label first) → AllStatus w n
+pub token_leaves : (w n : WorldState) (h : HartNo) (i : ℕ) (label : Label) (first count : ℕ) → At w h → Drains w.machine (drain_next w.machine h.0 i) h.0 i (entries.Lend label first count) → GoesOn w n h (drain_next w.machine h.0 i) (lent (driver_of w h.0) label first) → AllStatus w n
 unfolding lent
 token_leaves w n h i label first count a out k b lt =
     status_kept w n b (record {
