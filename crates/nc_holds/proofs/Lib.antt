@@ -1,0 +1,2 @@
+mod ListsA
+mod OwnerFacts
