@@ -1,3 +1,5 @@
 pub mod Agrees
 pub mod WordLists
 pub mod WordMoves
+mod ListsA
+mod OwnerFacts
