@@ -35,6 +35,7 @@ use Rattle.nc_holds.specs.Held.{Held, AreRegions, HartAgrees, IsGrantOf}
 use Rattle.nc_holds.specs.Changes.{IsPlanStep}
 use Rattle.nc_holds.specs.Messages.{MessagesAgree}
 use Rattle.nc_holds.specs.Tokens.{TokensAgree}
+use Rattle.nc_holds.specs.Rests.{RestAgrees}
 
 -- ---- the drivers of a machine
 
@@ -68,6 +69,7 @@ pub record DriverHolds (w : WorldState) (h : ℕ) : Type 0 where
   pub turns : All (IsPlanStep (driver_of w h).lots) (driver_of w h).rest
   pub agrees : HartAgrees (driver_of w h).fixed (held_of w h)
   pub tokens : TokensAgree w h
+  pub rest : RestAgrees (driver_of w h)
 
 -- a grant is that of an entry of its hart
 pub record IsHeldGrant (w : WorldState) (g : Grant) : Type 0 where
