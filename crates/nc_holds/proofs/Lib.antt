@@ -3,3 +3,6 @@ pub mod WordLists
 pub mod WordMoves
 mod ListsA
 mod OwnerFacts
+pub mod CallPlans
+pub mod CallNew
+pub mod CallNumbers
