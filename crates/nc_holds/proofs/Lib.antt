@@ -6,3 +6,5 @@ mod OwnerFacts
 pub mod CallPlans
 pub mod CallNew
 pub mod CallNumbers
+pub mod CallShapes
+pub mod CallStarts
