@@ -61,11 +61,11 @@ use Rattle.nc_holds.proofs.CallShapes.{MakesTurn, Begins, As, Makes, Gets, Ends,
 no_rest : (lots : List Lot) → ArePlanSteps lots []
 no_rest lots = All-nil (IsPlanStep lots)
 
-went_plan : (d : DriverState) (lots : List Lot) (saw : Seen) (rest : List Step) → ArePlanSteps lots rest → ArePlanSteps (went_to d lots saw rest).lots (went_to d lots saw rest).rest
+pub went_plan : (d : DriverState) (lots : List Lot) (saw : Seen) (rest : List Step) → ArePlanSteps lots rest → ArePlanSteps (went_to d lots saw rest).lots (went_to d lots saw rest).rest
 went_plan d lots saw [] h = no_rest lots
 went_plan d lots saw (s ∷ rest) h = h
 
-went_lots : (d : DriverState) (lots : List Lot) (saw : Seen) (rest : List Step) → (went_to d lots saw rest).lots ≡ lots
+pub went_lots : (d : DriverState) (lots : List Lot) (saw : Seen) (rest : List Step) → (went_to d lots saw rest).lots ≡ lots
 went_lots d lots saw [] = refl
 went_lots d lots saw (s ∷ rest) = refl
 
@@ -104,7 +104,7 @@ placed_by ram harts d o s m lots false w h k start all apart made same hand begi
   plan = opened_plan d o lots apart;
 }
 
-placed_call : (ram harts : ℕ) (d : DriverState) (o : Op) (s m : Held) (lots : List Lot) → IsFixed ram harts d.fixed → IsInHand harts d o → has_start o ≡ true → All (IsLotIn ram d.fixed) lots → AreApart lots → AreMade o lots
+pub placed_call : (ram harts : ℕ) (d : DriverState) (o : Op) (s m : Held) (lots : List Lot) → IsFixed ram harts d.fixed → IsInHand harts d o → has_start o ≡ true → All (IsLotIn ram d.fixed) lots → AreApart lots → AreMade o lots
     → lots ≡ m.lots → ((buf : ℕ) (to : HartNo) → o ≡ ops.Hand buf to → CanPass d.fixed m buf) → Begins ram d.fixed s m → IsCall ram d.fixed s (placed (with_lots d lots) o)
 placed_call ram harts d o s m lots h k start all apart made same hand begins = placed_by ram harts d o s m lots (some_lot_waits lots) refl h k start all apart made same hand begins
 

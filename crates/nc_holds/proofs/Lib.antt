@@ -8,3 +8,5 @@ pub mod CallNew
 pub mod CallNumbers
 pub mod CallShapes
 pub mod CallStarts
+pub mod CallTold
+pub mod CallDone
