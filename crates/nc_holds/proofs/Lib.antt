@@ -10,3 +10,5 @@ pub mod CallShapes
 pub mod CallStarts
 pub mod CallTold
 pub mod CallDone
+pub mod EventGiven
+pub mod EventHart
