@@ -70,13 +70,14 @@ pub record Allocates (ram : ℕ) (f : Fixed) (s : Held) (went : Went) : Type 0 w
   pub lots : went.driver.lots ≡ lots_after (turns.Lend lot.id) (s.lots ++ lot ∷ [])
   pub moves : went.moves ≡ turned f (s.lots ++ lot ∷ []) (turns.Lend lot.id) turns.Stay answer
 
-pub data Shape (ram : ℕ) (f : Fixed) (s : Held) (went : Went) : Type 0 where
-  Plainly : (m : Held) → Begins ram f s m → Ends f m went → Shape ram f s went
-  ByArea : Allocates ram f s went → Shape ram f s went
+-- where the slot words are these before it gives any back
+pub data Shape (ram : ℕ) (f : Fixed) (s : Held) (now : List (Option HartNo)) (went : Went) : Type 0 where
+  Plainly : (m : Held) → Begins ram f s m → Ends f m went → m.slots ≡ now → Shape ram f s now went
+  ByArea : Allocates ram f s went → s.slots ≡ now → Shape ram f s now went
 
 -- a call of a driver, and that the rest is one of a plan
-pub record IsCall (ram : ℕ) (f : Fixed) (s : Held) (went : Went) : Type 0 where
-  pub shape : Shape ram f s went
+pub record IsCall (ram : ℕ) (f : Fixed) (s : Held) (now : List (Option HartNo)) (went : Went) : Type 0 where
+  pub shape : Shape ram f s now went
   pub plan : ArePlanSteps went.driver.lots went.driver.rest
 
 -- ---- lots that are lent

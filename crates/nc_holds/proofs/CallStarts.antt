@@ -71,11 +71,11 @@ went_lots d lots saw (s ∷ rest) = refl
 
 -- ---- giving up, and staying
 
-pub gives_up : (ram : ℕ) (d : DriverState) (s : Held) (o : Op) (r : Refusal) → IsCall ram d.fixed (here s d.lots) (give_up d o r)
-gives_up ram d s o r = record { shape = Plainly (here s d.lots) (As refl) (Drops _ refl refl); plan = no_rest (give_up d o r).driver.lots }
+pub gives_up : (ram : ℕ) (d : DriverState) (s : Held) (o : Op) (r : Refusal) → IsCall ram d.fixed (here s d.lots) s.slots (give_up d o r)
+gives_up ram d s o r = record { shape = Plainly (here s d.lots) (As refl) (Drops _ refl refl) refl; plan = no_rest (give_up d o r).driver.lots }
 
-pub just_stays : (ram : ℕ) (d : DriverState) (s : Held) → ArePlanSteps d.lots d.rest → IsCall ram d.fixed (here s d.lots) (stays d)
-just_stays ram d s plan = record { shape = Plainly (here s d.lots) (As refl) (Stays refl refl); plan = plan }
+pub just_stays : (ram : ℕ) (d : DriverState) (s : Held) → ArePlanSteps d.lots d.rest → IsCall ram d.fixed (here s d.lots) s.slots (stays d)
+just_stays ram d s plan = record { shape = Plainly (here s d.lots) (As refl) (Stays refl refl) refl; plan = plan }
 
 -- ---- an opening
 
@@ -95,18 +95,18 @@ opened_plan d o lots apart =
     went_plan (with_lots d lots) (lots_after (opening d.fixed lots o) lots) d.saw (plan_of d.fixed lots o)
     (steps_stay (opening d.fixed lots o) lots (plan_of d.fixed lots o) (plan_steps d.fixed lots o apart))
 
-placed_by : (ram harts : ℕ) (d : DriverState) (o : Op) (s m : Held) (lots : List Lot) (t : Bool) → some_lot_waits lots ≡ t → IsFixed ram harts d.fixed → IsInHand harts d o → has_start o ≡ true → All (IsLotIn ram d.fixed) lots → AreApart lots → AreMade o lots
-    → lots ≡ m.lots → ((buf : ℕ) (to : HartNo) → o ≡ ops.Hand buf to → CanPass d.fixed m buf) → Begins ram d.fixed s m
-    → IsCall ram d.fixed s (if t then stays (searches (with_lots d lots) 0) else opened (with_lots d lots) o)
-placed_by ram harts d o s m lots true w h k start all apart made same hand begins = record { shape = Plainly m begins (Stays same refl); plan = no_rest lots }
-placed_by ram harts d o s m lots false w h k start all apart made same hand begins = record {
-  shape = Plainly m begins (opens_so ram harts d o s m lots h k start all apart (none_any lot_waits lots w) made same hand);
+placed_by : (ram harts : ℕ) (d : DriverState) (o : Op) (s m : Held) (now : List (Option HartNo)) (lots : List Lot) (t : Bool) → some_lot_waits lots ≡ t → IsFixed ram harts d.fixed → IsInHand harts d o → has_start o ≡ true → All (IsLotIn ram d.fixed) lots → AreApart lots → AreMade o lots
+    → lots ≡ m.lots → ((buf : ℕ) (to : HartNo) → o ≡ ops.Hand buf to → CanPass d.fixed m buf) → Begins ram d.fixed s m → m.slots ≡ now
+    → IsCall ram d.fixed s now (if t then stays (searches (with_lots d lots) 0) else opened (with_lots d lots) o)
+placed_by ram harts d o s m now lots true w h k start all apart made same hand begins slots = record { shape = Plainly m begins (Stays same refl) slots; plan = no_rest lots }
+placed_by ram harts d o s m now lots false w h k start all apart made same hand begins slots = record {
+  shape = Plainly m begins (opens_so ram harts d o s m lots h k start all apart (none_any lot_waits lots w) made same hand) slots;
   plan = opened_plan d o lots apart;
 }
 
-pub placed_call : (ram harts : ℕ) (d : DriverState) (o : Op) (s m : Held) (lots : List Lot) → IsFixed ram harts d.fixed → IsInHand harts d o → has_start o ≡ true → All (IsLotIn ram d.fixed) lots → AreApart lots → AreMade o lots
-    → lots ≡ m.lots → ((buf : ℕ) (to : HartNo) → o ≡ ops.Hand buf to → CanPass d.fixed m buf) → Begins ram d.fixed s m → IsCall ram d.fixed s (placed (with_lots d lots) o)
-placed_call ram harts d o s m lots h k start all apart made same hand begins = placed_by ram harts d o s m lots (some_lot_waits lots) refl h k start all apart made same hand begins
+pub placed_call : (ram harts : ℕ) (d : DriverState) (o : Op) (s m : Held) (now : List (Option HartNo)) (lots : List Lot) → IsFixed ram harts d.fixed → IsInHand harts d o → has_start o ≡ true → All (IsLotIn ram d.fixed) lots → AreApart lots → AreMade o lots
+    → lots ≡ m.lots → ((buf : ℕ) (to : HartNo) → o ≡ ops.Hand buf to → CanPass d.fixed m buf) → Begins ram d.fixed s m → m.slots ≡ now → IsCall ram d.fixed s now (placed (with_lots d lots) o)
+placed_call ram harts d o s m now lots h k start all apart made same hand begins slots = placed_by ram harts d o s m now lots (some_lot_waits lots) refl h k start all apart made same hand begins slots
 
 -- ---- a start
 
@@ -157,13 +157,13 @@ opened_if d o false e = refl
 
 allocates : (ram harts : ℕ) (d : DriverState) (s : Held) (o : Op) (label : Label) (count : ℕ) (chan : ChanNo) (span : Span) → IsDriver ram harts d → All IsSettled d.lots → o ≡ ops.Calloc label count chan
     → IsMaking ram d.fixed (here s d.lots) (area_lot (lot_id label 0) chan span ∷ []) → AreApart (d.lots ++ area_lot (lot_id label 0) chan span ∷ [])
-    → IsCall ram d.fixed (here s d.lots) (placed (with_lots d (d.lots ++ area_lot (lot_id label 0) chan span ∷ [])) o)
+    → IsCall ram d.fixed (here s d.lots) s.slots (placed (with_lots d (d.lots ++ area_lot (lot_id label 0) chan span ∷ [])) o)
 allocates ram harts d s o label count chan span h settled is making apart =
     let lot = area_lot (lot_id label 0) chan span in
     let lots = d.lots ++ lot ∷ [] in
     let off = not_waiting d.lots lot (settled_placed d.lots settled) refl in
     let turn : opening d.fixed lots o ≡ turns.Lend (lot_id label 0) = ap (opening d.fixed lots) is ∙ area_opening d.fixed lots label count chan in
-    subst (λ (w : Went). IsCall ram d.fixed (here s d.lots) w) (sym (opened_if (with_lots d lots) o (some_lot_waits lots) off)) (record {
+    subst (λ (w : Went). IsCall ram d.fixed (here s d.lots) s.slots w) (sym (opened_if (with_lots d lots) o (some_lot_waits lots) off)) (record {
       shape = ByArea (record {
         lot = lot;
         making = making;
@@ -173,34 +173,34 @@ allocates ram harts d s o label count chan span h settled is making apart =
         answer = answered (with_lots d lots) o d.saw (plan_of d.fixed lots o);
         lots = went_lots (with_lots d lots) (lots_after (opening d.fixed lots o) lots) d.saw (plan_of d.fixed lots o) ∙ ap (λ t. lots_after t lots) turn;
         moves = ap (λ t. turned d.fixed lots t turns.Stay (answered (with_lots d lots) o d.saw (plan_of d.fixed lots o))) turn;
-      });
+      }) refl;
       plan = opened_plan d o lots apart;
     })
 
 begins_by : (ram harts : ℕ) (d : DriverState) (s : Held) (o : Op) (new : List Lot) → IsDriver ram harts d → All IsSettled d.lots → IsInHand harts d o → has_start o ≡ true → begin d.fixed d.lots s.owners s.pages o ≡ Ok new → AreNew ram d.fixed o d.lots new → NewIs o new
-    → IsCall ram d.fixed (here s d.lots) (placed (with_lots d (d.lots ++ new)) o)
+    → IsCall ram d.fixed (here s d.lots) s.slots (placed (with_lots d (d.lots ++ new)) o)
 begins_by ram harts d s o new h settled k start e n (Plain unplaced areas) =
-    placed_call ram harts d o (here s d.lots) (changed d.fixed (here s d.lots) (Made new)) (d.lots ++ new) h.fixed k start (All-append (IsLotIn ram d.fixed) d.lots new h.lots n.each) n.apart
+    placed_call ram harts d o (here s d.lots) (changed d.fixed (here s d.lots) (Made new)) s.slots (d.lots ++ new) h.fixed k start (All-append (IsLotIn ram d.fixed) d.lots new h.lots n.each) n.apart
     (record { old = d.lots; new = new; all = refl; settled = settled; names = n.names; wanted = n.wanted }) refl (λ buf to is. hand_can d.fixed (here s d.lots) new o buf to settled e is)
-    (Makes new (record { may = record { op = o; begins = e; settled = settled }; op = o; each = n }) areas unplaced refl)
+    (Makes new (record { may = record { op = o; begins = e; settled = settled }; op = o; each = n }) areas unplaced refl) refl
 begins_by ram harts d s o new h settled k start e n (OneArea label count chan span is same) =
-    subst (λ (ls : List Lot). IsCall ram d.fixed (here s d.lots) (placed (with_lots d (d.lots ++ ls)) o)) (sym same)
+    subst (λ (ls : List Lot). IsCall ram d.fixed (here s d.lots) s.slots (placed (with_lots d (d.lots ++ ls)) o)) (sym same)
     (allocates ram harts d s o label count chan span h settled is
     (subst (λ (ls : List Lot). IsMaking ram d.fixed (here s d.lots) ls) same (record { may = record { op = o; begins = e; settled = settled }; op = o; each = n }))
     (subst (λ (ls : List Lot). AreApart (d.lots ++ ls)) same n.apart))
 
 begun_call : (ram harts : ℕ) (d : DriverState) (s : Held) (o : Op) (r : Result (List Lot) Refusal) → IsDriver ram harts d → All IsSettled d.lots → ArePagesOf d.fixed s.pages → IsInHand harts d o → has_start o ≡ true → begin d.fixed d.lots s.owners s.pages o ≡ r
-    → IsCall ram d.fixed (here s d.lots) (begun d o r)
+    → IsCall ram d.fixed (here s d.lots) s.slots (begun d o r)
 begun_call ram harts d s o (Err r) h settled of k start e = gives_up ram d s o r
 begun_call ram harts d s o (Ok new) h settled of k start e =
     begins_by ram harts d s o new h settled k start e (new_is ram harts d.fixed d.lots new s.owners s.pages o h.fixed settled h.apart of k.fits e) (new_lots d.fixed d.lots new s.owners s.pages o e)
 
-refused_call : (ram : ℕ) (d : DriverState) (s : Held) (o : Op) (r : Result (Option Step) Refusal) → ArePlanSteps d.lots d.rest → IsCall ram d.fixed (here s d.lots) (refused_step d o r)
+refused_call : (ram : ℕ) (d : DriverState) (s : Held) (o : Op) (r : Result (Option Step) Refusal) → ArePlanSteps d.lots d.rest → IsCall ram d.fixed (here s d.lots) s.slots (refused_step d o r)
 refused_call ram d s o (Err r) plan = gives_up ram d s o r
 refused_call ram d s o (Ok step) plan = just_stays ram d s plan
 
 start_if : (ram harts : ℕ) (d : DriverState) (s : Held) (o : Op) (t : Bool) → has_start o ≡ t → IsDriver ram harts d → All IsSettled d.lots → ArePagesOf d.fixed s.pages → ArePlanSteps d.lots d.rest → in_hand d ≡ Some o
-    → IsCall ram d.fixed (here s d.lots) (if t then begun d o (begin d.fixed d.lots s.owners s.pages o) else refused_step d o (step_at d.fixed d.lots o (steps_done d.phase)))
+    → IsCall ram d.fixed (here s d.lots) s.slots (if t then begun d o (begin d.fixed d.lots s.owners s.pages o) else refused_step d o (step_at d.fixed d.lots o (steps_done d.phase)))
 start_if ram harts d s o true start h settled of plan e = begun_call ram harts d s o (begin d.fixed d.lots s.owners s.pages o) h settled of (in_hand_is ram harts d o h.fixed e) start refl
 start_if ram harts d s o false start h settled of plan e = refused_call ram d s o (step_at d.fixed d.lots o (steps_done d.phase)) plan
 
@@ -219,10 +219,10 @@ settled_start d o (Steps n) h e = h.settled
 settled_start d o (Search k) h e = absurd (cc)
 settled_start d o Work h e = absurd (next_rest_not d.rest h.some e)
 
-start_by : (ram harts : ℕ) (d : DriverState) (s : Held) (o : Option Op) → in_hand d ≡ o → IsDriver ram harts d → ArePagesOf d.fixed s.pages → ArePlanSteps d.lots d.rest → next_of_op d o ≡ nexts.Start → IsCall ram d.fixed (here s d.lots) (started_of d s.owners s.pages o)
+start_by : (ram harts : ℕ) (d : DriverState) (s : Held) (o : Option Op) → in_hand d ≡ o → IsDriver ram harts d → ArePagesOf d.fixed s.pages → ArePlanSteps d.lots d.rest → next_of_op d o ≡ nexts.Start → IsCall ram d.fixed (here s d.lots) s.slots (started_of d s.owners s.pages o)
 start_by ram harts d s None e h of plan start = just_stays ram d s plan
 start_by ram harts d s (Some o) e h of plan start = start_if ram harts d s o (has_start o) refl h (settled_start d o d.phase h.phase start) of plan e
 
-pub start_call : (ram harts : ℕ) (d : DriverState) (s : Held) → IsDriver ram harts d → ArePagesOf d.fixed s.pages → ArePlanSteps d.lots d.rest → next_of d ≡ nexts.Start → IsCall ram d.fixed (here s d.lots) (started d s.owners s.pages)
+pub start_call : (ram harts : ℕ) (d : DriverState) (s : Held) → IsDriver ram harts d → ArePagesOf d.fixed s.pages → ArePlanSteps d.lots d.rest → next_of d ≡ nexts.Start → IsCall ram d.fixed (here s d.lots) s.slots (started d s.owners s.pages)
 unfolding started next_of
 start_call ram harts d s h of plan start = start_by ram harts d s (in_hand d) refl h of plan start

@@ -1,6 +1,6 @@
 -- What an answer to a try does to what a hart holds.
 use Rattle.std.proofs.Common.{◌≡◌, ℕ, ◌+◌, ◌<◌, Bool, true, false, List, [], ◌∷◌, ◌++◌, length, map, refl, sym, ap, ◌∙◌, subst, Option, Some, None}
-use Rattle.std.specs.Prelude.{All, nat_lt, if◌then◌else◌}
+use Rattle.std.specs.Prelude.{All, nat_lt, slice_set, if◌then◌else◌}
 use Rattle.std.proofs.lemmas.Bool.{false≢true}
 use Rattle.std.proofs.lemmas.List.Elements.{All-nil, All-append}
 use Rattle.nc_num.specs.declared.names.HartNo.{HartNo}
@@ -63,20 +63,25 @@ made_unlent o lots made =
 
 -- ---- the word
 
-missed_if : (ram : ℕ) (d : DriverState) (s : Held) (o : Op) (k : ℕ) (t : Bool) → IsCall ram d.fixed (here s d.lots) (if t then stays (searches d (k + 1)) else give_up d o refusals.NoSlot)
-missed_if ram d s o k true = record { shape = Plainly (here s d.lots) (As refl) (Stays refl refl); plan = All-nil (IsPlanStep d.lots) }
+missed_if : (ram : ℕ) (d : DriverState) (s : Held) (o : Op) (k : ℕ) (t : Bool) → IsCall ram d.fixed (here s d.lots) s.slots (if t then stays (searches d (k + 1)) else give_up d o refusals.NoSlot)
+missed_if ram d s o k true = record { shape = Plainly (here s d.lots) (As refl) (Stays refl refl) refl; plan = All-nil (IsPlanStep d.lots) }
 missed_if ram d s o k false = gives_up ram d s o refusals.NoSlot
+
+-- the slot words with that one where it is got
+abbrev pub words_now : Bool → Fixed → Held → ℕ → List (Option HartNo)
+words_now true f s k = slice_set s.slots k (Some f.me)
+words_now false f s k = s.slots
 
 -- what the answer needs: a word that is got was free
 abbrev pub IsFree : Bool → Held → ℕ → Type 0
 IsFree true s k = holder_of s.slots k ≡ None
 IsFree false s k = Unit {0}
 
-word_call : (ram harts : ℕ) (d : DriverState) (s : Held) (o : Op) (k : ℕ) (got : Bool) → IsDriver ram harts d → IsInHand harts d o → AreMade o d.lots → IsSearching d k → IsFree got s k → IsCall ram d.fixed (here s d.lots) (told_word d o k got)
+word_call : (ram harts : ℕ) (d : DriverState) (s : Held) (o : Op) (k : ℕ) (got : Bool) → IsDriver ram harts d → IsInHand harts d o → AreMade o d.lots → IsSearching d k → IsFree got s k → IsCall ram d.fixed (here s d.lots) (words_now got d.fixed s k) (told_word d o k got)
 word_call ram harts d s o k true h hand made is free =
-    placed_call ram harts d o (here s d.lots) (changed d.fixed (here s d.lots) (Got k)) (slot_given k d.lots) h.fixed hand (makes_start o d.lots (has_start o) refl made is.waits) (lots_given ram d.fixed k d.lots is.slot h.lots) (apart_given k d.lots h.apart)
+    placed_call ram harts d o (here s d.lots) (changed d.fixed (here s d.lots) (Got k)) (slice_set s.slots k (Some d.fixed.me)) (slot_given k d.lots) h.fixed hand (makes_start o d.lots (has_start o) refl made is.waits) (lots_given ram d.fixed k d.lots is.slot h.lots) (apart_given k d.lots h.apart)
     (made_given k o d.lots made) refl (λ buf to same. no_hand d.fixed (changed d.fixed (here s d.lots) (Got k)) o d.lots buf to made is.waits same)
-    (Gets k (record { waits = is.waits; unlent = made_unlent o d.lots made; free = free }) is.slot refl)
+    (Gets k (record { waits = is.waits; unlent = made_unlent o d.lots made; free = free }) is.slot refl) refl
 word_call ram harts d s o k false h hand made is free = missed_if ram d s o k (nat_lt (k + 1) d.fixed.slots)
 
 -- only a search has a slot word
@@ -96,18 +101,19 @@ rest_not : (rest : List Step) (k : ℕ) → searched (next_rest rest) ≡ Some k
 rest_not [] k e = absurd (cc)
 rest_not (s ∷ rest) k e = act_not s.act k e
 
-told_in_call : (ram harts : ℕ) (d : DriverState) (s : Held) (o : Op) (p : Phase) (k : ℕ) (got : Bool) → IsDriver ram harts d → in_hand d ≡ Some o → IsPhase d p → searched (next_in d o p) ≡ Some k → IsFree got s k → IsCall ram d.fixed (here s d.lots) (told_in d o p got)
+told_in_call : (ram harts : ℕ) (d : DriverState) (s : Held) (o : Op) (p : Phase) (k : ℕ) (got : Bool) → IsDriver ram harts d → in_hand d ≡ Some o → IsPhase d p → searched (next_in d o p) ≡ Some k → IsFree got s k → IsCall ram d.fixed (here s d.lots) (words_now got d.fixed s k) (told_in d o p got)
 told_in_call ram harts d s o (Steps n) k got h e is at free = absurd (step_not (has_start o) (step_at d.fixed d.lots o n) k at)
 told_in_call ram harts d s o (Search n) k got h e is at free =
     let same : k ≡ n = cc in
-    word_call ram harts d s o n got h (in_hand_is ram harts d o h.fixed e) (is.made o e) is (subst (λ (i : ℕ). IsFree got s i) same free)
+    subst (λ (i : ℕ). IsCall ram d.fixed (here s d.lots) (words_now got d.fixed s i) (told_in d o (Search n) got)) (sym same)
+    (word_call ram harts d s o n got h (in_hand_is ram harts d o h.fixed e) (is.made o e) is (subst (λ (i : ℕ). IsFree got s i) same free))
 told_in_call ram harts d s o Work k got h e is at free = absurd (rest_not d.rest k at)
 
-told_by : (ram harts : ℕ) (d : DriverState) (s : Held) (o : Option Op) (k : ℕ) (got : Bool) → IsDriver ram harts d → in_hand d ≡ o → searched (next_of_op d o) ≡ Some k → IsFree got s k → IsCall ram d.fixed (here s d.lots) (told_of d o got)
+told_by : (ram harts : ℕ) (d : DriverState) (s : Held) (o : Option Op) (k : ℕ) (got : Bool) → IsDriver ram harts d → in_hand d ≡ o → searched (next_of_op d o) ≡ Some k → IsFree got s k → IsCall ram d.fixed (here s d.lots) (words_now got d.fixed s k) (told_of d o got)
 told_by ram harts d s None k got h e at free = absurd (cc)
 told_by ram harts d s (Some o) k got h e at free = told_in_call ram harts d s o d.phase k got h e h.phase at free
 
-pub told_call : (ram harts : ℕ) (d : DriverState) (s : Held) (k : ℕ) (got : Bool) → IsDriver ram harts d → searching d ≡ Some k → IsFree got s k → IsCall ram d.fixed (here s d.lots) (told d got)
+pub told_call : (ram harts : ℕ) (d : DriverState) (s : Held) (k : ℕ) (got : Bool) → IsDriver ram harts d → searching d ≡ Some k → IsFree got s k → IsCall ram d.fixed (here s d.lots) (words_now got d.fixed s k) (told d got)
 unfolding told searching next_of
 told_call ram harts d s k got h at free = told_by ram harts d s (in_hand d) k got h refl at free
 
@@ -126,5 +132,5 @@ unfolding searching next_of
 slot_there ram harts d k h at = slot_by d (in_hand d) k h.phase at
 
 -- an answer that is not got begins with nothing
-pub missed_is : (ram harts : ℕ) (d : DriverState) (s : Held) (k : ℕ) → IsDriver ram harts d → searching d ≡ Some k → IsCall ram d.fixed (here s d.lots) (told d false)
+pub missed_is : (ram harts : ℕ) (d : DriverState) (s : Held) (k : ℕ) → IsDriver ram harts d → searching d ≡ Some k → IsCall ram d.fixed (here s d.lots) s.slots (told d false)
 missed_is ram harts d s k h at = told_call ram harts d s k false h at tt
