@@ -12,3 +12,5 @@ pub mod CallTold
 pub mod CallDone
 pub mod EventGiven
 pub mod EventHart
+pub mod EventMoves
+pub mod EventCalls
