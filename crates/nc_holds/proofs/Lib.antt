@@ -14,3 +14,15 @@ pub mod EventGiven
 pub mod EventHart
 pub mod EventMoves
 pub mod EventCalls
+pub mod ListsC
+pub mod QuietSteps
+pub mod TokenLots
+pub mod TokenRests
+pub mod TokenPlans
+pub mod TokenOpens
+pub mod TokenCopies
+pub mod MessageSteps
+pub mod TokenKeeps
+pub mod TokenCalls
+pub mod TokenDone
+pub mod MessageWorlds
