@@ -1,2 +1,6 @@
 mod ListsA
 mod OwnerFacts
+mod OwnerMoves
+mod OwnerLots
+mod OwnerSides
+mod GrantMoves
