@@ -1,3 +1,6 @@
+pub mod Agrees
+pub mod WordLists
+pub mod WordMoves
 mod ListsA
 mod OwnerFacts
 mod OwnerMoves

@@ -32,8 +32,10 @@ use Rattle.nc_rules.specs.Next.{next}
 use Rattle.nc_scripts.specs.Drivers.{IsDriver, ArePagesOf, LoadsFit, IsLentAt}
 use Rattle.nc_scripts.specs.Scripts.{IsRangeIn}
 use Rattle.nc_holds.specs.Held.{Held, AreRegions, HartAgrees, IsGrantOf}
+use Rattle.nc_holds.specs.Changes.{IsPlanStep}
 use Rattle.nc_holds.specs.Messages.{MessagesAgree}
 use Rattle.nc_holds.specs.Tokens.{TokensAgree}
+use Rattle.nc_holds.specs.Rests.{RestAgrees}
 
 -- ---- the drivers of a machine
 
@@ -64,8 +66,10 @@ pub record DriverHolds (w : WorldState) (h : ℕ) : Type 0 where
   pub setting : IsSetting (driver_of w h).fixed w
   pub regions : AreRegions (driver_of w h).fixed
   pub loads : LoadsFit (length (hart_of w.machine h).last) (driver_of w h).rest
+  pub turns : All (IsPlanStep (driver_of w h).lots) (driver_of w h).rest
   pub agrees : HartAgrees (driver_of w h).fixed (held_of w h)
   pub tokens : TokensAgree w h
+  pub rest : RestAgrees (driver_of w h)
 
 -- a grant is that of an entry of its hart
 pub record IsHeldGrant (w : WorldState) (g : Grant) : Type 0 where
