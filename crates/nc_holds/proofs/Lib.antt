@@ -7,3 +7,6 @@ mod OwnerMoves
 mod OwnerLots
 mod OwnerSides
 mod GrantMoves
+mod GrantSides
+mod PageMaps
+mod OwnerPages
