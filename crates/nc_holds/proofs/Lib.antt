@@ -10,3 +10,5 @@ mod GrantMoves
 mod GrantSides
 mod PageMaps
 mod OwnerPages
+mod OwnerEnds
+mod OwnerTurns
