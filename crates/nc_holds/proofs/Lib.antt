@@ -12,3 +12,4 @@ mod PageMaps
 mod OwnerPages
 mod OwnerEnds
 mod OwnerTurns
+mod OwnerBegins
