@@ -13,3 +13,4 @@ mod OwnerPages
 mod OwnerEnds
 mod OwnerTurns
 mod OwnerBegins
+mod OwnerMade
