@@ -14,3 +14,4 @@ mod OwnerEnds
 mod OwnerTurns
 mod OwnerBegins
 mod OwnerMade
+mod OwnerSlots
