@@ -15,3 +15,4 @@ mod OwnerTurns
 mod OwnerBegins
 mod OwnerMade
 mod OwnerSlots
+mod OwnerLaws

@@ -59,12 +59,12 @@ in_move me side id lots lot i e name h =
     in_named (to_side me side) id lots lot (e.span, owner_of_side (map_id me lot.id i) side) h.lot_in name
     (subst (λ (j : ℕ). In {X = Span × Owner} (e.span, owner_of_side (map_id me lot.id j) side) (to_side me side lot)) n k)
 
-move_covers : (me : HartNo) (side : Side) (id : LotId) (lots : List Lot) (t : Span × Owner) (x : ℕ) → (r : IsSideMove me side id lots t) → covers t.0 x ≡ true → covers r.entry.span x ≡ true
+pub move_covers : (me : HartNo) (side : Side) (id : LotId) (lots : List Lot) (t : Span × Owner) (x : ℕ) → (r : IsSideMove me side id lots t) → covers t.0 x ≡ true → covers r.entry.span x ≡ true
 move_covers me side id lots t x r on = subst (λ (u : Span × Owner). covers u.0 x ≡ true) (sym r.is) on
 
 -- ---- the owners behind it
 
-abbrev sided_owners : HartNo → Side → LotId → List Lot → List Owner → List Owner
+abbrev pub sided_owners : HartNo → Side → LotId → List Lot → List Owner → List Owner
 sided_owners me side id lots ws = owners_moved ws (of_those (to_side me side) id lots)
 
 named_owner : (me : HartNo) (side : Side) (id : LotId) (lots : List Lot) (ws : List Owner) (lot : Lot) (i : ℕ) (e : Entry) (x : ℕ) → EntriesAreApart lots → x < length ws → is_lot id lot ≡ true → IsEntryOf lots lot i e → covers e.span x ≡ true
@@ -87,25 +87,33 @@ other_owner me side id lots ws lot i e x apart name h on =
     let other_name : is_lot id lot ≡ true = subst (λ (d : LotId). is_lot id (record lot { id = d }) ≡ true) same.lot r.named in
     false≢true (sym name ∙ other_name))
 
-sided_owner : (me : HartNo) (side : Side) (id : LotId) (lots : List Lot) (ws : List Owner) (lot now : Lot) (i : ℕ) (e : Entry) (x : ℕ) → EntriesAreApart lots → x < length ws → OwnersAgree me ws lots → In lot lots → SidedBy side id lot now
+-- the owners of the bytes of other lots
+abbrev pub OthersOwn : HartNo → List Owner → LotId → List Lot → Type 0
+OthersOwn me ws id lots = (lot : Lot) (i : ℕ) (e : Entry) (x : ℕ) → is_lot id lot ≡ false → IsEntryOf lots lot i e → covers e.span x ≡ true → owner_in ws x ≡ owner_of_side (map_id me lot.id i) lot.side
+
+sided_owner : (me : HartNo) (side : Side) (id : LotId) (lots : List Lot) (ws : List Owner) (lot now : Lot) (i : ℕ) (e : Entry) (x : ℕ) → EntriesAreApart lots → x < length ws → OthersOwn me ws id lots → In lot lots → SidedBy side id lot now
     → slice_get now.list.entries i ≡ Some e → covers e.span x ≡ true → owner_in (sided_owners me side id lots ws) x ≡ owner_of_side (map_id me now.id i) now.side
 sided_owner me side id lots ws lot now i e x apart lt agree k (named name same) h on =
     subst (λ (l : Lot). slice_get l.list.entries i ≡ Some e → owner_in (sided_owners me side id lots ws) x ≡ owner_of_side (map_id me l.id i) l.side) same
     (λ g. named_owner me side id lots ws lot i e x apart lt name (record { lot_in = k; entry = g }) on) h
 sided_owner me side id lots ws lot now i e x apart lt agree k (other name same) h on =
     subst (λ (l : Lot). slice_get l.list.entries i ≡ Some e → owner_in (sided_owners me side id lots ws) x ≡ owner_of_side (map_id me l.id i) l.side) same
-    (λ g. other_owner me side id lots ws lot i e x apart name (record { lot_in = k; entry = g }) on ∙ agree lot i e x (record { lot_in = k; entry = g }) on) h
+    (λ g. other_owner me side id lots ws lot i e x apart name (record { lot_in = k; entry = g }) on ∙ agree lot i e x name (record { lot_in = k; entry = g }) on) h
 
 still_below : (ram : ℕ) (f : Fixed) (side : Side) (id : LotId) (lots : List Lot) (lot now : Lot) (i : ℕ) (e : Entry) (x : ℕ) → All (IsLotIn ram f) lots → In lot lots → SidedBy side id lot now → slice_get now.list.entries i ≡ Some e → covers e.span x ≡ true → x < ram
 still_below ram f side id lots lot now i e x all k (named name same) h on = of_lots ram f lots lot i e x all (record { lot_in = k; entry = subst (λ (l : Lot). slice_get l.list.entries i ≡ Some e) (sym same) h }) on
 still_below ram f side id lots lot now i e x all k (other name same) h on = of_lots ram f lots lot i e x all (record { lot_in = k; entry = subst (λ (l : Lot). slice_get l.list.entries i ≡ Some e) (sym same) h }) on
 
-pub owners_sided : (ram : ℕ) (f : Fixed) (side : Side) (id : LotId) (lots : List Lot) (ws : List Owner) → All (IsLotIn ram f) lots → length ws ≡ ram → EntriesAreApart lots → OwnersAgree f.me ws lots
+pub owners_set : (ram : ℕ) (f : Fixed) (side : Side) (id : LotId) (lots : List Lot) (ws : List Owner) → All (IsLotIn ram f) lots → length ws ≡ ram → EntriesAreApart lots → OthersOwn f.me ws id lots
     → OwnersAgree f.me (sided_owners f.me side id lots ws) (set_side side id lots)
-owners_sided ram f side id lots ws all long apart agree now i e x h on =
+owners_set ram f side id lots ws all long apart agree now i e x h on =
     let r = of_sided side id lots now h.lot_in in
     let lt = still_below ram f side id lots r.lot now i e x all r.here r.how h.entry on in
     sided_owner f.me side id lots ws r.lot now i e x apart (omega (arith, long, lt)) agree r.here r.how h.entry on
+
+pub owners_sided : (ram : ℕ) (f : Fixed) (side : Side) (id : LotId) (lots : List Lot) (ws : List Owner) → All (IsLotIn ram f) lots → length ws ≡ ram → EntriesAreApart lots → OwnersAgree f.me ws lots
+    → OwnersAgree f.me (sided_owners f.me side id lots ws) (set_side side id lots)
+owners_sided ram f side id lots ws all long apart agree = owners_set ram f side id lots ws all long apart (λ lot i e x off h on. agree lot i e x h on)
 
 -- the bytes that are moved were the hart's
 pub frame_by : (me : HartNo) (ws : List Owner) (ts : List (Span × Owner)) (x : ℕ) → ((t : Span × Owner) → In t ts → covers t.0 x ≡ true → IsOf me (owner_in ws x)) → StaysOrMine me ws (owners_moved ws ts) x
@@ -121,10 +129,10 @@ frame_sided me side id lots ws x agree =
 
 -- ---- the lots behind it
 
-abbrev OwnOfAreas : Side → List Lot → LotId → Type 0
+abbrev pub OwnOfAreas : Side → List Lot → LotId → Type 0
 OwnOfAreas side lots id = is_own side ≡ true → AreAreas lots id
 
-sides_by : (f : Fixed) (side : Side) (id : LotId) (lots : List Lot) (lot now : Lot) → is_wanted side ≡ false → OwnOfAreas side lots id → In lot lots → SidedBy side id lot now → FitsSide f lot → FitsSide f now
+pub sides_by : (f : Fixed) (side : Side) (id : LotId) (lots : List Lot) (lot now : Lot) → is_wanted side ≡ false → OwnOfAreas side lots id → In lot lots → SidedBy side id lot now → FitsSide f lot → FitsSide f now
 sides_by f side id lots lot now off own k (named name same) h =
     subst (FitsSide f) same (record {
       area = λ a. off;
@@ -138,7 +146,7 @@ sides_sided f side id lots off own all =
     all_in (FitsSide f) (set_side side id lots)
     (λ now k. let r = of_sided side id lots now k in sides_by f side id lots r.lot now off own r.here r.how (all_at (FitsSide f) lots r.lot all r.here))
 
-taken_by : (pool : PageMap) (side : Side) (id : LotId) (lot now : Lot) → SidedBy side id lot now → IsTaken pool lot → IsTaken pool now
+pub taken_by : (pool : PageMap) (side : Side) (id : LotId) (lot now : Lot) → SidedBy side id lot now → IsTaken pool lot → IsTaken pool now
 taken_by pool side id lot now (named name same) h = subst (IsTaken pool) same h
 taken_by pool side id lot now (other name same) h = subst (IsTaken pool) same h
 

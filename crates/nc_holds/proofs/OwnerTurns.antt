@@ -55,7 +55,7 @@ own_by f b x m sides.Returning lent pool h on e = cc
 own_by f b x m sides.Synced lent pool h on e = cc
 own_by f b x m sides.Own lent pool h on e = h.buffers_off_pool b x on (pool refl)
 
-passing_by : (m : MapId) (side : Side) (g to : HartNo) → owner_of_side m side ≡ owners.Passing g to → ⊥
+pub passing_by : (m : MapId) (side : Side) (g to : HartNo) → owner_of_side m side ≡ owners.Passing g to → ⊥
 passing_by m sides.Wanted g to e = cc
 passing_by m sides.Lending g to e = cc
 passing_by m sides.Device g to e = cc
