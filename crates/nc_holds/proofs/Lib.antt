@@ -26,3 +26,16 @@ pub mod TokenKeeps
 pub mod TokenCalls
 pub mod TokenDone
 pub mod MessageWorlds
+mod OwnerMoves
+mod OwnerLots
+mod OwnerSides
+mod GrantMoves
+mod GrantSides
+mod PageMaps
+mod OwnerPages
+mod OwnerEnds
+mod OwnerTurns
+mod OwnerBegins
+mod OwnerMade
+mod OwnerSlots
+mod OwnerLaws
