@@ -9,7 +9,7 @@ use Rattle.nc_rules.specs.declared.steps.Turn.TheVariants as turns
 use Rattle.nc_rules.specs.Lots.{Fixed, lot_waits}
 use Rattle.nc_rules.specs.Turns.{is_area, grants_of, pages_of}
 use Rattle.nc_holds.specs.Held.{Held, WordsAgree}
-use Rattle.nc_holds.specs.Changes.{Change, Made, Turned, changed, changed_by}
+use Rattle.nc_holds.specs.Changes.{Change, Made, Turned, WaitsUnlent, changed, changed_by}
 use Rattle.nc_holds.specs.Holds.{CanAddAll, MayMovePages}
 use Rattle.nc_holds.proofs.OwnerFacts.{Knows, Mine, Fits, Theirs, EachIsHeld, IsMaking}
 
@@ -26,6 +26,8 @@ pub record OwnerLaws : Type 0 where
   pub area_mine_stays : (ram harts : ℕ) (f : Fixed) (s : Held) (lot : Lot) → Knows ram harts f s → Mine f s → IsMaking ram f s (lot ∷ []) → is_area lot.kind ≡ true → Mine f (area_made f s lot)
   pub area_theirs_stay : (ram harts : ℕ) (f g : Fixed) (s : Held) (lots : List Lot) (lot : Lot) → Knows ram harts f s → Mine f s → Theirs ram f g s lots → IsMaking ram f s (lot ∷ []) → is_area lot.kind ≡ true → Theirs ram f g (area_made f s lot) lots
   pub area_grants_of_others : (f : Fixed) (s : Held) (lot : Lot) (g : Grant) → In g (area_made f s lot).grants → (g.id.hart.0 ≡ f.me.0 → ⊥) → In g s.grants
+  pub waits_stay : (ram : ℕ) (f : Fixed) (s : Held) (c : Change) → Fits ram f s c → WaitsUnlent s.lots → WaitsUnlent (changed f s c).lots
+  pub area_waits : (ram : ℕ) (f : Fixed) (s : Held) (lot : Lot) → IsMaking ram f s (lot ∷ []) → is_area lot.kind ≡ true → WaitsUnlent s.lots → WaitsUnlent (area_made f s lot).lots
   pub can_add_all : (ram harts : ℕ) (f : Fixed) (s : Held) (id : LotId) → Knows ram harts f s → Mine f s → WordsAgree f.me s.slots s.lots → EachIsHeld ram f s → All (λ lot. lot_waits lot ≡ false) s.lots
     → CanAddAll ram s.grants (grants_of f.me f.slots_at s.lots (turns.Lend id))
   pub area_can_add_all : (ram harts : ℕ) (f : Fixed) (s : Held) (lot : Lot) → Knows ram harts f s → Mine f s → EachIsHeld ram f s → IsMaking ram f s (lot ∷ []) → is_area lot.kind ≡ true

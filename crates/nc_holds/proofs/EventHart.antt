@@ -13,7 +13,7 @@ use Rattle.nc_rules.specs.Lots.{Fixed, slots_held}
 use Rattle.nc_rules.specs.Turns.{is_area, backs_of, slots_wanted, lots_after}
 use Rattle.nc_scripts.specs.Drivers.{AreApart}
 use Rattle.nc_holds.specs.Held.{Held, EntriesAreApart, WordsAgree, IsGrantOf, HartAgrees}
-use Rattle.nc_holds.specs.Changes.{Change, Made, Got, Turned, Dropped, changed, changed_by, MayChange}
+use Rattle.nc_holds.specs.Changes.{Change, Made, Got, Turned, Dropped, WaitsUnlent, changed, changed_by, MayChange}
 use Rattle.nc_holds.specs.Holds.{KnowsAlike}
 use Rattle.nc_holds.proofs.Agrees.{here}
 use Rattle.nc_holds.proofs.OwnerFacts.{Knows, Mine, Fits, Theirs, IsHeldBy, EachIsHeld, IsMaking, NoAreas}
@@ -30,6 +30,7 @@ pub record HasTheirs (ram : ℕ) (f other : Fixed) (lots : List Lot) (g : ℕ) (
   pub names : AreApart lots
   pub apart : EntriesAreApart lots
   pub words : WordsAgree other.me s.slots lots
+  pub waits : WaitsUnlent lots
 
 pub record IsTheirGrant (n : ℕ) (fixed : ℕ → Fixed) (lots : ℕ → List Lot) (x : Grant) : Type 0 where
   pub hart : x.id.hart.0 < n
@@ -42,6 +43,7 @@ pub record Everyone (ram n h : ℕ) (f : Fixed) (fixed : ℕ → Fixed) (lots : 
   pub mine : Mine f s
   pub words : WordsAgree f.me s.slots s.lots
   pub long : length s.slots ≡ f.slots
+  pub waits : WaitsUnlent s.lots
   pub theirs : (g : ℕ) → g < n → g ≢ h → HasTheirs ram f (fixed g) (lots g) g s
   pub grants : (x : Grant) → In x s.grants → x.id.hart.0 ≢ h → IsTheirGrant n fixed lots x
 
@@ -115,6 +117,7 @@ change_stays laws ram n h f fixed lots s c all is = record {
   mine = laws.mine_stays ram n f s c all.knows all.mine is.0;
   words = words_own f s c all.long is.1 is.2 all.words;
   long = length-changed f s c ∙ all.long;
+  waits = laws.waits_stay ram f s c is.0 all.waits;
   theirs = λ g lt ne. theirs_by g (all.theirs g lt ne) ne;
   grants = λ x here_x ne. all.grants x (laws.grants_of_others f s c x here_x (λ e. ne (e ∙ all.me))) ne;
 }
@@ -125,6 +128,7 @@ change_stays laws ram n h f fixed lots s c all is = record {
       me = t.me;
       names = t.names;
       apart = t.apart;
+      waits = t.waits;
       words = words_other f s c (fixed g).me (lots g) (other_me ram f (fixed g) (lots g) g h s t all.me ne) all.long is.1 all.words t.words;
     }
 
@@ -140,6 +144,7 @@ area_stays laws ram n h f fixed lots s lot all making area none = record {
   mine = laws.area_mine_stays ram n f s lot all.knows all.mine making area;
   words = (turned_words f.me s.slots (s.lots ++ lot ∷ []) (turns.Lend lot.id) (area_words f s lot none all.long all.words making.may)).words;
   long = all.long;
+  waits = laws.area_waits ram f s lot making area all.waits;
   theirs = λ g lt ne. theirs_by g (all.theirs g lt ne);
   grants = λ x here_x ne. all.grants x (laws.area_grants_of_others f s lot x here_x (λ e. ne (e ∙ all.me))) ne;
 }
@@ -150,5 +155,6 @@ area_stays laws ram n h f fixed lots s lot all making area none = record {
       me = t.me;
       names = t.names;
       apart = t.apart;
+      waits = t.waits;
       words = t.words;
     }

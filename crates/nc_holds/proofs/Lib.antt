@@ -39,3 +39,4 @@ mod OwnerBegins
 mod OwnerMade
 mod OwnerSlots
 mod OwnerLaws
+pub mod EventFrom
