@@ -15,7 +15,7 @@ use Rattle.nc_rules.specs.Turns.{Moved}
 use Rattle.nc_rules.specs.Driver.{DriverState, Went}
 use Rattle.nc_rules.specs.World.{WorldState, no_driver, driver_of, with_moves}
 use Rattle.nc_calls.specs.MachineLaws.{SameShape}
-use Rattle.nc_scripts.specs.Drivers.{IsDriver, ArePagesOf}
+use Rattle.nc_scripts.specs.Drivers.{IsDriver, ArePagesOf, AreThere}
 use Rattle.nc_scripts.proofs.Lists.{all_in}
 use Rattle.nc_holds.specs.Held.{Held, AreRegions, IsGrantOf, HartAgrees}
 use Rattle.nc_holds.specs.Changes.{WaitsUnlent}
@@ -121,6 +121,7 @@ pub record GoesOn (w : WorldState) (h : ℕ) (machine : MachineState) (now : Lis
   pub call : IsCall (length w.machine.cache.ram) (fixed_in w h) (held_of w h) now went
   pub driver : IsDriver (length w.machine.cache.ram) (length w.machine.harts) went.driver
   pub fixed : went.driver.fixed ≡ fixed_in w h
+  pub moves : AreThere (length w.machine.cache.ram) (fixed_in w h) went.moves
 
 -- the world behind it
 abbrev pub gone_on : WorldState → ℕ → MachineState → List (Option HartNo) → Went → WorldState

@@ -40,3 +40,4 @@ mod OwnerMade
 mod OwnerSlots
 mod OwnerLaws
 pub mod EventFrom
+pub mod EventSteps
