@@ -41,3 +41,4 @@ mod OwnerSlots
 mod OwnerLaws
 pub mod EventFrom
 pub mod EventSteps
+pub mod EventHolds
