@@ -42,3 +42,5 @@ mod OwnerLaws
 pub mod EventFrom
 pub mod EventSteps
 pub mod EventHolds
+pub mod StartRegions
+pub mod StartHolds
