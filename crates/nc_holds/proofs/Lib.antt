@@ -16,3 +16,4 @@ mod OwnerBegins
 mod OwnerMade
 mod OwnerSlots
 mod OwnerLaws
+mod OwnerAreas
