@@ -17,3 +17,4 @@ mod OwnerMade
 mod OwnerSlots
 mod OwnerLaws
 mod OwnerAreas
+mod GrantWords
