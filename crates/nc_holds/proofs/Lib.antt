@@ -18,3 +18,4 @@ mod OwnerSlots
 mod OwnerLaws
 mod OwnerAreas
 mod GrantWords
+mod GrantAdds
