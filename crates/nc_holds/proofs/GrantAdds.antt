@@ -57,7 +57,7 @@ device_by ram slots_at slots e x true (Some w) eb eo whole h off on =
 pub device_at : (ram slots_at slots : ℕ) (e : Entry) (x : ℕ) → slots_at % 2048 ≡ 0 → IsEntryIn ram slots e → waits e ≡ false → covers (device slots_at e) x ≡ true → DeviceAt slots_at slots e x
 device_at ram slots_at slots e x whole h off on = device_by ram slots_at slots e x e.bounced e.slot refl refl whole h off on
 
-slot_covers : (f : Fixed) (w x : ℕ) → w < f.slots → f.slots_at + 2048 * w ≤ x → x < f.slots_at + 2048 * w + 2048 → covers (slots_span f) x ≡ true
+pub slot_covers : (f : Fixed) (w x : ℕ) → w < f.slots → f.slots_at + 2048 * w ≤ x → x < f.slots_at + 2048 * w + 2048 → covers (slots_span f) x ≡ true
 slot_covers f w x few low high = covers-from (slots_span f) x (omega (arith, low)) (omega (arith, high, few))
 
 -- one byte is in one slot
@@ -135,7 +135,7 @@ direct_off ram f s g x b regions h on on_b own =
     regions.buffers_off_pool b x on_b (subst (λ (p : Span). covers p x ≡ true) (sym h.alike.pool) pool)
 
 -- a grant of an entry of the hart is not of a lot that is still to be lent
-not_lent : (lots : List Lot) (lot : Lot) (held : Lot) → lot ≡ held → is_wanted lot.side ≡ true → is_wanted held.side ≡ false → ⊥
+pub not_lent : (lots : List Lot) (lot : Lot) (held : Lot) → lot ≡ held → is_wanted lot.side ≡ true → is_wanted held.side ≡ false → ⊥
 not_lent lots lot held same w l = false≢true (sym l ∙ subst (λ (k : Lot). is_wanted k.side ≡ true) same w)
 
 pub apart_held : (ram harts : ℕ) (f : Fixed) (s : Held) (lot : Lot) (i : ℕ) (e : Entry) (g : Grant) (x : ℕ) → Knows ram harts f s → Mine f s → WordsAgree f.me s.slots s.lots → ToGrant f s lot i e

@@ -19,3 +19,4 @@ mod OwnerLaws
 mod OwnerAreas
 mod GrantWords
 mod GrantAdds
+mod GrantLists

@@ -88,7 +88,7 @@ old_or s lot l k = elim (of_append l s.lots (lot ∷ []) k) [ inl a ↦ inl a | 
 old_if : (s : Held) (lot l : Lot) → In l (s.lots ++ lot ∷ []) → is_lot lot.id l ≡ false → In l s.lots
 old_if s lot l k off = elim (old_or s lot l k) [ inl a ↦ a | inr same ↦ absurd (false≢true (sym off ∙ its_name l lot.id (ap (λ (m : Lot). m.id) (sym same)))) ]
 
-named_is : (ram harts : ℕ) (f : Fixed) (s : Held) (lot l : Lot) → IsNewArea ram harts f s lot → In l (s.lots ++ lot ∷ []) → is_lot lot.id l ≡ true → lot ≡ l
+pub named_is : (ram harts : ℕ) (f : Fixed) (s : Held) (lot l : Lot) → IsNewArea ram harts f s lot → In l (s.lots ++ lot ∷ []) → is_lot lot.id l ≡ true → lot ≡ l
 named_is ram harts f s lot l h k name = same_named (s.lots ++ lot ∷ []) lot.id lot l h.knows.names (at_end s lot) k (its_name lot lot.id refl) name
 
 -- ---- its bytes are of no other entry
