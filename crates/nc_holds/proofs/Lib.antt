@@ -20,3 +20,4 @@ mod OwnerAreas
 mod GrantWords
 mod GrantAdds
 mod GrantLists
+mod OwnerWaits
