@@ -3,6 +3,29 @@ pub mod WordLists
 pub mod WordMoves
 mod ListsA
 mod OwnerFacts
+pub mod CallPlans
+pub mod CallNew
+pub mod CallNumbers
+pub mod CallShapes
+pub mod CallStarts
+pub mod CallTold
+pub mod CallDone
+pub mod EventGiven
+pub mod EventHart
+pub mod EventMoves
+pub mod EventCalls
+pub mod ListsC
+pub mod QuietSteps
+pub mod TokenLots
+pub mod TokenRests
+pub mod TokenPlans
+pub mod TokenOpens
+pub mod TokenCopies
+pub mod MessageSteps
+pub mod TokenKeeps
+pub mod TokenCalls
+pub mod TokenDone
+pub mod MessageWorlds
 mod OwnerMoves
 mod OwnerLots
 mod OwnerSides
@@ -21,3 +44,7 @@ mod GrantWords
 mod GrantAdds
 mod GrantLists
 mod OwnerWaits
+pub mod EventFrom
+pub mod EventSteps
+pub mod EventHolds
+mod OwnerGiven

@@ -15,15 +15,16 @@ use Rattle.nc_rules.specs.declared.steps.Turn.TheVariants as turns
 use Rattle.nc_rules.specs.Lots.{Fixed, is_lot, is_wanted, lot_waits, slot_given}
 use Rattle.nc_rules.specs.Turns.{is_area, set_side, lots_after}
 use Rattle.nc_scripts.specs.Drivers.{IsLotIn}
+use Rattle.nc_scripts.proofs.LotLaws.{its_name}
 use Rattle.nc_scripts.proofs.Lists.{all_in, all_to, position_any}
 use Rattle.nc_holds.specs.Held.{Held, AreLent}
 use Rattle.nc_holds.specs.Changes.{Change, Made, Got, Turned, Dropped, changed, ArePlaced, WaitsUnlent, MayTurn}
 use Rattle.nc_holds.proofs.ListsA.{all_at, none_of, get_at}
 use Rattle.nc_holds.proofs.OwnerFacts.{Knows, Fits, IsMaking}
-use Rattle.nc_holds.proofs.OwnerLots.{area_direct, SidedBy, named, other, of_sided}
+use Rattle.nc_holds.proofs.OwnerLots.{area_direct, same_named, SidedBy, named, other, of_sided}
 use Rattle.nc_holds.proofs.OwnerEnds.{left_all}
 use Rattle.nc_holds.proofs.OwnerSlots.{GivenBy, kept, slotted, of_given}
-use Rattle.nc_holds.proofs.OwnerAreas.{lent_area, IsNewArea, new_area, named_is}
+use Rattle.nc_holds.proofs.OwnerAreas.{lent_area, at_end}
 
 abbrev pub WaitsSo : Lot → Type 0
 WaitsSo lot = lot_waits lot ≡ true → is_wanted lot.side ≡ true
@@ -75,16 +76,16 @@ waits_stay ram f s Dropped fits all = left_all WaitsSo (λ lot. not (is_wanted l
 
 -- ---- an area
 
-area_placed : (ram harts : ℕ) (f : Fixed) (s : Held) (lot : Lot) → IsNewArea ram harts f s lot → lot_waits lot ≡ false
-area_placed ram harts f s lot h =
-    position_any waits lot.list.entries ∙ none_of waits lot.list.entries (λ e k. let at = get_at lot.list.entries e k in (rw (area_direct ram f lot at.0 e h.is h.area at.1) refl))
+area_placed : (ram : ℕ) (f : Fixed) (lot : Lot) → IsLotIn ram f lot → is_area lot.kind ≡ true → lot_waits lot ≡ false
+area_placed ram f lot is area =
+    position_any waits lot.list.entries ∙ none_of waits lot.list.entries (λ e k. let at = get_at lot.list.entries e k in (rw (area_direct ram f lot at.0 e is area at.1) refl))
 
-pub area_are_placed : (ram harts : ℕ) (f : Fixed) (s : Held) (lot : Lot) → IsNewArea ram harts f s lot → ArePlaced (s.lots ++ lot ∷ []) lot.id
-area_are_placed ram harts f s lot h =
+pub area_are_placed : (ram : ℕ) (f : Fixed) (s : Held) (lot : Lot) → IsMaking ram f s (lot ∷ []) → is_area lot.kind ≡ true → ArePlaced (s.lots ++ lot ∷ []) lot.id
+area_are_placed ram f s lot making area =
+    let is = all_at (IsLotIn ram f) (lot ∷ []) lot making.each.each (inl refl) in
     all_in (λ (l : Lot). is_lot lot.id l ≡ true → lot_waits l ≡ false) (s.lots ++ lot ∷ [])
-    (λ l k name. subst (λ (m : Lot). lot_waits m ≡ false) (named_is ram harts f s lot l h k name) (area_placed ram harts f s lot h))
+    (λ l k name. subst (λ (m : Lot). lot_waits m ≡ false) (same_named (s.lots ++ lot ∷ []) lot.id lot l making.each.apart (at_end s lot) k (its_name lot lot.id refl) name) (area_placed ram f lot is area))
 
-pub area_waits : (ram harts : ℕ) (f : Fixed) (s : Held) (lot : Lot) → Knows ram harts f s → IsMaking ram f s (lot ∷ []) → is_area lot.kind ≡ true → WaitsUnlent s.lots → WaitsUnlent (lent_area f s lot).lots
-area_waits ram harts f s lot knows making area all =
-    let h = new_area ram harts f s lot knows making area in
-    waits_sided sides.Lending lot.id (s.lots ++ lot ∷ []) (area_are_placed ram harts f s lot h) (All-append WaitsSo s.lots (lot ∷ []) all (new_wait (lot ∷ []) making.each.wanted))
+pub area_waits : (ram : ℕ) (f : Fixed) (s : Held) (lot : Lot) → IsMaking ram f s (lot ∷ []) → is_area lot.kind ≡ true → WaitsUnlent s.lots → WaitsUnlent (lent_area f s lot).lots
+area_waits ram f s lot making area all =
+    waits_sided sides.Lending lot.id (s.lots ++ lot ∷ []) (area_are_placed ram f s lot making area) (All-append WaitsSo s.lots (lot ∷ []) all (new_wait (lot ∷ []) making.each.wanted))

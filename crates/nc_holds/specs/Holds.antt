@@ -32,7 +32,7 @@ use Rattle.nc_rules.specs.Next.{next}
 use Rattle.nc_scripts.specs.Drivers.{IsDriver, ArePagesOf, LoadsFit, IsLentAt}
 use Rattle.nc_scripts.specs.Scripts.{IsRangeIn}
 use Rattle.nc_holds.specs.Held.{Held, AreRegions, HartAgrees, IsGrantOf}
-use Rattle.nc_holds.specs.Changes.{IsPlanStep}
+use Rattle.nc_holds.specs.Changes.{WaitsUnlent, IsPlanStep}
 use Rattle.nc_holds.specs.Messages.{MessagesAgree}
 use Rattle.nc_holds.specs.Tokens.{TokensAgree}
 use Rattle.nc_holds.specs.Rests.{RestAgrees}
@@ -67,6 +67,7 @@ pub record DriverHolds (w : WorldState) (h : ℕ) : Type 0 where
   pub regions : AreRegions (driver_of w h).fixed
   pub loads : LoadsFit (length (hart_of w.machine h).last) (driver_of w h).rest
   pub turns : All (IsPlanStep (driver_of w h).lots) (driver_of w h).rest
+  pub waits : WaitsUnlent (driver_of w h).lots
   pub agrees : HartAgrees (driver_of w h).fixed (held_of w h)
   pub tokens : TokensAgree w h
   pub rest : RestAgrees (driver_of w h)
