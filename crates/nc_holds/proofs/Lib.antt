@@ -39,8 +39,14 @@ mod OwnerBegins
 mod OwnerMade
 mod OwnerSlots
 mod OwnerLaws
+mod OwnerAreas
+mod GrantWords
+mod GrantAdds
+mod GrantLists
+mod OwnerWaits
 pub mod EventFrom
 pub mod EventSteps
 pub mod EventHolds
 pub mod StartRegions
 pub mod StartHolds
+mod OwnerGiven

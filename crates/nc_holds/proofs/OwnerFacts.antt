@@ -12,12 +12,12 @@ use Rattle.nc_ops.specs.declared.ops.Op.{Op}
 use Rattle.nc_rules.specs.declared.lots.Lot.{Lot}
 use Rattle.nc_rules.specs.declared.steps.Turn.{Turn}
 use Rattle.nc_rules.specs.declared.steps.Turn.TheVariants as turns
-use Rattle.nc_rules.specs.Lots.{Fixed, is_wanted, lot_waits}
+use Rattle.nc_rules.specs.Lots.{Fixed, is_wanted}
 use Rattle.nc_rules.specs.Turns.{is_area}
 use Rattle.nc_scripts.specs.Drivers.{IsFixed, ArePagesOf, IsLotIn, AreApart}
 use Rattle.nc_scripts.proofs.NewLots.{AreNew}
 use Rattle.nc_holds.specs.Held.{Held, AreRegions, FitsSide, EntriesAreApart, OwnersAgree, AreGranted, IsGrantOf, PagesAgree, HartAgrees}
-use Rattle.nc_holds.specs.Changes.{Change, Made, Got, Turned, Dropped, MayTurn, MayMake}
+use Rattle.nc_holds.specs.Changes.{Change, Made, Got, Turned, Dropped, WaitsUnlent, MayTurn, MayMake}
 use Rattle.nc_holds.specs.Holds.{KnowsAlike}
 
 -- ---- the hart whose driver changes what is held
@@ -43,10 +43,6 @@ pub record Mine (f : Fixed) (s : Held) : Type 0 where
 abbrev pub AllLent : List Lot → Type 0
 AllLent lots = All (λ lot. is_wanted lot.side ≡ false) lots
 
--- what waits for a slot is not lent yet
-abbrev pub WaitsWanted : List Lot → Type 0
-WaitsWanted lots = All (λ lot. lot_waits lot ≡ true → is_wanted lot.side ≡ true) lots
-
 abbrev pub NoAreas : List Lot → Type 0
 NoAreas lots = All (λ lot. is_area lot.kind ≡ false) lots
 
@@ -68,7 +64,7 @@ pub record IsMaking (ram : ℕ) (f : Fixed) (s : Held) (new : List Lot) : Type 0
 
 abbrev pub Fits : ℕ → Fixed → Held → Change → Type 0
 Fits ram f s (Made new) = IsMaking ram f s new × NoAreas new
-Fits ram f s (Got word) = WaitsWanted s.lots × (word < f.slots)
+Fits ram f s (Got word) = WaitsUnlent s.lots × (word < f.slots)
 Fits ram f s (Turned t) = MayTurn f s t × TurnFits s.lots t
 Fits ram f s Dropped = Unit {0}
 
@@ -91,6 +87,7 @@ pub record IsHeldBy (ram : ℕ) (f : Fixed) (s : Held) (g : Grant) : Type 0 wher
   pub alike : KnowsAlike f other
   pub each : All (IsLotIn ram other) lots
   pub names : AreApart lots
+  pub waits : WaitsUnlent lots
   pub agrees : HartAgrees other (record s { lots = lots })
   pub mine : other.me.0 ≡ f.me.0 → lots ≡ s.lots
   pub is : IsGrantOf other lots g

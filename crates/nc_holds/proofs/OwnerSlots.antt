@@ -17,9 +17,9 @@ use Rattle.nc_rules.specs.Turns.{is_area, those, without_wanted}
 use Rattle.nc_scripts.specs.Drivers.{IsLotIn, AreApart}
 use Rattle.nc_scripts.proofs.Lists.{all_in}
 use Rattle.nc_holds.specs.Held.{Held, LiesInBuffer, IsEntryOf, FitsSide, OwnersAgree, AreGranted, IsGrantOf, IsTaken, PagesAgree}
-use Rattle.nc_holds.specs.Changes.{Got, Dropped, changed}
+use Rattle.nc_holds.specs.Changes.{WaitsUnlent, Got, Dropped, changed}
 use Rattle.nc_holds.proofs.ListsA.{all_at, at_get, get_at, same_some}
-use Rattle.nc_holds.proofs.OwnerFacts.{Mine, WaitsWanted}
+use Rattle.nc_holds.proofs.OwnerFacts.{Mine}
 use Rattle.nc_holds.proofs.OwnerLots.{SameSpans, same_spans, ComesFrom, apart_from}
 use Rattle.nc_holds.proofs.OwnerEnds.{left_all, left_apart, left_owners, left_granted, left_held}
 
@@ -120,16 +120,16 @@ owner_given f s k lot now i e x agree here (slotted w same) h on =
     subst (λ (l : Lot). owner_in s.owners x ≡ owner_of_side (map_id f.me l.id i) l.side) same
     (agree lot i d.0 x (record { lot_in = here; entry = d.1 }) (subst (λ (r : Span). covers r x ≡ true) (sym d.2) on))
 
-granted_given : (f : Fixed) (s : Held) (k : ℕ) (lot now : Lot) → AreGranted f s.grants s.lots → WaitsWanted s.lots → In lot s.lots → GivenBy k lot now → is_wanted now.side ≡ false → In now s.lots
+granted_given : (f : Fixed) (s : Held) (k : ℕ) (lot now : Lot) → AreGranted f s.grants s.lots → WaitsUnlent s.lots → In lot s.lots → GivenBy k lot now → is_wanted now.side ≡ false → In now s.lots
 granted_given f s k lot now agree wanted here (kept same) lent = subst (λ (l : Lot). In l s.lots) same here
 granted_given f s k lot now agree wanted here (slotted w same) lent =
     absurd (false≢true (sym lent ∙ subst (λ (l : Lot). is_wanted l.side ≡ true) same (all_at (λ (l : Lot). lot_waits l ≡ true → is_wanted l.side ≡ true) s.lots lot wanted here w)))
 
-no_wait : (lots : List Lot) (lot : Lot) (b : Bool) → lot_waits lot ≡ b → WaitsWanted lots → In lot lots → is_wanted lot.side ≡ false → b ≡ false
+no_wait : (lots : List Lot) (lot : Lot) (b : Bool) → lot_waits lot ≡ b → WaitsUnlent lots → In lot lots → is_wanted lot.side ≡ false → b ≡ false
 no_wait lots lot false w wanted here lent = refl
 no_wait lots lot true w wanted here lent = absurd (false≢true (sym lent ∙ all_at (λ (l : Lot). lot_waits l ≡ true → is_wanted l.side ≡ true) lots lot wanted here w))
 
-pub mine_got : (f : Fixed) (s : Held) (k : ℕ) → Mine f s → WaitsWanted s.lots → Mine f (changed f s (Got k))
+pub mine_got : (f : Fixed) (s : Held) (k : ℕ) → Mine f s → WaitsUnlent s.lots → Mine f (changed f s (Got k))
 mine_got f s k mine wanted = record {
   sides = all_in (FitsSide f) (slot_given k s.lots) (λ now h. let r = of_given k s.lots now h in sides_given f k r.lot now r.how (all_at (FitsSide f) s.lots r.lot mine.sides r.here));
   apart = apart_from s.lots (slot_given k s.lots) (given_from k s.lots) mine.apart;
