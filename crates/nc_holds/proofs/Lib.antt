@@ -50,3 +50,8 @@ pub mod EventHolds
 pub mod StartRegions
 pub mod StartHolds
 mod OwnerGiven
+pub mod TokenHarts
+pub mod TokenEvents
+pub mod TokenWorlds
+pub mod TokenGoesOn
+pub mod MessageOwners
