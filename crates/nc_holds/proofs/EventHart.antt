@@ -77,6 +77,7 @@ held_other ram n h f fixed lots s x all here_x ne =
       each = t.theirs.each;
       names = t.names;
       agrees = agrees_theirs ram f (fixed g) (lots g) g s t;
+      waits = t.waits;
       mine = λ e. absurd (t.theirs.other e);
       is = is.is;
     }
@@ -90,6 +91,7 @@ each_held ram n h f fixed lots s all x here_x = elim (cases_eq x.id.hart.0 h) [
     each = all.knows.lots;
     names = all.knows.names;
     agrees = agrees_mine f s all.mine all.words;
+    waits = all.waits;
     mine = λ e. refl;
     is = all.mine.held x here_x (same ∙ sym all.me);
   }
