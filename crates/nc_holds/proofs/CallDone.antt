@@ -35,10 +35,9 @@ use Rattle.nc_scripts.proofs.LotLaws.{IsPlaced, owed_stay, placed_stay}
 use Rattle.nc_scripts.proofs.DriverLaws.{next_step_is}
 use Rattle.nc_holds.specs.Held.{Held, IsOwnedBy}
 use Rattle.nc_holds.specs.Changes.{Change, Turned, changed, IsPlanStep}
-use Rattle.nc_holds.proofs.Agrees.{here}
 use Rattle.nc_holds.proofs.CallPlans.{ArePlanSteps}
 use Rattle.nc_holds.proofs.CallNumbers.{LastIs, IsNumbered, step_turns}
-use Rattle.nc_holds.proofs.CallShapes.{MakesTurn, IsQuietTurn, As, Stays, Turns, Plainly, IsCall, stays_turn, first_turn, last_turn, first_quiet, steps_stay}
+use Rattle.nc_holds.proofs.CallShapes.{here, MakesTurn, IsQuietTurn, As, Stays, Turns, Plainly, IsCall, stays_turn, first_turn, last_turn, first_quiet, steps_stay}
 use Rattle.nc_holds.proofs.CallStarts.{gives_up, just_stays, went_plan, went_lots}
 
 -- what a taken buffer needs: it was passed to this hart

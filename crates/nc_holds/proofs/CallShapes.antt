@@ -35,6 +35,10 @@ use Rattle.nc_holds.proofs.CallPlans.{ArePlanSteps, IsOpening}
 
 -- ---- shapes
 
+-- what all share, with one hart's lots
+abbrev pub here : Held → List Lot → Held
+here s lots = record s { lots = lots }
+
 -- a turn that drivers make
 pub record MakesTurn (f : Fixed) (s : Held) (t : Turn) : Type 0 where
   pub may : MayTurn f s t

@@ -50,11 +50,10 @@ use Rattle.nc_scripts.proofs.SlotLaws.{lots_given, apart_given, made_given}
 use Rattle.nc_scripts.proofs.EveryDriver.{IsInHand, in_hand_is, new_waits}
 use Rattle.nc_holds.specs.Held.{Held, IsOwnedBy}
 use Rattle.nc_holds.specs.Changes.{Change, Made, Got, changed, WaitsUnlent, MayMake, MayGet, IsPlanStep}
-use Rattle.nc_holds.proofs.Agrees.{here}
 use Rattle.nc_holds.proofs.OwnerFacts.{AllLent, NoAreas, IsMaking}
 use Rattle.nc_holds.proofs.CallPlans.{ArePlanSteps, plan_steps, opening_is}
 use Rattle.nc_holds.proofs.CallNew.{NewIs, Plain, OneArea, new_lots, IsHanded, handed}
-use Rattle.nc_holds.proofs.CallShapes.{MakesTurn, Begins, As, Makes, Gets, Ends, Stays, Drops, Turns, Allocates, Shape, Plainly, ByArea, IsCall, CanPass, stays_turn, opening_turn, steps_stay}
+use Rattle.nc_holds.proofs.CallShapes.{here, MakesTurn, Begins, As, Makes, Gets, Ends, Stays, Drops, Turns, Allocates, Shape, Plainly, ByArea, IsCall, CanPass, stays_turn, opening_turn, steps_stay}
 
 -- ---- rests
 

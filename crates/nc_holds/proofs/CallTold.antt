@@ -27,9 +27,8 @@ use Rattle.nc_scripts.proofs.SlotLaws.{lots_given, apart_given, made_given}
 use Rattle.nc_scripts.proofs.EveryDriver.{IsInHand, in_hand_is, new_waits}
 use Rattle.nc_holds.specs.Held.{Held}
 use Rattle.nc_holds.specs.Changes.{Change, Got, changed, WaitsUnlent, MayGet, IsPlanStep}
-use Rattle.nc_holds.proofs.Agrees.{here}
 use Rattle.nc_holds.proofs.CallPlans.{ArePlanSteps}
-use Rattle.nc_holds.proofs.CallShapes.{As, Gets, Stays, Plainly, IsCall, CanPass}
+use Rattle.nc_holds.proofs.CallShapes.{here, As, Gets, Stays, Plainly, IsCall, CanPass}
 use Rattle.nc_holds.proofs.CallStarts.{gives_up, just_stays, placed_call}
 
 -- ---- what waits is of an operation that makes lots

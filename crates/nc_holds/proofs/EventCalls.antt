@@ -19,11 +19,10 @@ use Rattle.nc_rules.specs.Driver.{Went}
 use Rattle.nc_holds.specs.Held.{Held, WordsAgree}
 use Rattle.nc_holds.specs.Changes.{Change, Made, Got, Turned, Dropped, changed, MayChange}
 use Rattle.nc_holds.specs.Holds.{CanAddAll, AreBack, MayMovePages}
-use Rattle.nc_holds.proofs.Agrees.{here}
 use Rattle.nc_holds.proofs.OwnerFacts.{Fits, IsMaking}
 use Rattle.nc_holds.proofs.WordLists.{back_join}
 use Rattle.nc_holds.proofs.WordMoves.{turned_words, dropped_words}
-use Rattle.nc_holds.proofs.CallShapes.{MakesTurn, IsQuietTurn, Begins, As, Makes, Gets, Ends, Stays, Drops, Turns, Allocates, Shape, Plainly, ByArea, IsCall}
+use Rattle.nc_holds.proofs.CallShapes.{here, MakesTurn, IsQuietTurn, Begins, As, Makes, Gets, Ends, Stays, Drops, Turns, Allocates, Shape, Plainly, ByArea, IsCall}
 use Rattle.nc_holds.proofs.EventGiven.{OwnerLaws, area_made}
 use Rattle.nc_holds.proofs.EventHart.{Everyone, each_held, IsOneChange, change_stays, area_stays}
 use Rattle.nc_holds.proofs.EventMoves.{moved_by, stayed, dropped, both_turned, grants_of_both, pages_of_both, backs_both}

@@ -20,11 +20,10 @@ use Rattle.nc_scripts.proofs.Lists.{all_in}
 use Rattle.nc_holds.specs.Held.{Held, AreRegions, IsGrantOf, HartAgrees}
 use Rattle.nc_holds.specs.Changes.{WaitsUnlent}
 use Rattle.nc_holds.specs.Holds.{IsSetting, KnowsAlike, held_of, DriverHolds, IsHeldGrant, Holds}
-use Rattle.nc_holds.proofs.Agrees.{here}
 use Rattle.nc_holds.proofs.ListsA.{all_at}
 use Rattle.nc_holds.proofs.OwnerFacts.{Knows, Mine, Theirs}
 use Rattle.nc_holds.proofs.CallPlans.{ArePlanSteps}
-use Rattle.nc_holds.proofs.CallShapes.{IsCall}
+use Rattle.nc_holds.proofs.CallShapes.{here, IsCall}
 use Rattle.nc_holds.proofs.EventGiven.{OwnerLaws}
 use Rattle.nc_holds.proofs.EventHart.{HasTheirs, IsTheirGrant, Everyone, agrees_mine, agrees_theirs}
 use Rattle.nc_holds.proofs.EventCalls.{after_call, call_stays}

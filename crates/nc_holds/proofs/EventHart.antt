@@ -15,10 +15,10 @@ use Rattle.nc_scripts.specs.Drivers.{AreApart}
 use Rattle.nc_holds.specs.Held.{Held, EntriesAreApart, WordsAgree, IsGrantOf, HartAgrees}
 use Rattle.nc_holds.specs.Changes.{Change, Made, Got, Turned, Dropped, WaitsUnlent, changed, changed_by, MayChange}
 use Rattle.nc_holds.specs.Holds.{KnowsAlike}
-use Rattle.nc_holds.proofs.Agrees.{here}
 use Rattle.nc_holds.proofs.OwnerFacts.{Knows, Mine, Fits, Theirs, IsHeldBy, EachIsHeld, IsMaking, NoAreas}
 use Rattle.nc_holds.proofs.WordLists.{length-back}
 use Rattle.nc_holds.proofs.WordMoves.{MakesUnplaced, words_own, words_other, turned_words}
+use Rattle.nc_holds.proofs.CallShapes.{here}
 use Rattle.nc_holds.proofs.EventGiven.{OwnerLaws, area_made}
 
 -- ---- all harts

@@ -1,4 +1,3 @@
-pub mod Agrees
 pub mod WordLists
 pub mod WordMoves
 mod ListsA
