@@ -1,8 +1,6 @@
 -- What the laws of owners, grants and pages say of one change, and those of messages, tokens and loads of one event, each
 -- in one record.
 use Rattle.std.specs.Prelude.{ℕ, ◌≡◌, ◌≢◌, ◌<◌, Bool, true, false, List, [], ◌∷◌, ◌++◌, length, All}
-use Rattle.nc_num.specs.declared.names.HartNo.{HartNo}
-use Rattle.nc_model.specs.declared.owners.Owner.TheVariants as owners
 use Rattle.nc_plan.specs.Plans.{In}
 use Rattle.nc_model.specs.declared.owners.Grant.{Grant}
 use Rattle.nc_rules.specs.declared.lots.Lot.{Lot}
@@ -11,21 +9,17 @@ use Rattle.nc_rules.specs.declared.steps.Turn.{Turn}
 use Rattle.nc_rules.specs.declared.steps.Turn.TheVariants as turns
 use Rattle.nc_rules.specs.Lots.{Fixed, lot_waits}
 use Rattle.nc_rules.specs.Turns.{is_area, grants_of, pages_of}
-use Rattle.nc_rules.specs.Calls.{may_take}
-use Rattle.nc_rules.specs.Driver.{next_of}
 use Rattle.nc_rules.specs.Events.{enabled}
 use Rattle.nc_rules.specs.Machine.{hart_of}
 use Rattle.nc_rules.specs.Next.{next}
-use Rattle.nc_rules.specs.Refusals.{buffer_of}
 use Rattle.nc_rules.specs.Sound.{IsMachine}
 use Rattle.nc_rules.specs.World.{WorldState, driver_of}
-use Rattle.nc_rules.specs.declared.steps.Next.TheVariants as nexts
 use Rattle.nc_scen.specs.Events.{IsThere}
 use Rattle.nc_scen.specs.declared.events.Event.{Event}
 use Rattle.nc_scripts.specs.Drivers.{LoadsFit}
-use Rattle.nc_holds.specs.Held.{Held, IsOwnedBy, WordsAgree}
+use Rattle.nc_holds.specs.Held.{Held, WordsAgree}
 use Rattle.nc_holds.specs.Changes.{Change, Made, Turned, WaitsUnlent, changed, changed_by}
-use Rattle.nc_holds.specs.Holds.{CanAddAll, MayMovePages, Holds, TokensAreLent}
+use Rattle.nc_holds.specs.Holds.{CanAddAll, MayMovePages, Holds}
 use Rattle.nc_holds.specs.Messages.{MessagesAgree}
 use Rattle.nc_holds.specs.Rests.{RestAgrees}
 use Rattle.nc_holds.specs.Tokens.{TokensAgree}
@@ -66,6 +60,3 @@ pub record EventLaws : Type 0 where
   pub tokens : (w : WorldState) (e : Event) (g : ℕ) → IsEvent w e → g < length w.machine.harts → TokensAgree (next w e) g
   pub loads : (w : WorldState) (e : Event) (g : ℕ) → IsEvent w e → g < length w.machine.harts → LoadsFit (length (hart_of (next w e).machine g).last) (driver_of (next w e) g).rest
   pub rests : (w : WorldState) (e : Event) (g : ℕ) → IsEvent w e → g < length w.machine.harts → RestAgrees (driver_of (next w e) g)
-  pub lent : TokensAreLent
-  pub passed : (w : WorldState) (h : HartNo) (buf : ℕ) → IsMachine w.machine → Holds w → h.0 < length w.machine.harts → next_of (driver_of w h.0) ≡ nexts.Take buf → may_take w.machine h.0 buf ≡ true
-    → (g : HartNo) × IsOwnedBy w.owners (buffer_of (driver_of w h.0).fixed buf) (owners.Passing g h)

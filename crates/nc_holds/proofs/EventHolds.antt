@@ -102,8 +102,8 @@ next_same : (w : WorldState) (e : Event) → enabled w e ≡ false → next w e 
 unfolding next
 next_same w e off = same_if w (counted (performed w e)) (enabled w e) off
 
-own_next : (laws : OwnerLaws) (more : EventLaws) (w : WorldState) (e : Event) → IsEvent w e → OwnWorld (next w e)
-own_next laws more w e is = subst (λ (x : WorldState). OwnWorld x) (sym (next_is w e is.may)) (outcome_stays laws w (mover e) (outcome w e) is.holds (outcome_is more w e is))
+own_next : (laws : OwnerLaws) (w : WorldState) (e : Event) → IsEvent w e → OwnWorld (next w e)
+own_next laws w e is = subst (λ (x : WorldState). OwnWorld x) (sym (next_is w e is.may)) (outcome_stays laws w (mover e) (outcome w e) is.holds (outcome_is w e is))
 
 -- an event changes no number of harts
 harts_after : (w : WorldState) (by : Option HartNo) (o : Outcome) → OutcomeIs w by o → length (counted (after_outcome w o)).machine.harts ≡ length w.machine.harts
@@ -120,13 +120,13 @@ harts_after w by o (Goes h machine went now touch records is go e) =
     harts_touched v None = refl
     harts_touched v (Some t) = refl
 
-harts_next : (more : EventLaws) (w : WorldState) (e : Event) → IsEvent w e → length (next w e).machine.harts ≡ length w.machine.harts
-harts_next more w e is = ap (λ (x : WorldState). length x.machine.harts) (next_is w e is.may) ∙ harts_after w (mover e) (outcome w e) (outcome_is more w e is)
+harts_next : (w : WorldState) (e : Event) → IsEvent w e → length (next w e).machine.harts ≡ length w.machine.harts
+harts_next w e is = ap (λ (x : WorldState). length x.machine.harts) (next_is w e is.may) ∙ harts_after w (mover e) (outcome w e) (outcome_is w e is)
 
 pub event_holds : (laws : OwnerLaws) (more : EventLaws) (w : WorldState) (e : Event) → IsEvent w e → Holds (next w e)
 event_holds laws more w e is =
-    let own = own_next laws more w e is in
-    let n = harts_next more w e is in
+    let own = own_next laws w e is in
+    let n = harts_next w e is in
     record {
       drivers = own.drivers;
       owners = own.owners;
@@ -196,7 +196,7 @@ outcome_moves laws w by h o k (Goes g machine went now touch records is go e) at
     subst (λ (x : Outcome). MayMove w h x.slots x.moves) (sym e)
     (subst (λ (x : HartNo). MayMove w x now went.moves) (same_some g h (sym is ∙ at)) (goes_moves laws w g machine now went k go))
 
-pub moves_may : (laws : OwnerLaws) (more : EventLaws) (w : WorldState) (e : Event) (h : HartNo) → IsMachine w.machine → Holds w → IsThere (length w.machine.harts) w.machine.size (length w.machine.cache.ram) e → enabled w e ≡ true → mover e ≡ Some h
+pub moves_may : (laws : OwnerLaws) (w : WorldState) (e : Event) (h : HartNo) → IsMachine w.machine → Holds w → IsThere (length w.machine.harts) w.machine.size (length w.machine.cache.ram) e → enabled w e ≡ true → mover e ≡ Some h
     → MayMove w h (outcome w e).slots (outcome w e).moves
-moves_may laws more w e h sound k there may at =
-    outcome_moves laws w (mover e) h (outcome w e) k (outcome_is more w e (record { sound = sound; holds = k; there = there; may = may })) at
+moves_may laws w e h sound k there may at =
+    outcome_moves laws w (mover e) h (outcome w e) k (outcome_is w e (record { sound = sound; holds = k; there = there; may = may })) at

@@ -46,7 +46,9 @@ use Rattle.nc_holds.proofs.CallShapes.{IsCall}
 use Rattle.nc_holds.proofs.CallStarts.{start_call}
 use Rattle.nc_holds.proofs.CallTold.{told_call}
 use Rattle.nc_holds.proofs.CallDone.{CanTake, done_call, lent_call}
-use Rattle.nc_holds.proofs.EventGiven.{IsEvent, EventLaws}
+use Rattle.nc_holds.proofs.TokenGoesOn.{tokens_are_lent}
+use Rattle.nc_holds.proofs.EventPassed.{take_is_passed}
+use Rattle.nc_holds.proofs.EventGiven.{IsEvent}
 use Rattle.nc_holds.proofs.EventFrom.{GoesOn, fixed_in}
 
 -- what an outcome is, of an event by which the driver of this hart may go on
@@ -138,7 +140,6 @@ op_is w h op g e may =
 claim_is : (w : WorldState) (h : HartNo) (chan : ChanNo) → IsGoing w h → next_of (driver_of w h.0) ≡ nexts.Claim chan → OutcomeIs w (Some h) (claim_outcome w h chan)
 unfolding claim_outcome
 claim_is w h chan g e =
-    let saw = claim_seen (grantee_of w.machine chan.0) in
     Goes h (claim_next w.machine h chan.0) (done (driver_of w h.0) (claim_seen (grantee_of w.machine chan.0))) w.slots None [] refl
     (done_go w h (claim_next w.machine h chan.0) (claim_seen (grantee_of w.machine chan.0)) g (calls_keep_shape.of_claim w.machine h chan.0) (acts_so (next_of (driver_of w h.0)) (nexts.Claim chan) e refl)
       (seen_claim (next_of (driver_of w h.0)) chan (grantee_of w.machine chan.0) e) (no_take w h (next_of (driver_of w h.0)) (nexts.Claim chan) e (λ buf is. absurd (cc))))
@@ -152,30 +153,30 @@ poll_is w h chan g e =
       (no_take w h (next_of (driver_of w h.0)) (nexts.Poll chan) e (λ buf is. absurd (cc))))
     refl
 
-takes : (laws : EventLaws) (w : WorldState) (h : HartNo) (buf : ℕ) → IsGoing w h → next_of (driver_of w h.0) ≡ nexts.Take buf → may_take w.machine h.0 buf ≡ true → CanTake (fixed_in w h.0) (held_of w h.0) (next_of (driver_of w h.0))
-takes laws w h buf g e may b is =
+takes : (w : WorldState) (h : HartNo) (buf : ℕ) → IsGoing w h → next_of (driver_of w h.0) ≡ nexts.Take buf → may_take w.machine h.0 buf ≡ true → CanTake (fixed_in w h.0) (held_of w h.0) (next_of (driver_of w h.0))
+takes w h buf g e may b is =
     let same : buf ≡ b = let both = sym e ∙ is in cc in
-    let from = laws.passed w h buf g.sound g.all g.there e may in
+    let from = take_is_passed w h buf g.sound g.all g.there e may in
     subst (λ (k : ℕ). (x : HartNo) × IsOwnedBy w.owners (buffer_of (fixed_in w h.0) k) (owners.Passing x (fixed_in w h.0).me)) same
     (from.0, subst (λ (to : HartNo). IsOwnedBy w.owners (buffer_of (fixed_in w h.0) buf) (owners.Passing from.0 to)) (sym (me_is w h g)) from.1)
 
-take_is : (laws : EventLaws) (w : WorldState) (h : HartNo) (buf : ℕ) → IsGoing w h → next_of (driver_of w h.0) ≡ nexts.Take buf → may_go_on w h (nexts.Take buf) ≡ true → OutcomeIs w (Some h) (take_outcome w h buf)
+take_is : (w : WorldState) (h : HartNo) (buf : ℕ) → IsGoing w h → next_of (driver_of w h.0) ≡ nexts.Take buf → may_go_on w h (nexts.Take buf) ≡ true → OutcomeIs w (Some h) (take_outcome w h buf)
 unfolding take_outcome
-take_is laws w h buf g e may =
+take_is w h buf g e may =
     Goes h (take_next w.machine h.0 buf) (done (driver_of w h.0) seen.Nothing) w.slots None [] refl
     (done_go w h (take_next w.machine h.0 buf) seen.Nothing g (calls_keep_shape.of_take w.machine h.0 buf) (acts_so (next_of (driver_of w h.0)) (nexts.Take buf) e refl) tt
-      (takes laws w h buf g e (and_parts (not (io_waits w.machine h.0)) (may_take w.machine h.0 buf) may).1))
+      (takes w h buf g e (and_parts (not (io_waits w.machine h.0)) (may_take w.machine h.0 buf) may).1))
     refl
 
-step_by : (laws : EventLaws) (w : WorldState) (h : HartNo) (next : Next) → IsGoing w h → next_of (driver_of w h.0) ≡ next → may_go_on w h next ≡ true → OutcomeIs w (Some h) (step_outcome w h next)
+step_by : (w : WorldState) (h : HartNo) (next : Next) → IsGoing w h → next_of (driver_of w h.0) ≡ next → may_go_on w h next ≡ true → OutcomeIs w (Some h) (step_outcome w h next)
 unfolding step_outcome
-step_by laws w h nexts.End g e may = nothing_is w (Some h)
-step_by laws w h nexts.Start g e may = start_is w h g e
-step_by laws w h (nexts.Search k) g e may = nothing_is w (Some h)
-step_by laws w h (nexts.Op op) g e may = op_is w h op g e may
-step_by laws w h (nexts.Claim chan) g e may = claim_is w h chan g e
-step_by laws w h (nexts.Poll chan) g e may = poll_is w h chan g e
-step_by laws w h (nexts.Take buf) g e may = take_is laws w h buf g e may
+step_by w h nexts.End g e may = nothing_is w (Some h)
+step_by w h nexts.Start g e may = start_is w h g e
+step_by w h (nexts.Search k) g e may = nothing_is w (Some h)
+step_by w h (nexts.Op op) g e may = op_is w h op g e may
+step_by w h (nexts.Claim chan) g e may = claim_is w h chan g e
+step_by w h (nexts.Poll chan) g e may = poll_is w h chan g e
+step_by w h (nexts.Take buf) g e may = take_is w h buf g e may
 
 -- ---- a slot search
 
@@ -217,39 +218,38 @@ told_by w h false (Some k) e g = Goes h w.machine (told (driver_of w h.0) false)
 
 -- ---- a drain
 
-leaves_so : (laws : EventLaws) (w : WorldState) (h : HartNo) (i : ℕ) (e : Entry) → IsGoing w h → leaving w.machine h.0 i ≡ Some e
+leaves_so : (w : WorldState) (h : HartNo) (i : ℕ) (e : Entry) → IsGoing w h → leaving w.machine h.0 i ≡ Some e
     → OutcomeIs w (Some h) (leaves w h (drain_next w.machine h.0 i) (drain_touch w h e) (drain_records w.machine h e) e)
-leaves_so laws w h i (entries.Lend label first count) g e =
+leaves_so w h i (entries.Lend label first count) g e =
     let d = holds_of w h g in
-    let at = laws.lent w h.0 i label first count g.all g.there e in
-    let l : Entry = entries.Lend label first count in
+    let at = tokens_are_lent w h.0 i label first count g.all g.there e in
     Goes h (drain_next w.machine h.0 i) (lent (driver_of w h.0) label first) w.slots (drain_touch w h (entries.Lend label first count)) (drain_records w.machine h (entries.Lend label first count)) refl
     (go_by w h (drain_next w.machine h.0 i) w.slots (lent (driver_of w h.0) label first) (λ n. n) g (calls_keep_shape.of_drain w.machine h.0 i g.sound g.there)
       (lent_call (length w.machine.cache.ram) (driver_of w h.0) (held_of w h.0) label first at d.turns)
       ((stays_of w h g).lends label first at))
     refl
-leaves_so laws w h i (entries.Store span bytes kind) g e = Runs (drain_next w.machine h.0 i) _ _ (calls_keep_shape.of_drain w.machine h.0 i g.sound g.there) refl
-leaves_so laws w h i (entries.Cbo block op) g e = Runs (drain_next w.machine h.0 i) _ _ (calls_keep_shape.of_drain w.machine h.0 i g.sound g.there) refl
-leaves_so laws w h i (entries.Reg chan off width value) g e = Runs (drain_next w.machine h.0 i) _ _ (calls_keep_shape.of_drain w.machine h.0 i g.sound g.there) refl
-leaves_so laws w h i (entries.Mail buf to) g e = Runs (drain_next w.machine h.0 i) _ _ (calls_keep_shape.of_drain w.machine h.0 i g.sound g.there) refl
-leaves_so laws w h i (entries.Mark pred succ) g e = Runs (drain_next w.machine h.0 i) _ _ (calls_keep_shape.of_drain w.machine h.0 i g.sound g.there) refl
+leaves_so w h i (entries.Store span bytes kind) g e = Runs (drain_next w.machine h.0 i) _ _ (calls_keep_shape.of_drain w.machine h.0 i g.sound g.there) refl
+leaves_so w h i (entries.Cbo block op) g e = Runs (drain_next w.machine h.0 i) _ _ (calls_keep_shape.of_drain w.machine h.0 i g.sound g.there) refl
+leaves_so w h i (entries.Reg chan off width value) g e = Runs (drain_next w.machine h.0 i) _ _ (calls_keep_shape.of_drain w.machine h.0 i g.sound g.there) refl
+leaves_so w h i (entries.Mail buf to) g e = Runs (drain_next w.machine h.0 i) _ _ (calls_keep_shape.of_drain w.machine h.0 i g.sound g.there) refl
+leaves_so w h i (entries.Mark pred succ) g e = Runs (drain_next w.machine h.0 i) _ _ (calls_keep_shape.of_drain w.machine h.0 i g.sound g.there) refl
 
-drain_by : (laws : EventLaws) (w : WorldState) (h : HartNo) (i : ℕ) (o : Option Entry) → leaving w.machine h.0 i ≡ o → IsGoing w h → OutcomeIs w (Some h) (drain_outcome w h i o)
+drain_by : (w : WorldState) (h : HartNo) (i : ℕ) (o : Option Entry) → leaving w.machine h.0 i ≡ o → IsGoing w h → OutcomeIs w (Some h) (drain_outcome w h i o)
 unfolding drain_outcome
-drain_by laws w h i None e g = nothing_is w (Some h)
-drain_by laws w h i (Some x) e g = leaves_so laws w h i x g e
+drain_by w h i None e g = nothing_is w (Some h)
+drain_by w h i (Some x) e g = leaves_so w h i x g e
 
 -- ---- every event
 
-pub outcome_is : (laws : EventLaws) (w : WorldState) (e : Event) → IsEvent w e → OutcomeIs w (mover e) (outcome w e)
+pub outcome_is : (w : WorldState) (e : Event) → IsEvent w e → OutcomeIs w (mover e) (outcome w e)
 unfolding outcome enabled
-outcome_is laws w (events.Issue h) is =
-    step_by laws w h (next_of (driver_of w h.0)) (record { sound = is.sound; all = is.holds; there = is.there }) refl
+outcome_is w (events.Issue h) is =
+    step_by w h (next_of (driver_of w h.0)) (record { sound = is.sound; all = is.holds; there = is.there }) refl
     (and_parts (is_out w.machine h (waits_for (driver_of w h.0))) (may_go_on w h (next_of (driver_of w h.0))) is.may).1
-outcome_is laws w (events.Try h) is = try_by w h (searching (driver_of w h.0)) refl (record { sound = is.sound; all = is.holds; there = is.there })
-outcome_is laws w (events.Told h got) is = told_by w h got (searching (driver_of w h.0)) refl (record { sound = is.sound; all = is.holds; there = is.there })
-outcome_is laws w (events.Drain h i) is = drain_by laws w h i (leaving w.machine h.0 i) refl (record { sound = is.sound; all = is.holds; there = is.there })
-outcome_is laws w (events.Fill h b) is = Runs _ _ _ (calls_keep_shape.of_fill w.machine h.0 b.0 is.sound (record { hart = is.there.0; block = is.there.1 })) refl
-outcome_is laws w (events.Evict h b) is = Runs _ _ _ (calls_keep_shape.of_evict w.machine h.0 b.0 is.sound (record { hart = is.there.0; block = is.there.1 })) refl
-outcome_is laws w (events.ChanRead chan) is = Runs _ _ _ (calls_keep_shape.of_chan_read w.machine chan.0) refl
-outcome_is laws w (events.ChanWrite chan) is = Runs _ _ _ (calls_keep_shape.of_chan_write w.machine chan.0 is.sound is.there) refl
+outcome_is w (events.Try h) is = try_by w h (searching (driver_of w h.0)) refl (record { sound = is.sound; all = is.holds; there = is.there })
+outcome_is w (events.Told h got) is = told_by w h got (searching (driver_of w h.0)) refl (record { sound = is.sound; all = is.holds; there = is.there })
+outcome_is w (events.Drain h i) is = drain_by w h i (leaving w.machine h.0 i) refl (record { sound = is.sound; all = is.holds; there = is.there })
+outcome_is w (events.Fill h b) is = Runs _ _ _ (calls_keep_shape.of_fill w.machine h.0 b.0 is.sound (record { hart = is.there.0; block = is.there.1 })) refl
+outcome_is w (events.Evict h b) is = Runs _ _ _ (calls_keep_shape.of_evict w.machine h.0 b.0 is.sound (record { hart = is.there.0; block = is.there.1 })) refl
+outcome_is w (events.ChanRead chan) is = Runs _ _ _ (calls_keep_shape.of_chan_read w.machine chan.0) refl
+outcome_is w (events.ChanWrite chan) is = Runs _ _ _ (calls_keep_shape.of_chan_write w.machine chan.0 is.sound is.there) refl

@@ -54,3 +54,4 @@ pub mod TokenEvents
 pub mod TokenWorlds
 pub mod TokenGoesOn
 pub mod MessageOwners
+pub mod EventPassed
