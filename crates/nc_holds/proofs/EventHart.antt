@@ -78,6 +78,7 @@ held_other ram n h f fixed lots s x all here_x ne =
       names = t.names;
       waits = t.waits;
       agrees = agrees_theirs ram f (fixed g) (lots g) g s t;
+      waits = t.waits;
       mine = λ e. absurd (t.theirs.other e);
       is = is.is;
     }
@@ -92,6 +93,7 @@ each_held ram n h f fixed lots s all x here_x = elim (cases_eq x.id.hart.0 h) [
     names = all.knows.names;
     waits = all.waits;
     agrees = agrees_mine f s all.mine all.words;
+    waits = all.waits;
     mine = λ e. refl;
     is = all.mine.held x here_x (same ∙ sym all.me);
   }

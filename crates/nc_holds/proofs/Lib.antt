@@ -47,4 +47,11 @@ mod OwnerWaits
 pub mod EventFrom
 pub mod EventSteps
 pub mod EventHolds
+pub mod StartRegions
+pub mod StartHolds
 mod OwnerGiven
+pub mod TokenHarts
+pub mod TokenEvents
+pub mod TokenWorlds
+pub mod TokenGoesOn
+pub mod MessageOwners

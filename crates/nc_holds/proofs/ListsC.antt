@@ -92,3 +92,9 @@ one_removed p (c ∷ q) (suc i) e a is at pe = elim (cases_Bool (p c)) [
       let later = one_removed p q i e a (sym (first_gone p c q other) ∙ is) at pe in
       (later.0, first_gone p c (remove q i) other ∙ later.1)
 ]
+
+-- where it stands
+pub at_in : {X : Type 0} (e : X) (q : List X) → In e q → (i : ℕ) × (slice_get q i ≡ Some e)
+at_in e [] k = elim k [ ]
+at_in e (y ∷ q) (inl same) = (0, ap (λ z. Some z) same)
+at_in e (y ∷ q) (inr k) = let later = at_in e q k in (suc later.0, later.1)

@@ -130,7 +130,7 @@ next_act_not (acts.Claim chan) e = absurd (cc)
 next_act_not (acts.Poll chan) e = absurd (cc)
 next_act_not (acts.Take buf) e = absurd (cc)
 
-next_rest_not : (rest : List Step) → 0 < length rest → next_rest rest ≡ nexts.Start → ⊥
+pub next_rest_not : (rest : List Step) → 0 < length rest → next_rest rest ≡ nexts.Start → ⊥
 next_rest_not [] lt e = absurd (omega arith)
 next_rest_not (s ∷ rest) lt e = next_act_not s.act e
 

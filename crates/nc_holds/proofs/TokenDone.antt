@@ -62,7 +62,7 @@ next_waits (acts.Claim chan) = refl
 next_waits (acts.Poll chan) = refl
 next_waits (acts.Take buf) = refl
 
-next_token : (a : Act) → token_next (next_act a) ≡ token_act a
+pub next_token : (a : Act) → token_next (next_act a) ≡ token_act a
 next_token (acts.Op op) = refl
 next_token (acts.Claim chan) = refl
 next_token (acts.Poll chan) = refl
@@ -90,7 +90,7 @@ stepped_to_leaves P N d n lots saw (Err r) lent = counted_leaves P N d n lots sa
 stepped_to_leaves P N d n lots saw (Ok (Some s)) lent = counted_leaves P N d n lots saw lent
 stepped_to_leaves P N d n lots saw (Ok None) lent = over_leaves P N d lots lent
 
-step_token : (d : DriverState) (o : Op) (n : ℕ) (s : Step) (t : Bool) → step_at d.fixed d.lots o n ≡ Ok (Some s) → token_next (if t then nexts.Start else next_step (step_at d.fixed d.lots o n)) ≡ None
+pub step_token : (d : DriverState) (o : Op) (n : ℕ) (s : Step) (t : Bool) → step_at d.fixed d.lots o n ≡ Ok (Some s) → token_next (if t then nexts.Start else next_step (step_at d.fixed d.lots o n)) ≡ None
 step_token d o n s true e = refl
 step_token d o n s false e =
     ap (λ (r : Result (Option Step) Refusal). token_next (next_step r)) e ∙ next_token s.act ∙ numbered_token d.fixed s (numbered d.fixed d.lots o n s e)
