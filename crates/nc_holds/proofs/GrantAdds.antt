@@ -1,18 +1,13 @@
 -- Grants that may be added one after another: their device ranges are apart from each other's and from all that are held.
-use Rattle.std.proofs.Common.{◌≡◌, ℕ, zero, suc, ◌+◌, ◌*◌, ◌%◌, ◌<◌, ◌≤◌, Bool, true, false, List, [], ◌∷◌, ◌++◌, length, flat_map, inl, inr, refl, sym, ap, subst, ◌∙◌, arith, cond, Option, Some, None}
-use Rattle.std.specs.Prelude.{◌⊎◌, ◌≢◌, ◌&&◌, All, is_none, unwrap_or, slice_get, if◌then◌else◌}
-use Rattle.std.specs.List.{list_any}
-use Rattle.std.proofs.lemmas.Bool.{false≢true, cases_Bool, or_from}
-use Rattle.std.proofs.lemmas.List.Folds.{list_any-append}
+use Rattle.std.proofs.Common.{◌≡◌, ℕ, ◌+◌, ◌*◌, ◌%◌, ◌<◌, ◌≤◌, Bool, true, false, List, inl, inr, refl, sym, subst, ◌∙◌, arith, Option, Some, None}
+use Rattle.std.specs.Prelude.{◌&&◌, is_none, unwrap_or, if◌then◌else◌}
+use Rattle.std.proofs.lemmas.Bool.{false≢true, cases_Bool}
 use Rattle.nc_num.specs.Places.{covers}
-use Rattle.nc_num.specs.declared.names.HartNo.{HartNo}
-use Rattle.nc_num.specs.declared.names.MapId.{MapId}
 use Rattle.nc_num.specs.declared.places.Span.{Span}
 use Rattle.nc_plan.specs.Plans.{In}
 use Rattle.nc_plan.specs.Parts.{in_slot, slot_len}
 use Rattle.nc_plan.proofs.PlanLaws.{in_its_slot}
-use Rattle.nc_model.specs.Grants.{FitsIn, CanAdd}
-use Rattle.nc_model.specs.Rights.{same_map, is_of, has_device, is_thread}
+use Rattle.nc_model.specs.Rights.{same_map, is_thread}
 use Rattle.nc_model.specs.declared.owners.Grant.{Grant}
 use Rattle.nc_model.specs.declared.owners.Owner.{Owner}
 use Rattle.nc_model.proofs.Faults.{covers-low, covers-high, covers-from}
@@ -20,21 +15,17 @@ use Rattle.nc_own.specs.Books.{owner_in}
 use Rattle.nc_sg.specs.declared.list.Entry.{Entry}
 use Rattle.nc_sg.specs.Lists.{waits, device}
 use Rattle.nc_rules.specs.declared.lots.Lot.{Lot}
-use Rattle.nc_rules.specs.declared.lots.LotId.{LotId}
-use Rattle.nc_rules.specs.Lots.{Fixed, is_wanted, lot_waits, map_id, grant_of, owner_of_side}
+use Rattle.nc_rules.specs.Lots.{Fixed, is_wanted, lot_waits, map_id, owner_of_side}
 use Rattle.nc_rules.specs.Refusals.{buffer_of}
 use Rattle.nc_rules.specs.Turns.{is_area}
-use Rattle.nc_scripts.specs.Drivers.{IsFixed, IsEntryIn, IsLotIn}
-use Rattle.nc_scripts.proofs.LotMoves.{entry_part, placed_entries}
-use Rattle.nc_holds.specs.Held.{Held, AreRegions, LiesInBuffer, slots_span, IsEntryOf, IsSameEntry, FitsSide, WordsAgree, IsGrantOf}
-use Rattle.nc_holds.specs.Changes.{WaitsUnlent}
-use Rattle.nc_holds.specs.Holds.{KnowsAlike, CanAddAll}
-use Rattle.nc_holds.proofs.ListsA.{all_at, at_get, none_of}
-use Rattle.nc_holds.proofs.OwnerFacts.{Knows, Mine, IsHeldBy, EachIsHeld}
+use Rattle.nc_scripts.specs.Drivers.{IsEntryIn, IsLotIn}
+use Rattle.nc_scripts.proofs.LotMoves.{placed_entries}
+use Rattle.nc_holds.specs.Held.{Held, AreRegions, LiesInBuffer, slots_span, IsEntryOf, IsSameEntry, FitsSide, WordsAgree}
+use Rattle.nc_holds.proofs.ListsA.{all_at, at_get}
+use Rattle.nc_holds.proofs.OwnerFacts.{Knows, Mine, IsHeldBy}
 use Rattle.nc_holds.proofs.OwnerLots.{entry_in, area_covers, same_lot, names_apart}
 use Rattle.nc_holds.proofs.OwnerMade.{lent_not_own}
-use Rattle.nc_holds.proofs.OwnerAreas.{alike_regions}
-use Rattle.nc_holds.proofs.GrantMoves.{map_parts, not_same, SameMap}
+use Rattle.nc_holds.proofs.GrantMoves.{not_same, SameMap}
 use Rattle.nc_holds.proofs.GrantWords.{slot_once, slot_holder, slot_harts}
 
 -- ---- a byte of a device range

@@ -1,7 +1,6 @@
 -- What a turn grants may be added, one grant after another.
-use Rattle.std.proofs.Common.{◌≡◌, ℕ, zero, suc, ◌+◌, ◌<◌, ◌≤◌, Bool, true, false, List, [], ◌∷◌, ◌++◌, length, flat_map, inl, inr, refl, sym, ap, subst, ◌∙◌, arith, cond, Option, Some}
-use Rattle.std.specs.Prelude.{◌⊎◌, ◌≢◌, ◌==◌, ◌&&◌, All, is_none, slice_get, if◌then◌else◌}
-use Rattle.std.specs.List.{list_any}
+use Rattle.std.proofs.Common.{◌≡◌, ℕ, zero, suc, ◌+◌, ◌≤◌, Bool, true, false, List, [], ◌∷◌, ◌++◌, length, flat_map, inl, inr, refl, sym, ap, subst, ◌∙◌, arith, Some}
+use Rattle.std.specs.Prelude.{All, slice_get, if◌then◌else◌}
 use Rattle.std.proofs.lemmas.Bool.{false≢true, cases_Bool, or_from}
 use Rattle.std.proofs.lemmas.List.{append-nil}
 use Rattle.std.proofs.lemmas.List.Folds.{list_any-append}
@@ -14,7 +13,7 @@ use Rattle.nc_model.specs.Grants.{FitsIn, CanAdd}
 use Rattle.nc_model.specs.Rights.{same_map, is_of, has_device, is_thread}
 use Rattle.nc_model.specs.declared.owners.Grant.{Grant}
 use Rattle.nc_sg.specs.declared.list.Entry.{Entry}
-use Rattle.nc_sg.specs.Lists.{waits, device}
+use Rattle.nc_sg.specs.Lists.{waits}
 use Rattle.nc_rules.specs.declared.lots.Lot.{Lot}
 use Rattle.nc_rules.specs.declared.lots.LotId.{LotId}
 use Rattle.nc_rules.specs.declared.lots.Side.{Side}
@@ -23,10 +22,10 @@ use Rattle.nc_rules.specs.declared.steps.Turn.{Turn}
 use Rattle.nc_rules.specs.declared.steps.Turn.TheVariants as turns
 use Rattle.nc_rules.specs.Lots.{Fixed, is_lot, is_wanted, lot_waits, map_id, grant_of, each_from, each_entry, owner_of_side, only_entry}
 use Rattle.nc_rules.specs.Turns.{is_area, those, of_those, granted, grants_of}
-use Rattle.nc_scripts.specs.Drivers.{IsFixed, IsEntryIn, IsLotIn, IsSlotOf}
+use Rattle.nc_scripts.specs.Drivers.{IsFixed, IsEntryIn, IsLotIn}
 use Rattle.nc_scripts.proofs.Lists.{all_in}
 use Rattle.nc_scripts.proofs.LotMoves.{entry_part, placed_entries}
-use Rattle.nc_holds.specs.Held.{Held, LiesInBuffer, slots_span, IsEntryOf, FitsSide, WordsAgree, IsTaken}
+use Rattle.nc_holds.specs.Held.{Held, LiesInBuffer, IsEntryOf, FitsSide, WordsAgree, IsTaken}
 use Rattle.nc_holds.specs.Changes.{ArePlaced, MayTurn}
 use Rattle.nc_holds.specs.Holds.{CanAddAll}
 use Rattle.nc_holds.proofs.ListsA.{all_at, at_get, none_of, of_filter}
@@ -35,7 +34,7 @@ use Rattle.nc_holds.proofs.OwnerLots.{entry_in, area_covers, area_only, area_dir
 use Rattle.nc_holds.proofs.OwnerAreas.{IsNewArea, new_area, named_is, at_end, area_off, alike_regions}
 use Rattle.nc_holds.proofs.OwnerLaws.{alike_pool}
 use Rattle.nc_holds.proofs.OwnerPages.{area_entry}
-use Rattle.nc_holds.proofs.GrantMoves.{IsNewGrant, new_grant, SameMap, not_same}
+use Rattle.nc_holds.proofs.GrantMoves.{new_grant, SameMap, not_same}
 use Rattle.nc_holds.proofs.GrantAdds.{DeviceAt, direct, slotted, device_at, ToGrant, two_apart, slot_covers, held_device, apart_held, not_lent, name_held}
 use Rattle.nc_holds.proofs.WordLists.{self}
 
@@ -70,7 +69,7 @@ first_off : (me : HartNo) (slots_at : ℕ) (lot : Lot) (i : ℕ) (d : Entry) (es
 first_off me slots_at lot i d es n h = all_in (IsOff (grant_of slots_at lot (map_id me lot.id i) d)) (each_from me lot.id n (grant_of slots_at lot) es) (one es n h)
   where
     one : (es : List Entry) (n : ℕ) → ((k : ℕ) (e : Entry) → slice_get es k ≡ Some e → IsOff (grant_of slots_at lot (map_id me lot.id i) d) (grant_of slots_at lot (map_id me lot.id (n + k)) e))
-      → (g : Grant) → In g (each_from me lot.id n (grant_of slots_at lot) es) → IsOff (grant_of slots_at lot (map_id me lot.id i) d) g
+        → (g : Grant) → In g (each_from me lot.id n (grant_of slots_at lot) es) → IsOff (grant_of slots_at lot (map_id me lot.id i) d) g
     one [] n h g k = elim k [ ]
     one (e ∷ es) n h g (inl same) =
         let z : n + 0 ≡ n = omega arith in
@@ -86,17 +85,17 @@ each_off : (me : HartNo) (slots_at : ℕ) (lot : Lot) (i : ℕ) (es : List Entry
 each_off me slots_at lot i [] h = tt
 each_off me slots_at lot i (d ∷ es) h = (
   first_off me slots_at lot i d es (i + 1)
-  (λ k e at.
-  let z : i + 0 ≡ i = omega arith in
-  let n : i + suc k ≡ i + 1 + k = omega arith in
-  subst (λ (m : ℕ). IsOff (grant_of slots_at lot (map_id me lot.id i) d) (grant_of slots_at lot (map_id me lot.id m) e)) n
-  (subst (λ (m : ℕ). IsOff (grant_of slots_at lot (map_id me lot.id m) d) (grant_of slots_at lot (map_id me lot.id (i + suc k)) e)) z (h zero (suc k) d e refl at (λ no. absurd (omega (arith, no)))))),
+      (λ k e at.
+      let z : i + 0 ≡ i = omega arith in
+      let n : i + suc k ≡ i + 1 + k = omega arith in
+      subst (λ (m : ℕ). IsOff (grant_of slots_at lot (map_id me lot.id i) d) (grant_of slots_at lot (map_id me lot.id m) e)) n
+      (subst (λ (m : ℕ). IsOff (grant_of slots_at lot (map_id me lot.id m) d) (grant_of slots_at lot (map_id me lot.id (i + suc k)) e)) z (h zero (suc k) d e refl at (λ no. absurd (omega (arith, no)))))),
   each_off me slots_at lot (i + 1) es
-  (λ j k c e at_j at_k ne.
-  let nj : i + suc j ≡ i + 1 + j = omega arith in
-  let nk : i + suc k ≡ i + 1 + k = omega arith in
-  subst (λ (m : ℕ). IsOff (grant_of slots_at lot (map_id me lot.id m) c) (grant_of slots_at lot (map_id me lot.id (i + 1 + k)) e)) nj
-  (subst (λ (m : ℕ). IsOff (grant_of slots_at lot (map_id me lot.id (i + suc j)) c) (grant_of slots_at lot (map_id me lot.id m) e)) nk (h (suc j) (suc k) c e at_j at_k (λ same. ne (omega (arith, same)))))),
+      (λ j k c e at_j at_k ne.
+      let nj : i + suc j ≡ i + 1 + j = omega arith in
+      let nk : i + suc k ≡ i + 1 + k = omega arith in
+      subst (λ (m : ℕ). IsOff (grant_of slots_at lot (map_id me lot.id m) c) (grant_of slots_at lot (map_id me lot.id (i + 1 + k)) e)) nj
+      (subst (λ (m : ℕ). IsOff (grant_of slots_at lot (map_id me lot.id (i + suc j)) c) (grant_of slots_at lot (map_id me lot.id m) e)) nk (h (suc j) (suc k) c e at_j at_k (λ same. ne (omega (arith, same)))))),
 )
 
 -- ---- the lots of a name, of which there is one
@@ -155,10 +154,10 @@ lent_can : (ram harts : ℕ) (f : Fixed) (s : Held) (lot : Lot) (i : ℕ) (e : E
 lent_can ram harts f s lot i e knows mine words held to = record {
   fits = grant_fits ram harts f lot i e knows.fixed (entry_in ram f lot i e (all_at (IsLotIn ram f) s.lots lot knows.lots to.here.lot_in) to.here.entry) to.placed;
   apart = λ x on. none_of (has_device x) s.grants
-    (λ g k. elim (cases_Bool (covers g.device x)) [
-      | inl on_g ↦ absurd (apart_held ram harts f s lot i e g x knows mine words to (wanted_own f.me (map_id f.me lot.id i) lot.side refl to.wanted) (held g k) on on_g)
-      | inr clear ↦ clear
-    ]);
+      (λ g k. elim (cases_Bool (covers g.device x)) [
+        | inl on_g ↦ absurd (apart_held ram harts f s lot i e g x knows mine words to (wanted_own f.me (map_id f.me lot.id i) lot.side refl to.wanted) (held g k) on on_g)
+        | inr clear ↦ clear
+      ]);
   id = none_of (is_of (map_id f.me lot.id i)) s.grants (λ g k. name_held ram harts f s lot i e g knows to.here to.wanted (held g k));
 }
 
@@ -209,11 +208,13 @@ area_can ram harts f s lot i e knows held h k = record {
         area_off ram harts f is.other s lot is.is.lot is.is.i is.is.entry x h (alike_regions f is.other is.alike knows.regions) (alike_pool f is.other s.pages is.alike knows.pool) is.alike.pool (all_at (IsLotIn ram is.other) is.lots is.is.lot is.each is.is.here.lot_in)
         (all_at (FitsSide is.other) is.lots is.is.lot is.agrees.sides is.is.here.lot_in) (all_at (IsTaken s.pages) is.lots is.is.lot is.agrees.pages is.is.here.lot_in) is.is.here.entry in_g on
     off x g is on (slotted w sw few low high) = knows.regions.slots_off_pool x (slot_covers f w x few low high) (area_covers ram f lot 0 (only_entry lot) x h.is h.area (area_entry ram f lot h.is h.area) on)
+
     none : (g : Grant) → (is : IsHeldBy ram f s g) → SameMap (map_id is.other.me is.is.lot.id is.is.i) (map_id f.me lot.id i) → ⊥
     none g is same =
         let here : In is.is.lot (s.lots ++ lot ∷ []) = in_left is.is.lot s.lots (lot ∷ []) (subst (In is.is.lot) (is.mine same.hart) is.is.here.lot_in) in
         let one = names_apart ram f is.is.lot lot is.is.i i is.is.entry e (all_at (IsLotIn ram f) (s.lots ++ lot ∷ []) is.is.lot h.knows.lots here) h.is is.is.here.entry k same.label same.entry in
         not_lent (s.lots ++ lot ∷ []) lot is.is.lot (same_lot (s.lots ++ lot ∷ []) lot is.is.lot h.knows.names (at_end s lot) here (sym one.lot)) h.wanted is.is.lent
+
     name : (g : Grant) → IsHeldBy ram f s g → same_map g.id (map_id f.me lot.id i) ≡ false
     name g is = subst (λ (d : Grant). same_map d.id (map_id f.me lot.id i) ≡ false) (sym is.is.is) (not_same (map_id is.other.me is.is.lot.id is.is.i) (map_id f.me lot.id i) (none g is))
 

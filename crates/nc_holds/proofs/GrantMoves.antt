@@ -1,6 +1,6 @@
 -- Grants that are added and that end.
-use Rattle.std.proofs.Common.{◌≡◌, ℕ, zero, suc, ◌+◌, ◌<◌, ◌≤◌, Bool, true, false, List, [], ◌∷◌, ◌++◌, length, inl, inr, refl, sym, ap, subst, ◌∙◌, arith, cond, Option, Some}
-use Rattle.std.specs.Prelude.{◌⊎◌, ◌==◌, ◌&&◌, not, All, slice_get, if◌then◌else◌}
+use Rattle.std.proofs.Common.{◌≡◌, ℕ, ◌+◌, Bool, true, false, List, [], ◌∷◌, ◌++◌, inl, inr, refl, sym, ap, subst, ◌∙◌, arith}
+use Rattle.std.specs.Prelude.{◌⊎◌, ◌==◌, ◌&&◌, not, if◌then◌else◌}
 use Rattle.std.proofs.lemmas.Bool.{false≢true, and_parts, eqb-true, cases_Bool}
 use Rattle.std.proofs.lemmas.Bool.Decides.{nat_tests}
 use Rattle.nc_num.specs.declared.names.HartNo.{HartNo}
@@ -15,12 +15,12 @@ use Rattle.nc_rules.specs.declared.lots.Lot.{Lot}
 use Rattle.nc_rules.specs.declared.lots.LotId.{LotId}
 use Rattle.nc_rules.specs.declared.steps.Turn.{Turn}
 use Rattle.nc_rules.specs.declared.steps.Turn.TheVariants as turns
-use Rattle.nc_rules.specs.Lots.{Fixed, is_lot, is_wanted, map_id, grant_of, each_entry}
+use Rattle.nc_rules.specs.Lots.{is_lot, is_wanted, map_id, grant_of, each_entry}
 use Rattle.nc_rules.specs.Turns.{of_those, granted, ids, grants_of, ended_of}
 use Rattle.nc_rules.specs.World.{grants_added, grants_ended}
 use Rattle.nc_holds.specs.Held.{IsEntryOf}
 use Rattle.nc_holds.proofs.ListsA.{of_append, of_filter, in_filter}
-use Rattle.nc_holds.proofs.OwnerMoves.{FromLot, of_named, in_named, FromEntry, of_each, in_each}
+use Rattle.nc_holds.proofs.OwnerMoves.{of_named, in_named, of_each, in_each}
 
 -- ---- added
 

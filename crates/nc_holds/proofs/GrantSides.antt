@@ -1,6 +1,6 @@
 -- What is granted behind a turn: of lots whose side is set, and of lots that end.
-use Rattle.std.proofs.Common.{◌≡◌, ℕ, zero, suc, ◌+◌, ◌<◌, ◌≤◌, Bool, true, false, List, [], ◌∷◌, ◌++◌, length, inl, inr, refl, sym, ap, subst, ◌∙◌, arith, cond, Option, Some}
-use Rattle.std.specs.Prelude.{◌⊎◌, not, All, filter, slice_get, if◌then◌else◌}
+use Rattle.std.proofs.Common.{◌≡◌, ℕ, Bool, true, false, List, inl, inr, refl, sym, ap, subst, ◌∙◌, cond, Some}
+use Rattle.std.specs.Prelude.{not, All, filter, slice_get, if◌then◌else◌}
 use Rattle.std.proofs.lemmas.Bool.{false≢true, cases_Bool}
 use Rattle.nc_num.specs.declared.names.MapId.{MapId}
 use Rattle.nc_plan.specs.Plans.{In}
@@ -11,7 +11,6 @@ use Rattle.nc_sg.specs.declared.list.Entry.{Entry}
 use Rattle.nc_rules.specs.declared.lots.Lot.{Lot}
 use Rattle.nc_rules.specs.declared.lots.LotId.{LotId}
 use Rattle.nc_rules.specs.declared.lots.Side.{Side}
-use Rattle.nc_rules.specs.declared.lots.Side.TheVariants as sides
 use Rattle.nc_rules.specs.Lots.{Fixed, is_lot, is_wanted, map_id, grant_of}
 use Rattle.nc_rules.specs.Turns.{of_those, granted, ids, set_side, with_side}
 use Rattle.nc_rules.specs.World.{grants_added, grants_ended}
@@ -19,8 +18,8 @@ use Rattle.nc_scripts.specs.Drivers.{IsLotIn}
 use Rattle.nc_scripts.proofs.LotLaws.{named_so, its_name}
 use Rattle.nc_holds.specs.Held.{AreLent, IsEntryOf, AreGranted, IsGrantOf}
 use Rattle.nc_holds.proofs.ListsA.{all_at, of_filter, in_filter}
-use Rattle.nc_holds.proofs.OwnerLots.{SidedBy, named, other, IsSided, of_sided, names_apart}
-use Rattle.nc_holds.proofs.GrantMoves.{added_left, added_right, of_added, of_ended, in_ended, map_self, SameMap, not_same, IsNewGrant, new_grant, in_new, IsEnded, of_ids, in_ids}
+use Rattle.nc_holds.proofs.OwnerLots.{SidedBy, named, other, of_sided, names_apart}
+use Rattle.nc_holds.proofs.GrantMoves.{added_right, of_ended, in_ended, map_self, not_same, IsNewGrant, in_new, of_ids, in_ids}
 
 -- ---- a side that is set
 

@@ -1,41 +1,37 @@
 -- An area that is made and lent at once: what the hart and the others hold agrees behind it.
-use Rattle.std.proofs.Common.{◌≡◌, ℕ, zero, suc, ◌+◌, ◌<◌, ◌≤◌, Bool, true, false, List, [], ◌∷◌, ◌++◌, length, inl, inr, refl, sym, ap, subst, ◌∙◌, arith, cond, Option, Some}
-use Rattle.std.specs.Prelude.{◌⊎◌, ◌≢◌, ◌&&◌, not, All, filter, slice_get, replicate, if◌then◌else◌}
+use Rattle.std.proofs.Common.{◌≡◌, ℕ, ◌≤◌, Bool, true, false, List, [], ◌∷◌, ◌++◌, length, inl, inr, refl, sym, ap, subst, ◌∙◌, arith, Some}
+use Rattle.std.specs.Prelude.{◌⊎◌, ◌≢◌, ◌&&◌, slice_get, replicate, if◌then◌else◌}
 use Rattle.std.proofs.lemmas.Bool.{false≢true, cases_Bool}
 use Rattle.nc_num.specs.Places.{covers}
-use Rattle.nc_num.specs.declared.names.HartNo.{HartNo}
-use Rattle.nc_num.specs.declared.names.MapId.{MapId}
 use Rattle.nc_num.specs.declared.places.Span.{Span}
 use Rattle.nc_plan.specs.Plans.{In}
-use Rattle.nc_plan.proofs.PlanLaws.{in_left, in_right}
+use Rattle.nc_plan.proofs.PlanLaws.{in_right}
 use Rattle.nc_model.specs.declared.owners.Grant.{Grant}
-use Rattle.nc_model.specs.declared.owners.Owner.{Owner}
 use Rattle.nc_own.specs.Books.{owner_in}
-use Rattle.nc_coherent.specs.Pages.{PageMap, IsPages, pages_of, page_count, with_pages}
+use Rattle.nc_coherent.specs.Pages.{IsPages, pages_of, page_count, with_pages}
 use Rattle.nc_sg.specs.declared.list.Entry.{Entry}
 use Rattle.nc_rules.specs.declared.lots.Lot.{Lot}
-use Rattle.nc_rules.specs.declared.lots.LotId.{LotId}
 use Rattle.nc_rules.specs.declared.lots.Side.TheVariants as sides
 use Rattle.nc_rules.specs.declared.steps.PageMove.{PageMove}
 use Rattle.nc_rules.specs.declared.steps.PageMove.TheVariants as moves
 use Rattle.nc_rules.specs.declared.steps.Turn.TheVariants as turns
-use Rattle.nc_rules.specs.Lots.{Fixed, is_lot, is_wanted, map_id, only_entry, owner_of_side}
+use Rattle.nc_rules.specs.Lots.{Fixed, is_lot, is_wanted, only_entry}
 use Rattle.nc_rules.specs.Refusals.{buffer_of}
 use Rattle.nc_rules.specs.Turns.{is_area, those, to_side, of_those, granted, set_side, pages_taken, page_move, page_moves}
-use Rattle.nc_rules.specs.World.{owners_moved, grants_added, pages_moved}
+use Rattle.nc_rules.specs.World.{grants_added, pages_moved}
 use Rattle.nc_scripts.specs.Drivers.{IsLotIn, ArePagesOf}
 use Rattle.nc_scripts.proofs.FreeLots.{new_lots_are_free}
 use Rattle.nc_scripts.proofs.Lists.{all_in}
-use Rattle.nc_scripts.proofs.LotLaws.{its_name, named_so}
+use Rattle.nc_scripts.proofs.LotLaws.{its_name}
 use Rattle.nc_scripts.specs.NewLots.{HasFreePages}
-use Rattle.nc_holds.specs.Held.{Held, AreRegions, LiesInBuffer, IsEntryOf, IsSameEntry, EntriesAreApart, FitsSide, OwnersAgree, AreGranted, IsGrantOf, IsTaken, PagesAgree}
+use Rattle.nc_holds.specs.Held.{Held, AreRegions, LiesInBuffer, IsEntryOf, EntriesAreApart, FitsSide, IsTaken, PagesAgree}
 use Rattle.nc_holds.specs.Changes.{Made, Turned, changed, changed_by}
 use Rattle.nc_holds.specs.Holds.{KnowsAlike, MayMovePages}
 use Rattle.nc_holds.proofs.ListsA.{of_append, all_at, at_get, in_filter}
-use Rattle.nc_holds.proofs.OwnerFacts.{Knows, Mine, AllLent, IsMaking, Theirs, StaysOrMine}
+use Rattle.nc_holds.proofs.OwnerFacts.{Knows, Mine, AllLent, IsMaking, Theirs}
 use Rattle.nc_holds.proofs.OwnerMoves.{moved_off}
-use Rattle.nc_holds.proofs.OwnerLots.{area_covers, area_only, apart_from, sided_from, same_named, SidedBy, named, other, IsSided, of_sided}
-use Rattle.nc_holds.proofs.OwnerSides.{IsSideMove, side_move, move_covers, owners_set, sides_by, taken_by}
+use Rattle.nc_holds.proofs.OwnerLots.{area_covers, area_only, apart_from, sided_from, same_named, SidedBy, named, other, of_sided}
+use Rattle.nc_holds.proofs.OwnerSides.{side_move, move_covers, owners_set, sides_by, taken_by}
 use Rattle.nc_holds.proofs.OwnerPages.{area_entry, area_pages, free_off_taken, taken_kept, now_taken}
 use Rattle.nc_holds.proofs.OwnerTurns.{lent_held}
 use Rattle.nc_holds.proofs.OwnerMade.{settled_lent, granted_more, held_more}
@@ -194,11 +190,11 @@ lent_mine ram harts f s lot knows mine h =
       sides = all_in (FitsSide f) (set_side sides.Lending lot.id all) (λ now k. fits_lent ram harts f s lot now mine h k);
       apart = apart_from all (set_side sides.Lending lot.id all) (sided_from sides.Lending lot.id all) apart;
       owners = owners_set ram f sides.Lending lot.id all s.owners h.knows.lots knows.long apart
-        (λ l i e x off here on. mine.owners l i e x (record { lot_in = old_if s lot l here.lot_in off; entry = here.entry }) on);
+          (λ l i e x off here on. mine.owners l i e x (record { lot_in = old_if s lot l here.lot_in off; entry = here.entry }) on);
       granted = granted_sided f sides.Lending lot.id all s.grants (grants_added s.grants (of_those (granted f.me f.slots_at) lot.id all)) (granted_more f s.grants s.lots (lot ∷ []) mine.granted wanted)
-        (λ g k. added_left g s.grants (of_those (granted f.me f.slots_at) lot.id all) k) (lends_them f lot.id all s.grants);
+          (λ g k. added_left g s.grants (of_those (granted f.me f.slots_at) lot.id all) k) (lends_them f lot.id all s.grants);
       pages = subst (λ (m : PageMove). PagesAgree (pages_moved s.pages m) (set_side sides.Lending lot.id all)) (sym (area_take ram harts f s lot h))
-        (all_in (IsTaken (with_pages s.pages (only_entry lot).span false)) (set_side sides.Lending lot.id all) (λ now k. taken_lent ram harts f s lot now knows mine h k));
+          (all_in (IsTaken (with_pages s.pages (only_entry lot).span false)) (set_side sides.Lending lot.id all) (λ now k. taken_lent ram harts f s lot now knows mine h k));
       held = lent_held f (made_area f s lot) lot.id (λ g k hart. held_more f s.lots (lot ∷ []) g (mine.held g k hart));
     }
 
@@ -235,11 +231,11 @@ lent_theirs ram harts f g s lots lot knows theirs h = record {
   owners = λ l i e x here on. area_frame ram harts f s lot x h (λ on_area. off_theirs ram harts f g s lots lot l i e x knows theirs h here on on_area) ∙ theirs.owners l i e x here on;
   granted = λ l i e here lent. others_kept f.me f.slots_at (s.lots ++ lot ∷ []) (turns.Lend lot.id) s.grants _ theirs.other (theirs.granted l i e here lent);
   pages = subst (λ (m : PageMove). PagesAgree (pages_moved s.pages m) lots) (sym (area_take ram harts f s lot h))
-    (all_in (IsTaken (with_pages s.pages (only_entry lot).span false)) lots
-    (λ l k.
-    let is = all_at (IsLotIn ram g) lots l theirs.each k in
-    taken_kept ram g s.pages (only_entry lot).span false l h.pages (alike_pool f g s.pages theirs.alike knows.pool) is
-    (λ a x on on_l. off_theirs ram harts f g s lots lot l 0 (only_entry l) x knows theirs h (record { lot_in = k; entry = area_entry ram g l is a }) on_l on) (all_at (IsTaken s.pages) lots l theirs.pages k)));
+      (all_in (IsTaken (with_pages s.pages (only_entry lot).span false)) lots
+      (λ l k.
+      let is = all_at (IsLotIn ram g) lots l theirs.each k in
+      taken_kept ram g s.pages (only_entry lot).span false l h.pages (alike_pool f g s.pages theirs.alike knows.pool) is
+      (λ a x on on_l. off_theirs ram harts f g s lots lot l 0 (only_entry l) x knows theirs h (record { lot_in = k; entry = area_entry ram g l is a }) on_l on) (all_at (IsTaken s.pages) lots l theirs.pages k)));
 }
 
 pub area_theirs : (ram harts : ℕ) (f g : Fixed) (s : Held) (lots : List Lot) (lot : Lot) → Knows ram harts f s → Theirs ram f g s lots → IsMaking ram f s (lot ∷ []) → is_area lot.kind ≡ true → Theirs ram f g (lent_area f s lot) lots

@@ -1,6 +1,6 @@
 -- Lots that end, and lots that are left out: what stays of the others.
-use Rattle.std.proofs.Common.{◌≡◌, ℕ, zero, suc, ◌+◌, ◌<◌, ◌≤◌, Bool, true, false, List, [], ◌∷◌, length, map, inl, inr, refl, sym, ap, subst, ◌∙◌, arith, cond, Option, Some}
-use Rattle.std.specs.Prelude.{◌⊎◌, not, All, filter, slice_get}
+use Rattle.std.proofs.Common.{◌≡◌, ℕ, Bool, true, List, refl, sym, ap, subst, ◌∙◌}
+use Rattle.std.specs.Prelude.{not, All, filter}
 use Rattle.std.proofs.lemmas.Bool.{false≢true}
 use Rattle.nc_num.specs.Places.{covers}
 use Rattle.nc_num.specs.declared.names.HartNo.{HartNo}
@@ -8,21 +8,19 @@ use Rattle.nc_num.specs.declared.places.Span.{Span}
 use Rattle.nc_plan.specs.Plans.{In}
 use Rattle.nc_model.specs.declared.owners.Grant.{Grant}
 use Rattle.nc_model.specs.declared.owners.Owner.{Owner}
-use Rattle.nc_own.specs.Books.{owner_in}
-use Rattle.nc_coherent.specs.Pages.{PageMap}
 use Rattle.nc_sg.specs.declared.list.Entry.{Entry}
 use Rattle.nc_rules.specs.declared.lots.Lot.{Lot}
 use Rattle.nc_rules.specs.declared.lots.LotId.{LotId}
-use Rattle.nc_rules.specs.Lots.{Fixed, is_lot, is_wanted, map_id, owner_of_side}
+use Rattle.nc_rules.specs.Lots.{Fixed, is_lot, is_wanted}
 use Rattle.nc_rules.specs.Turns.{to_end, last_owner, of_those, without_wanted}
 use Rattle.nc_rules.specs.World.{owners_moved}
 use Rattle.nc_scripts.proofs.LotLaws.{named_so, its_name}
 use Rattle.nc_scripts.proofs.Lists.{all_filtered}
-use Rattle.nc_holds.specs.Held.{IsEntryOf, EntriesAreApart, FitsSide, OwnersAgree, AreGranted, IsGrantOf, IsTaken, PagesAgree}
+use Rattle.nc_holds.specs.Held.{IsEntryOf, EntriesAreApart, OwnersAgree, AreGranted, IsGrantOf}
 use Rattle.nc_holds.proofs.ListsA.{of_map, of_filter, in_filter, get_at}
-use Rattle.nc_holds.proofs.OwnerFacts.{IsOf, StaysOrMine}
-use Rattle.nc_holds.proofs.OwnerMoves.{FromLot, of_named, moved_off}
-use Rattle.nc_holds.proofs.OwnerLots.{ComesFrom, same_spans, apart_from}
+use Rattle.nc_holds.proofs.OwnerFacts.{StaysOrMine}
+use Rattle.nc_holds.proofs.OwnerMoves.{of_named, moved_off}
+use Rattle.nc_holds.proofs.OwnerLots.{same_spans, apart_from}
 use Rattle.nc_holds.proofs.OwnerSides.{frame_by, of_mine}
 use Rattle.nc_holds.proofs.GrantSides.{without_lot, not_false}
 

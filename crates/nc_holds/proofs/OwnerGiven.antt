@@ -1,5 +1,5 @@
 -- The laws of owners, grants and pages in one record.
-use Rattle.std.specs.Prelude.{ℕ, ◌≡◌, List, [], ◌∷◌, All, true, false}
+use Rattle.std.specs.Prelude.{◌≡◌, List, All, true, false}
 use Rattle.nc_rules.specs.declared.lots.Lot.{Lot}
 use Rattle.nc_rules.specs.declared.lots.LotId.{LotId}
 use Rattle.nc_rules.specs.Lots.{is_lot, lot_waits}

@@ -1,6 +1,6 @@
 -- Each change of what is held: what the hart knows and holds, and what the others hold, agrees behind it.
-use Rattle.std.proofs.Common.{◌≡◌, ℕ, zero, suc, ◌+◌, ◌*◌, ◌<◌, ◌≤◌, Bool, true, false, List, [], ◌∷◌, ◌++◌, length, inl, inr, refl, sym, ap, subst, ◌∙◌, arith, cond, Option, Some}
-use Rattle.std.specs.Prelude.{◌⊎◌, ◌≢◌, ◌&&◌, not, All, filter, slice_get, if◌then◌else◌}
+use Rattle.std.proofs.Common.{◌≡◌, ℕ, ◌≤◌, Bool, true, false, List, [], ◌∷◌, length, inl, inr, refl, sym, ap, subst, ◌∙◌, arith, cond}
+use Rattle.std.specs.Prelude.{◌≢◌, ◌&&◌, not, filter, if◌then◌else◌}
 use Rattle.std.proofs.lemmas.Bool.{false≢true, cases_Bool}
 use Rattle.std.proofs.lemmas.List.Elements.{All-append}
 use Rattle.nc_num.specs.Places.{covers}
@@ -13,7 +13,6 @@ use Rattle.nc_model.specs.declared.owners.Owner.{Owner}
 use Rattle.nc_model.specs.declared.owners.Owner.TheVariants as owners
 use Rattle.nc_own.specs.Books.{owner_in}
 use Rattle.nc_coherent.specs.Pages.{PageMap, with_pages}
-use Rattle.nc_sg.specs.declared.list.Entry.{Entry}
 use Rattle.nc_rules.specs.declared.lots.Lot.{Lot}
 use Rattle.nc_rules.specs.declared.lots.LotId.{LotId}
 use Rattle.nc_rules.specs.declared.lots.Side.TheVariants as sides
@@ -21,20 +20,20 @@ use Rattle.nc_rules.specs.declared.steps.PageMove.{PageMove}
 use Rattle.nc_rules.specs.declared.steps.PageMove.TheVariants as moves
 use Rattle.nc_rules.specs.declared.steps.Turn.{Turn}
 use Rattle.nc_rules.specs.declared.steps.Turn.TheVariants as turns
-use Rattle.nc_rules.specs.Lots.{Fixed, is_lot, is_wanted, map_id, only_entry, owner_of_side, slot_given}
-use Rattle.nc_rules.specs.Turns.{is_area, those, pages_taken, page_moves, lots_after, transfers_of, grants_of, ended_of, pages_of}
-use Rattle.nc_rules.specs.World.{owners_moved, grants_added, grants_ended, pages_moved}
-use Rattle.nc_scripts.specs.Drivers.{IsLotIn, AreApart, ArePagesOf}
+use Rattle.nc_rules.specs.Lots.{Fixed, is_lot, is_wanted, map_id, only_entry, owner_of_side}
+use Rattle.nc_rules.specs.Turns.{is_area, those, pages_taken, page_moves, transfers_of, pages_of}
+use Rattle.nc_rules.specs.World.{owners_moved, pages_moved}
+use Rattle.nc_scripts.specs.Drivers.{IsLotIn, ArePagesOf}
 use Rattle.nc_scripts.proofs.Lists.{all_in}
 use Rattle.nc_scripts.proofs.LotLaws.{lots_stay, apart_stay}
 use Rattle.nc_scripts.proofs.SlotLaws.{lots_given, apart_given}
-use Rattle.nc_holds.specs.Held.{Held, IsEntryOf, FitsSide, OwnersAgree, AreGranted, IsTaken, PagesAgree}
+use Rattle.nc_holds.specs.Held.{Held, FitsSide, OwnersAgree, AreGranted, IsTaken, PagesAgree}
 use Rattle.nc_holds.specs.Changes.{Change, Made, Got, Turned, Dropped, changed}
 use Rattle.nc_holds.specs.Holds.{KnowsAlike, MayMovePages}
 use Rattle.nc_holds.proofs.ListsA.{all_at, of_filter}
 use Rattle.nc_holds.proofs.OwnerFacts.{Knows, Mine, Fits, IsMaking, Theirs, IsOf, StaysOrMine, IsOutside}
 use Rattle.nc_holds.proofs.OwnerMoves.{moved_off, length-moved}
-use Rattle.nc_holds.proofs.OwnerLots.{side_of, of_two}
+use Rattle.nc_holds.proofs.OwnerLots.{of_two}
 use Rattle.nc_holds.proofs.OwnerSides.{frame_by, frame_sided, of_mine}
 use Rattle.nc_holds.proofs.OwnerEnds.{left_all, frame_ended}
 use Rattle.nc_holds.proofs.OwnerPages.{area_entry, area_pages, taken_kept, pages_of_kept, moves_is}

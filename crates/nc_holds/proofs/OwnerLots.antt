@@ -1,6 +1,6 @@
 -- The entries of a hart's lots: their places, their names as mappings, and the owner that a side says.
-use Rattle.std.proofs.Common.{◌≡◌, ℕ, zero, suc, ◌+◌, ◌<◌, ◌≤◌, Bool, true, false, List, [], ◌∷◌, length, inl, inr, refl, sym, ap, subst, ◌∙◌, arith, cond, Option, Some}
-use Rattle.std.specs.Prelude.{◌⊎◌, All, slice_get, slice_index_or, map, filter, not, if◌then◌else◌}
+use Rattle.std.proofs.Common.{◌≡◌, ℕ, ◌+◌, ◌<◌, ◌≤◌, Bool, true, false, List, length, inl, inr, refl, sym, ap, subst, ◌∙◌, arith, Some}
+use Rattle.std.specs.Prelude.{◌⊎◌, All, slice_get, slice_index_or, if◌then◌else◌}
 use Rattle.std.proofs.lemmas.Bool.{false≢true}
 use Rattle.std.proofs.lemmas.Option.{slice_get_within, get_or_from_slice_get}
 use Rattle.nc_num.specs.Places.{covers}
@@ -18,12 +18,12 @@ use Rattle.nc_rules.specs.declared.lots.Lot.{Lot}
 use Rattle.nc_rules.specs.declared.lots.LotId.{LotId}
 use Rattle.nc_rules.specs.declared.lots.Side.{Side}
 use Rattle.nc_rules.specs.declared.lots.Side.TheVariants as sides
-use Rattle.nc_rules.specs.Lots.{Fixed, is_lot, is_wanted, map_id, only_entry, no_entry, owner_of_side}
-use Rattle.nc_rules.specs.Turns.{is_area, those, set_side, with_side}
+use Rattle.nc_rules.specs.Lots.{Fixed, is_lot, only_entry, no_entry, owner_of_side}
+use Rattle.nc_rules.specs.Turns.{is_area, set_side, with_side}
 use Rattle.nc_scripts.specs.Drivers.{IsEntryIn, IsInPool, FitsKind, IsLotIn, AreApart, BouncesSo}
-use Rattle.nc_scripts.proofs.LotLaws.{its_name, named_so}
+use Rattle.nc_scripts.proofs.LotLaws.{its_name}
 use Rattle.nc_holds.specs.Held.{IsEntryOf, IsSameEntry, EntriesAreApart}
-use Rattle.nc_holds.proofs.ListsA.{of_map, all_at, at_get, only_one, same_some}
+use Rattle.nc_holds.proofs.ListsA.{of_map, all_at, at_get, only_one}
 use Rattle.nc_holds.proofs.OwnerFacts.{IsOf}
 
 -- ---- one lot of a name
@@ -139,7 +139,7 @@ apart_from lots nows comes apart a b i j d e x ha hb xd xe =
     let da = ca.same.spans i d ha.entry in
     let db = cb.same.spans j e hb.entry in
     let r = apart ca.lot cb.lot i j da.0 db.0 x (record { lot_in = ca.here; entry = da.1 }) (record { lot_in = cb.here; entry = db.1 })
-      (subst (λ (s : Span). covers s x ≡ true) (sym da.2) xd) (subst (λ (s : Span). covers s x ≡ true) (sym db.2) xe) in
+    (subst (λ (s : Span). covers s x ≡ true) (sym da.2) xd) (subst (λ (s : Span). covers s x ≡ true) (sym db.2) xe) in
     record { lot = sym ca.same.id ∙ r.lot ∙ cb.same.id; entry = r.entry }
 
 pub same_spans : (lot now : Lot) → lot.id ≡ now.id → lot.kind ≡ now.kind → lot.list ≡ now.list → SameSpans lot now

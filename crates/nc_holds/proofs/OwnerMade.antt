@@ -1,6 +1,6 @@
 -- Lots that are made: what a hart holds agrees with them.
-use Rattle.std.proofs.Common.{◌≡◌, ℕ, zero, suc, ◌+◌, ◌<◌, ◌≤◌, Bool, true, false, List, [], ◌∷◌, ◌++◌, length, map, flat_map, inl, inr, refl, sym, ap, subst, ◌∙◌, arith, cond, Option, Some}
-use Rattle.std.specs.Prelude.{◌⊎◌, ◌==◌, not, All, slice_get, if◌then◌else◌}
+use Rattle.std.proofs.Common.{◌≡◌, ℕ, zero, suc, true, false, List, [], ◌∷◌, ◌++◌, map, flat_map, inl, inr, refl, sym, ap, subst, ◌∙◌, Some}
+use Rattle.std.specs.Prelude.{All, slice_get}
 use Rattle.std.proofs.lemmas.Bool.{false≢true, eqb-true}
 use Rattle.std.proofs.lemmas.List.Elements.{All-append}
 use Rattle.nc_num.specs.Places.{covers}
@@ -25,7 +25,7 @@ use Rattle.nc_scripts.specs.Drivers.{IsLotIn, IsSettled}
 use Rattle.nc_scripts.specs.NewLots.{IsOwned, AreDisjoint, AreOwned, own_ranges}
 use Rattle.nc_scripts.proofs.FreeLots.{new_lots_are_free}
 use Rattle.nc_scripts.proofs.Lists.{all_to, all_in}
-use Rattle.nc_holds.specs.Held.{Held, AreRegions, LiesInBuffer, IsEntryOf, IsSameEntry, EntriesAreApart, FitsSide, OwnersAgree, AreGranted, IsGrantOf, IsTaken, PagesAgree}
+use Rattle.nc_holds.specs.Held.{Held, LiesInBuffer, IsEntryOf, IsSameEntry, EntriesAreApart, FitsSide, OwnersAgree, AreGranted, IsGrantOf, IsTaken}
 use Rattle.nc_holds.specs.Changes.{Made, changed}
 use Rattle.nc_holds.proofs.ListsA.{of_append, all_at, at_get, same_some}
 use Rattle.nc_holds.proofs.OwnerFacts.{Knows, Mine, AllLent, NoAreas, IsMaking}

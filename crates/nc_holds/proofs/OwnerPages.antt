@@ -1,14 +1,13 @@
 -- The pages of areas: those that are taken stay taken, and what a turn moves may be moved.
-use Rattle.std.proofs.Common.{◌≡◌, ℕ, zero, suc, ◌+◌, ◌-◌, ◌*◌, ◌/◌, ◌%◌, ◌<◌, ◌≤◌, Bool, true, false, List, [], ◌∷◌, length, inl, inr, refl, sym, ap, subst, ◌∙◌, arith, cond, Some}
-use Rattle.std.specs.Prelude.{◌⊎◌, not, All, replicate, slice_get, slice_index_or, if◌then◌else◌}
-use Rattle.std.proofs.lemmas.Bool.{false≢true, cases_Bool}
+use Rattle.std.proofs.Common.{◌≡◌, ℕ, ◌+◌, ◌-◌, ◌*◌, ◌/◌, ◌≤◌, Bool, true, false, List, [], ◌∷◌, length, inl, inr, refl, sym, ap, ◌∙◌, arith, Some}
+use Rattle.std.specs.Prelude.{◌⊎◌, replicate, slice_get}
+use Rattle.std.proofs.lemmas.Bool.{false≢true}
 use Rattle.std.proofs.lemmas.Option.{slice_get-get_or}
 use Rattle.nc_num.specs.Places.{covers}
 use Rattle.nc_num.specs.declared.places.Span.{Span}
 use Rattle.nc_plan.specs.Plans.{In}
 use Rattle.nc_model.proofs.Faults.{covers-low, covers-high, covers-from}
 use Rattle.nc_coherent.specs.Pages.{PageMap, IsPages, pages_of, first_page, page_count, marked, with_pages}
-use Rattle.nc_sg.specs.declared.list.Entry.{Entry}
 use Rattle.nc_rules.specs.declared.lots.Kind.{Kind}
 use Rattle.nc_rules.specs.declared.lots.Kind.TheVariants as kinds
 use Rattle.nc_rules.specs.declared.lots.Lot.{Lot}
@@ -16,7 +15,7 @@ use Rattle.nc_rules.specs.declared.steps.PageMove.{PageMove}
 use Rattle.nc_rules.specs.declared.steps.PageMove.TheVariants as moves
 use Rattle.nc_rules.specs.Lots.{Fixed, only_entry, no_entry}
 use Rattle.nc_rules.specs.Turns.{is_area, page_move, page_moves}
-use Rattle.nc_scripts.specs.Drivers.{IsInPool, FitsKind, IsLotIn, ArePagesOf}
+use Rattle.nc_scripts.specs.Drivers.{FitsKind, IsLotIn, ArePagesOf}
 use Rattle.nc_holds.specs.Held.{IsTaken}
 use Rattle.nc_holds.proofs.OwnerLots.{entry_in, area_in}
 use Rattle.nc_holds.proofs.PageMaps.{length-marked, so_list, list_so, so_marked, so_apart, ranges_apart, pages_end, pages_some, page_place, byte_page}
@@ -75,7 +74,7 @@ pages_apart pool a b ha hb off =
 span_taken : (pool : PageMap) (a b : Span) (to : Bool) → IsPages pool a → IsPages pool b → Apart a b → pages_of pool b ≡ replicate (page_count b) false → pages_of (with_pages pool a to) b ≡ replicate (page_count b) false
 span_taken pool a b to ha hb off taken =
     let now = so_apart pool.free (first_page pool a) (page_count a) (first_page pool b) (page_count b) to false (pages_end pool a ha) (pages_apart pool a b ha hb off)
-      (list_so pool.free (first_page pool b) (page_count b) false (pages_end pool b hb) taken) in
+    (list_so pool.free (first_page pool b) (page_count b) false (pages_end pool b hb) taken) in
     so_list (marked pool.free (first_page pool a) (page_count a) to) (first_page pool b) (page_count b) false
     (omega (arith, length-marked pool.free (first_page pool a) (page_count a) to (pages_end pool a ha), pages_end pool b hb)) now
 
@@ -99,7 +98,7 @@ moves_is f [] = inl refl
 moves_is f (lot ∷ lots) = first_by lot (f lot) refl (moves_is f lots)
   where
     first_by : (lot : Lot) (m : PageMove) → f lot ≡ m → (page_moves f lots ≡ moves.Stay) ⊎ ((other : Lot) × In other lots × (page_moves f lots ≡ f other))
-      → (page_move (f lot) (page_moves f lots) ≡ moves.Stay) ⊎ ((other : Lot) × In other (lot ∷ lots) × (page_move (f lot) (page_moves f lots) ≡ f other))
+        → (page_move (f lot) (page_moves f lots) ≡ moves.Stay) ⊎ ((other : Lot) × In other (lot ∷ lots) × (page_move (f lot) (page_moves f lots) ≡ f other))
     first_by lot moves.Stay e (inl stay) = inl (ap (λ m. page_move m (page_moves f lots)) e ∙ stay)
     first_by lot moves.Stay e (inr r) = inr (r.0, inr r.1, ap (λ m. page_move m (page_moves f lots)) e ∙ r.2)
     first_by lot (moves.Take span) e r = inr (lot, inl refl, ap (λ m. page_move m (page_moves f lots)) e ∙ sym e)

@@ -1,13 +1,11 @@
 -- A side that is set: the owners of the bytes, what is granted, and what is said of the lots.
-use Rattle.std.proofs.Common.{◌≡◌, ℕ, zero, suc, ◌+◌, ◌<◌, ◌≤◌, Bool, true, false, List, [], ◌∷◌, length, inl, inr, refl, sym, ap, subst, ◌∙◌, arith, cond, Option, Some}
-use Rattle.std.specs.Prelude.{◌⊎◌, All, slice_get, map, if◌then◌else◌}
+use Rattle.std.proofs.Common.{◌≡◌, ℕ, ◌+◌, ◌<◌, true, false, List, length, inl, inr, refl, sym, ap, subst, ◌∙◌, arith, Some}
+use Rattle.std.specs.Prelude.{◌⊎◌, All, slice_get}
 use Rattle.std.proofs.lemmas.Bool.{false≢true}
 use Rattle.nc_num.specs.Places.{covers}
 use Rattle.nc_num.specs.declared.names.HartNo.{HartNo}
 use Rattle.nc_num.specs.declared.places.Span.{Span}
 use Rattle.nc_plan.specs.Plans.{In}
-use Rattle.nc_plan.proofs.PlanLaws.{in_map}
-use Rattle.nc_model.specs.declared.owners.Grant.{Grant}
 use Rattle.nc_model.specs.declared.owners.Owner.{Owner}
 use Rattle.nc_own.specs.Books.{owner_in}
 use Rattle.nc_coherent.specs.Pages.{PageMap}
@@ -15,17 +13,17 @@ use Rattle.nc_sg.specs.declared.list.Entry.{Entry}
 use Rattle.nc_rules.specs.declared.lots.Lot.{Lot}
 use Rattle.nc_rules.specs.declared.lots.LotId.{LotId}
 use Rattle.nc_rules.specs.declared.lots.Side.{Side}
-use Rattle.nc_rules.specs.Lots.{Fixed, is_lot, is_wanted, is_own, map_id, grant_of, owner_of_side, each_entry}
-use Rattle.nc_rules.specs.Turns.{is_area, to_side, of_those, set_side, with_side}
+use Rattle.nc_rules.specs.Lots.{Fixed, is_lot, is_wanted, is_own, map_id, owner_of_side}
+use Rattle.nc_rules.specs.Turns.{is_area, to_side, of_those, set_side}
 use Rattle.nc_rules.specs.World.{owners_moved}
 use Rattle.nc_scripts.specs.Drivers.{IsLotIn}
 use Rattle.nc_scripts.proofs.Lists.{all_in}
-use Rattle.nc_holds.specs.Held.{IsEntryOf, EntriesAreApart, FitsSide, OwnersAgree, AreGranted, IsGrantOf, IsTaken, PagesAgree}
+use Rattle.nc_holds.specs.Held.{IsEntryOf, EntriesAreApart, FitsSide, OwnersAgree, IsTaken, PagesAgree}
 use Rattle.nc_holds.specs.Changes.{AreAreas}
 use Rattle.nc_holds.proofs.ListsA.{all_at}
 use Rattle.nc_holds.proofs.OwnerFacts.{IsOf, StaysOrMine}
-use Rattle.nc_holds.proofs.OwnerMoves.{FromLot, of_named, in_named, FromEntry, of_each, in_each, moved_by, moved_to, moved_off, length-moved}
-use Rattle.nc_holds.proofs.OwnerLots.{of_lots, side_of, SidedBy, named, other, IsSided, of_sided}
+use Rattle.nc_holds.proofs.OwnerMoves.{of_named, in_named, of_each, in_each, moved_by, moved_to, moved_off}
+use Rattle.nc_holds.proofs.OwnerLots.{of_lots, side_of, SidedBy, named, other, of_sided}
 
 -- ---- the transfers
 

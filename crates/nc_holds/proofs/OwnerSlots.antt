@@ -1,22 +1,18 @@
 -- A slot that is given to a lot that is not lent, and lots that are given up.
-use Rattle.std.proofs.Common.{◌≡◌, ℕ, zero, suc, ◌+◌, ◌<◌, ◌≤◌, Bool, true, false, List, [], ◌∷◌, length, inl, inr, refl, sym, ap, subst, ◌∙◌, arith, cond, Option, Some}
-use Rattle.std.specs.Prelude.{◌⊎◌, not, All, filter, slice_get, slice_set, if◌then◌else◌}
+use Rattle.std.proofs.Common.{◌≡◌, ℕ, zero, suc, Bool, true, false, List, [], ◌∷◌, inl, inr, refl, sym, ap, subst, ◌∙◌, Some}
+use Rattle.std.specs.Prelude.{not, All, slice_get, if◌then◌else◌}
 use Rattle.std.proofs.lemmas.Bool.{false≢true}
 use Rattle.nc_num.specs.Places.{covers}
 use Rattle.nc_num.specs.declared.places.Span.{Span}
 use Rattle.nc_plan.specs.Plans.{In}
-use Rattle.nc_model.specs.declared.owners.Grant.{Grant}
 use Rattle.nc_own.specs.Books.{owner_in}
-use Rattle.nc_coherent.specs.Pages.{PageMap, pages_of, page_count}
+use Rattle.nc_coherent.specs.Pages.{PageMap}
 use Rattle.nc_sg.specs.declared.list.Entry.{Entry}
 use Rattle.nc_sg.specs.Lists.{waits, give_slot}
 use Rattle.nc_rules.specs.declared.lots.Lot.{Lot}
-use Rattle.nc_rules.specs.declared.lots.LotId.{LotId}
-use Rattle.nc_rules.specs.Lots.{Fixed, is_lot, is_wanted, lot_waits, with_slot, slot_given, map_id, only_entry, owner_of_side}
-use Rattle.nc_rules.specs.Turns.{is_area, those, without_wanted}
-use Rattle.nc_scripts.specs.Drivers.{IsLotIn, AreApart}
+use Rattle.nc_rules.specs.Lots.{Fixed, is_wanted, lot_waits, with_slot, slot_given, map_id, only_entry, owner_of_side}
 use Rattle.nc_scripts.proofs.Lists.{all_in}
-use Rattle.nc_holds.specs.Held.{Held, LiesInBuffer, IsEntryOf, FitsSide, OwnersAgree, AreGranted, IsGrantOf, IsTaken, PagesAgree}
+use Rattle.nc_holds.specs.Held.{Held, LiesInBuffer, FitsSide, OwnersAgree, AreGranted, IsTaken}
 use Rattle.nc_holds.specs.Changes.{WaitsUnlent, Got, Dropped, changed}
 use Rattle.nc_holds.proofs.ListsA.{all_at, at_get, get_at, same_some}
 use Rattle.nc_holds.proofs.OwnerFacts.{Mine}
@@ -137,8 +133,8 @@ mine_got f s k mine wanted = record {
   granted = λ now i e h lent. let r = of_given k s.lots now h.lot_in in mine.granted now i e (record { lot_in = granted_given f s k r.lot now mine.granted wanted r.here r.how lent; entry = h.entry }) lent;
   pages = all_in (IsTaken s.pages) (slot_given k s.lots) (λ now h. let r = of_given k s.lots now h in taken_given s.pages k r.lot now r.how (all_at (IsTaken s.pages) s.lots r.lot mine.pages r.here));
   held = λ g h hart.
-    let is = mine.held g h hart in
-    record { lot = is.lot; i = is.i; entry = is.entry; here = record { lot_in = in_given k s.lots is.lot (no_wait s.lots is.lot (lot_waits is.lot) refl wanted is.here.lot_in is.lent) is.here.lot_in; entry = is.here.entry }; lent = is.lent; is = is.is };
+      let is = mine.held g h hart in
+      record { lot = is.lot; i = is.i; entry = is.entry; here = record { lot_in = in_given k s.lots is.lot (no_wait s.lots is.lot (lot_waits is.lot) refl wanted is.here.lot_in is.lent) is.here.lot_in; entry = is.here.entry }; lent = is.lent; is = is.is };
 }
 
 -- ---- given up

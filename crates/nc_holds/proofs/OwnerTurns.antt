@@ -1,7 +1,7 @@
 -- A turn by a hart: what it holds agrees behind it.
-use Rattle.std.proofs.Common.{◌≡◌, ℕ, zero, suc, ◌+◌, ◌<◌, ◌≤◌, Bool, true, false, List, [], ◌∷◌, length, inl, inr, refl, sym, ap, subst, ◌∙◌, arith, cond, Option, Some}
-use Rattle.std.specs.Prelude.{◌⊎◌, ◌&&◌, not, All, filter, slice_get, replicate, if◌then◌else◌}
-use Rattle.std.proofs.lemmas.Bool.{false≢true, cases_Bool}
+use Rattle.std.proofs.Common.{◌≡◌, ℕ, Bool, true, false, List, [], ◌∷◌, inl, inr, refl, sym, subst, ◌∙◌}
+use Rattle.std.specs.Prelude.{◌&&◌, not, All, if◌then◌else◌}
+use Rattle.std.proofs.lemmas.Bool.{false≢true}
 use Rattle.nc_num.specs.Places.{covers}
 use Rattle.nc_num.specs.declared.names.HartNo.{HartNo}
 use Rattle.nc_num.specs.declared.names.MapId.{MapId}
@@ -10,7 +10,6 @@ use Rattle.nc_plan.specs.Plans.{In}
 use Rattle.nc_model.specs.declared.owners.Grant.{Grant}
 use Rattle.nc_model.specs.declared.owners.Owner.{Owner}
 use Rattle.nc_model.specs.declared.owners.Owner.TheVariants as owners
-use Rattle.nc_own.specs.Books.{owner_in}
 use Rattle.nc_coherent.specs.Pages.{PageMap, IsPages, page_count}
 use Rattle.nc_coherent.specs.Pages as coherent
 use Rattle.nc_sg.specs.declared.list.Entry.{Entry}
@@ -25,20 +24,18 @@ use Rattle.nc_rules.specs.declared.steps.Turn.TheVariants as turns
 use Rattle.nc_rules.specs.Lots.{Fixed, is_lot, is_wanted, is_own, map_id, only_entry, owner_of_side}
 use Rattle.nc_rules.specs.Refusals.{buffer_of}
 use Rattle.nc_rules.specs.Turns.{is_area, those, to_side, of_those, granted, ids, set_side, pages_taken, pages_given, page_moves}
-use Rattle.nc_rules.specs.World.{owners_moved, grants_added, grants_ended, pages_moved}
-use Rattle.nc_scripts.specs.Drivers.{IsLotIn, ArePagesOf}
-use Rattle.nc_scripts.proofs.LotLaws.{lots_stay, apart_stay, its_name}
+use Rattle.nc_rules.specs.World.{owners_moved, grants_added, pages_moved}
+use Rattle.nc_scripts.specs.Drivers.{IsLotIn}
 use Rattle.nc_scripts.proofs.Lists.{all_in}
-use Rattle.nc_holds.specs.Held.{Held, AreRegions, AreLent, IsOwnedBy, IsEntryOf, FitsSide, OwnersAgree, IsGrantOf, IsTaken, PagesAgree}
-use Rattle.nc_holds.specs.Holds.{MayMovePages}
+use Rattle.nc_holds.specs.Held.{Held, AreRegions, AreLent, IsEntryOf, FitsSide, OwnersAgree, IsGrantOf, IsTaken, PagesAgree}
 use Rattle.nc_holds.specs.Changes.{AreAreas, Turned, changed, MayTurn}
 use Rattle.nc_holds.proofs.ListsA.{all_at, of_filter}
-use Rattle.nc_holds.proofs.OwnerFacts.{Knows, Mine, AllLent, TurnFits, Fits}
-use Rattle.nc_holds.proofs.OwnerMoves.{moved_off, length-moved}
+use Rattle.nc_holds.proofs.OwnerFacts.{Knows, Mine, AllLent, Fits}
+use Rattle.nc_holds.proofs.OwnerMoves.{moved_off}
 use Rattle.nc_holds.proofs.OwnerLots.{area_covers}
 use Rattle.nc_holds.proofs.OwnerSides.{owners_sided, sides_sided, pages_sided}
 use Rattle.nc_holds.proofs.OwnerEnds.{left_all, left_apart, owners_ended}
-use Rattle.nc_holds.proofs.OwnerPages.{area_entry, area_pages, taken_kept, pages_of_kept, moves_is}
+use Rattle.nc_holds.proofs.OwnerPages.{area_entry, area_pages, taken_kept, moves_is}
 use Rattle.nc_holds.proofs.OwnerLots.{apart_from, sided_from}
 use Rattle.nc_holds.proofs.GrantMoves.{of_added, new_grant, of_ended}
 use Rattle.nc_holds.proofs.GrantSides.{without_lot, not_false, granted_sided, lent_them, lends_them, held_sided, new_held, granted_ended, held_ended}

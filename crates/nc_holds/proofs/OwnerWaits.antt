@@ -1,10 +1,8 @@
 -- A lot of which an entry waits for a slot is not lent yet, behind each change too.
-use Rattle.std.proofs.Common.{◌≡◌, ℕ, Bool, true, false, List, [], ◌∷◌, ◌++◌, inl, inr, refl, sym, ap, subst, ◌∙◌, Some}
-use Rattle.std.specs.Prelude.{All, not, slice_get}
+use Rattle.std.proofs.Common.{◌≡◌, ℕ, Bool, true, false, List, [], ◌∷◌, ◌++◌, inl, refl, sym, subst, ◌∙◌}
+use Rattle.std.specs.Prelude.{All, not}
 use Rattle.std.proofs.lemmas.Bool.{false≢true}
 use Rattle.std.proofs.lemmas.List.Elements.{All-append}
-use Rattle.nc_plan.specs.Plans.{In}
-use Rattle.nc_sg.specs.declared.list.Entry.{Entry}
 use Rattle.nc_sg.specs.Lists.{waits}
 use Rattle.nc_rules.specs.declared.lots.Lot.{Lot}
 use Rattle.nc_rules.specs.declared.lots.LotId.{LotId}
@@ -20,7 +18,7 @@ use Rattle.nc_scripts.proofs.Lists.{all_in, all_to, position_any}
 use Rattle.nc_holds.specs.Held.{Held, AreLent}
 use Rattle.nc_holds.specs.Changes.{Change, Made, Got, Turned, Dropped, changed, ArePlaced, WaitsUnlent, MayTurn}
 use Rattle.nc_holds.proofs.ListsA.{all_at, none_of, get_at}
-use Rattle.nc_holds.proofs.OwnerFacts.{Knows, Fits, IsMaking}
+use Rattle.nc_holds.proofs.OwnerFacts.{Fits, IsMaking}
 use Rattle.nc_holds.proofs.OwnerLots.{area_direct, same_named, SidedBy, named, other, of_sided}
 use Rattle.nc_holds.proofs.OwnerEnds.{left_all}
 use Rattle.nc_holds.proofs.OwnerSlots.{GivenBy, kept, slotted, of_given}
