@@ -55,3 +55,5 @@ pub mod TokenWorlds
 pub mod TokenGoesOn
 pub mod MessageOwners
 pub mod EventPassed
+pub mod MessageCalls
+pub mod MessageMoves

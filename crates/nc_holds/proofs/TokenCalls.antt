@@ -186,7 +186,7 @@ none_waits : (new : List Lot) → map (λ (lot : Lot). lot.id) new ≡ [] → so
 none_waits [] e w = absurd (false≢true w)
 none_waits (lot ∷ new) e w = absurd (cc)
 
-makes_some : (o : Op) (lots : List Lot) → AreMade o lots → some_lot_waits lots ≡ true → made_names o ≡ [] → ⊥
+pub makes_some : (o : Op) (lots : List Lot) → AreMade o lots → some_lot_waits lots ≡ true → made_names o ≡ [] → ⊥
 makes_some o lots made w none =
     none_waits made.new (made.names ∙ none) (new_waits made.old made.new made.settled (subst (λ (ls : List Lot). some_lot_waits ls ≡ true) made.all w))
 
@@ -196,7 +196,7 @@ pub record Makes (o : Op) : Type 0 where
   pub free : (i : LotId) → NotWaited o i
   pub hand : NoHand o
 
-makes : (o : Op) → (made_names o ≡ [] → ⊥) → Makes o
+pub makes : (o : Op) → (made_names o ≡ [] → ⊥) → Makes o
 makes (ops.Map label buf off len dir chan) h = record { start = refl; free = λ i l e. absurd cc; hand = λ b to e. absurd cc }
 makes (ops.MapSg label entries dir chan) h = record { start = refl; free = λ i l e. absurd cc; hand = λ b to e. absurd cc }
 makes (ops.Calloc label pages chan) h = record { start = refl; free = λ i l e. absurd cc; hand = λ b to e. absurd cc }
