@@ -1,20 +1,15 @@
 -- What a step that is made, and a token that is out of its queue, does to what a hart holds.
-use Rattle.std.proofs.Common.{◌≡◌, ℕ, ◌+◌, ◌<◌, Bool, true, false, List, [], ◌∷◌, ◌++◌, length, refl, sym, ap, ◌∙◌, subst, inl, inr, Option, Some, None, Result, Ok, Err}
-use Rattle.std.specs.Prelude.{All, ◌⊎◌, if◌then◌else◌}
+use Rattle.std.proofs.Common.{◌≡◌, ℕ, ◌+◌, Bool, true, false, List, [], ◌∷◌, refl, sym, ap, subst, inl, inr, Option, Some, None, Result, Ok, Err}
+use Rattle.std.specs.Prelude.{All, if◌then◌else◌}
 use Rattle.std.proofs.lemmas.Bool.{false≢true}
 use Rattle.std.proofs.lemmas.List.Elements.{All-nil, All-head, All-tail}
 use Rattle.nc_num.specs.declared.names.HartNo.{HartNo}
 use Rattle.nc_num.specs.declared.names.Label.{Label}
-use Rattle.nc_num.specs.declared.places.Span.{Span}
-use Rattle.nc_model.specs.declared.owners.Owner.{Owner}
 use Rattle.nc_model.specs.declared.owners.Owner.TheVariants as owners
 use Rattle.nc_ops.specs.declared.ops.Op.{Op}
 use Rattle.nc_rules.specs.declared.answers.Refusal.{Refusal}
 use Rattle.nc_rules.specs.declared.answers.Refusal.TheVariants as refusals
 use Rattle.nc_rules.specs.declared.lots.Lot.{Lot}
-use Rattle.nc_rules.specs.declared.lots.LotId.{LotId}
-use Rattle.nc_rules.specs.declared.steps.Act.{Act}
-use Rattle.nc_rules.specs.declared.steps.Act.TheVariants as acts
 use Rattle.nc_rules.specs.declared.steps.Next.{Next}
 use Rattle.nc_rules.specs.declared.steps.Next.TheVariants as nexts
 use Rattle.nc_rules.specs.declared.steps.Phase.{Phase}
@@ -24,20 +19,20 @@ use Rattle.nc_rules.specs.declared.steps.Seen.TheVariants as seen
 use Rattle.nc_rules.specs.declared.steps.Step.{Step}
 use Rattle.nc_rules.specs.declared.steps.Turn.{Turn}
 use Rattle.nc_rules.specs.declared.steps.Turn.TheVariants as turns
-use Rattle.nc_rules.specs.Lots.{Fixed, lot_id, is_wanted}
+use Rattle.nc_rules.specs.Lots.{Fixed, lot_id}
 use Rattle.nc_rules.specs.Refusals.{buffer_of}
-use Rattle.nc_rules.specs.Turns.{lots_after, lots_after_both, turned}
+use Rattle.nc_rules.specs.Turns.{lots_after, lots_after_both}
 use Rattle.nc_rules.specs.Operations.{has_start, step_at}
-use Rattle.nc_rules.specs.Driver.{DriverState, Went, in_hand, next_of, next_of_op, next_in, next_act, next_rest, next_step, stays, kept, give_up, went_to, answered, stepped_to, step_answer, stepped, worked, busy, done, done_of, done_unless, done_in, lent}
+use Rattle.nc_rules.specs.Driver.{DriverState, in_hand, next_of, next_of_op, next_in, next_act, next_step, kept, answered, stepped_to, step_answer, stepped, worked, busy, done, done_of, done_unless, done_in, lent}
 use Rattle.nc_scripts.specs.Scripts.{is_act}
-use Rattle.nc_scripts.specs.Drivers.{IsLotIn, IsSettled, IsAtWork, IsPhase, IsDriver, IsOwed, turns_of, IsLentAt}
-use Rattle.nc_scripts.proofs.LotLaws.{IsPlaced, owed_stay, placed_stay}
+use Rattle.nc_scripts.specs.Drivers.{IsAtWork, IsPhase, IsDriver, IsOwed, turns_of, IsLentAt}
+use Rattle.nc_scripts.proofs.LotLaws.{owed_stay, placed_stay}
 use Rattle.nc_scripts.proofs.DriverLaws.{next_step_is}
 use Rattle.nc_holds.specs.Held.{Held, IsOwnedBy}
-use Rattle.nc_holds.specs.Changes.{Change, Turned, changed, IsPlanStep}
+use Rattle.nc_holds.specs.Changes.{Turned, changed, IsPlanStep}
 use Rattle.nc_holds.proofs.CallPlans.{ArePlanSteps}
 use Rattle.nc_holds.proofs.CallNumbers.{LastIs, IsNumbered, step_turns}
-use Rattle.nc_holds.proofs.CallShapes.{here, MakesTurn, IsQuietTurn, As, Stays, Turns, Plainly, IsCall, stays_turn, first_turn, last_turn, first_quiet, steps_stay}
+use Rattle.nc_holds.proofs.CallShapes.{here, MakesTurn, IsQuietTurn, As, Turns, Plainly, IsCall, stays_turn, first_turn, last_turn, first_quiet, steps_stay}
 use Rattle.nc_holds.proofs.CallStarts.{gives_up, just_stays, went_plan, went_lots}
 
 -- what a taken buffer needs: it was passed to this hart
@@ -69,9 +64,9 @@ same_here f m t e = ap (λ u. changed f m (Turned u)) e
 stepped_call : (ram : ℕ) (d : DriverState) (s : Held) (o : Op) (n : ℕ) (saw : Seen) (step : Step) (r : Result (Option Step) Refusal) → IsNumbered d.fixed step → CanTake d.fixed s (next_act step.act) → IsCall ram d.fixed (here s d.lots) s.slots (stepped d o n saw (Ok (Some step)) r)
 stepped_call ram d s o n saw step r is take = record {
   shape = Plainly (here s d.lots) (As refl) (Turns step.first step.last (step_answer d o saw r) (stays_turn d.fixed (here s d.lots) step.first is.first)
-    (subst (λ (m : Held). MakesTurn d.fixed m step.last) (sym (same_here d.fixed (here s d.lots) step.first is.first)) (last_by d.fixed (here s d.lots) step take is.last))
-    (inr (subst (λ (t : Turn). IsQuietTurn d.fixed d.lots t) (sym is.first) (record { ended = refl; pages = refl })))
-    (stepped_lots d n (lots_after_both step.first step.last d.lots) saw r) refl) refl;
+      (subst (λ (m : Held). MakesTurn d.fixed m step.last) (sym (same_here d.fixed (here s d.lots) step.first is.first)) (last_by d.fixed (here s d.lots) step take is.last))
+      (inr (subst (λ (t : Turn). IsQuietTurn d.fixed d.lots t) (sym is.first) (record { ended = refl; pages = refl })))
+      (stepped_lots d n (lots_after_both step.first step.last d.lots) saw r) refl) refl;
   plan = stepped_plan d n (lots_after_both step.first step.last d.lots) saw r;
 }
 
@@ -87,9 +82,9 @@ worked_call ram harts d s o saw (step ∷ rest) e h k plan =
     let later = owed_stay step.first (step.last ∷ turns_of rest) d.lots owed in
     record {
       shape = Plainly (here s d.lots) (As refl) (Turns step.first step.last (answered d o saw rest) (first_turn d.fixed (here s d.lots) step.first (step.last ∷ turns_of rest) is.first owed k.placed)
-        (last_turn d.fixed (changed d.fixed (here s d.lots) (Turned step.first)) step.last (turns_of rest) (All-head (IsPlanStep (lots_after step.first d.lots)) step rest now).last later (placed_stay step.first d.lots k.placed))
-        (inr (first_quiet ram d.fixed d.lots step.first h.lots is.first))
-        (went_lots d (lots_after_both step.first step.last d.lots) saw rest) refl) refl;
+          (last_turn d.fixed (changed d.fixed (here s d.lots) (Turned step.first)) step.last (turns_of rest) (All-head (IsPlanStep (lots_after step.first d.lots)) step rest now).last later (placed_stay step.first d.lots k.placed))
+          (inr (first_quiet ram d.fixed d.lots step.first h.lots is.first))
+          (went_lots d (lots_after_both step.first step.last d.lots) saw rest) refl) refl;
       plan = went_plan d (lots_after_both step.first step.last d.lots) saw rest (steps_stay step.last (lots_after step.first d.lots) rest (steps_stay step.first d.lots rest more));
     }
 

@@ -1,7 +1,6 @@
 -- The lots that a start step makes: they have no slot, and none is an area but that of an allocation.
-use Rattle.std.proofs.Common.{◌≡◌, ℕ, Bool, true, false, List, [], ◌∷◌, ◌++◌, length, map, flat_map, refl, sym, ap, ◌∙◌, subst, Option, Some, None, Result, Ok}
+use Rattle.std.proofs.Common.{◌≡◌, ℕ, false, List, [], ◌∷◌, ◌++◌, map, flat_map, refl, subst, Ok}
 use Rattle.std.specs.Prelude.{All, not, ◌==◌, slice_index_or}
-use Rattle.std.proofs.lemmas.Bool.{false≢true}
 use Rattle.std.proofs.lemmas.List.Elements.{All-nil, All-cons}
 use Rattle.nc_num.specs.declared.names.ChanNo.{ChanNo}
 use Rattle.nc_num.specs.declared.names.Dir.{Dir}
@@ -37,7 +36,6 @@ use Rattle.nc_rules.specs.Copies as copies
 use Rattle.nc_rules.specs.Copies.{source, target, ends_of, no_span, copy_begin}
 use Rattle.nc_rules.specs.Handing as handing
 use Rattle.nc_rules.specs.Operations.{meaning, begin}
-use Rattle.nc_scripts.specs.NewLots.{IsOwned}
 use Rattle.nc_scripts.proofs.DriverSteps.{passed}
 use Rattle.nc_scripts.proofs.NewLots.{ranges_begin, behind_ranges, behind_copy, area_is, placeable_is, behind_test, sg_none, free_none}
 

@@ -1,10 +1,9 @@
 -- The turns of plans, and of what a plan opens with.
-use Rattle.std.proofs.Common.{◌≡◌, ℕ, Bool, true, false, List, [], ◌∷◌, ◌++◌, length, map, refl, sym, ap, ◌∙◌, subst, arith, Option, Some, None}
-use Rattle.std.specs.Prelude.{◌<◌, ◌≤◌, All, find, ◌&&◌, if◌then◌else◌}
+use Rattle.std.proofs.Common.{◌≡◌, ℕ, Bool, true, false, List, [], ◌∷◌, ◌++◌, map, refl, sym, subst, Option, Some, None}
+use Rattle.std.specs.Prelude.{All, find, if◌then◌else◌}
 use Rattle.std.proofs.lemmas.Bool.{and_parts, false≢true}
 use Rattle.std.proofs.lemmas.List.Elements.{All-nil, All-cons, All-head, All-tail, All-append}
 use Rattle.nc_num.specs.declared.names.ChanNo.{ChanNo}
-use Rattle.nc_num.specs.declared.names.HartNo.{HartNo}
 use Rattle.nc_num.specs.declared.names.Label.{Label}
 use Rattle.nc_plan.specs.Plans.{In, returning}
 use Rattle.nc_plan.specs.declared.ops.HartOp.{HartOp}
@@ -17,15 +16,13 @@ use Rattle.nc_ops.specs.declared.ops.Op.TheVariants as ops
 use Rattle.nc_rules.specs.declared.lots.Kind.{Kind}
 use Rattle.nc_rules.specs.declared.lots.Kind.TheVariants as kinds
 use Rattle.nc_rules.specs.declared.lots.Lot.{Lot}
-use Rattle.nc_rules.specs.declared.lots.LotId.{LotId}
-use Rattle.nc_rules.specs.declared.steps.Act.TheVariants as acts
 use Rattle.nc_rules.specs.declared.steps.Step.{Step}
 use Rattle.nc_rules.specs.declared.steps.Turn.{Turn}
 use Rattle.nc_rules.specs.declared.steps.Turn.TheVariants as turns
 use Rattle.nc_rules.specs.Lots.{Fixed, is_lot, is_named, is_labelled, same_kind, is_synced, is_own, lot_named, only_entry, parts}
 use Rattle.nc_rules.specs.Refusals.{buffer_of}
-use Rattle.nc_rules.specs.Turns.{is_area, those}
-use Rattle.nc_rules.specs.Plans.{step, hart_step, op_steps, turning, ending, beginning, carried, token_steps, lending_end, lend_steps, return_steps}
+use Rattle.nc_rules.specs.Turns.{is_area}
+use Rattle.nc_rules.specs.Plans.{hart_step, op_steps, turning, ending, beginning, carried, token_steps, lending_end, lend_steps, return_steps}
 use Rattle.nc_plan.specs.Plans.{full}
 use Rattle.nc_rules.specs.Accesses as accesses
 use Rattle.nc_rules.specs.CacheOps as cache_ops
@@ -42,7 +39,7 @@ use Rattle.nc_rules.specs.Handing as handing
 use Rattle.nc_rules.specs.Handing.{hand_steps}
 use Rattle.nc_rules.specs.Operations.{meaning, opening, plan_of}
 use Rattle.nc_scripts.specs.Drivers.{AreApart}
-use Rattle.nc_scripts.proofs.Lists.{Found, found, all_in}
+use Rattle.nc_scripts.proofs.Lists.{found, all_in}
 use Rattle.nc_scripts.proofs.LotLaws.{its_name}
 use Rattle.nc_holds.specs.Changes.{AreAreas, IsFirstTurn, IsLastTurn, IsPlanStep}
 use Rattle.nc_holds.proofs.ListsA.{only_one}

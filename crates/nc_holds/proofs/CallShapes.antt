@@ -1,13 +1,10 @@
 -- What a call of a driver does to what its hart holds: it makes lots or gets a slot, and then it stays, gives up, or makes
 -- two turns; or it makes an area and lends it.
-use Rattle.std.proofs.Common.{◌≡◌, ℕ, ◌<◌, ◌≤◌, arith, Bool, true, false, List, [], ◌∷◌, ◌++◌, length, flat_map, refl, sym, ap, ◌∙◌, subst, inl, inr, Option, Some, None}
-use Rattle.std.specs.Prelude.{All, ◌⊎◌, ◌≢◌, if◌then◌else◌, ◌&&◌, ◌==◌, not}
-use Rattle.std.proofs.lemmas.Bool.{false≢true}
-use Rattle.std.proofs.lemmas.List.Elements.{All-nil, All-cons, All-head, All-tail}
+use Rattle.std.proofs.Common.{◌≡◌, ℕ, ◌<◌, ◌≤◌, arith, Bool, true, false, List, [], ◌∷◌, ◌++◌, flat_map, refl, sym, ap, ◌∙◌, subst, inl, inr, Option, Some, None}
+use Rattle.std.specs.Prelude.{All, ◌⊎◌}
+use Rattle.std.proofs.lemmas.List.Elements.{All-head, All-tail}
 use Rattle.nc_num.specs.declared.names.HartNo.{HartNo}
 use Rattle.nc_num.specs.declared.places.Span.{Span}
-use Rattle.nc_plan.specs.Plans.{In}
-use Rattle.nc_model.specs.declared.owners.Owner.{Owner}
 use Rattle.nc_model.specs.declared.owners.Owner.TheVariants as owners
 use Rattle.nc_ops.specs.declared.ops.Op.{Op}
 use Rattle.nc_ops.specs.declared.ops.Op.TheVariants as ops
@@ -16,20 +13,19 @@ use Rattle.nc_rules.specs.declared.lots.Kind.{Kind}
 use Rattle.nc_rules.specs.declared.lots.Kind.TheVariants as kinds
 use Rattle.nc_rules.specs.declared.lots.Lot.{Lot}
 use Rattle.nc_rules.specs.declared.lots.LotId.{LotId}
-use Rattle.nc_rules.specs.declared.steps.PageMove.{PageMove}
 use Rattle.nc_rules.specs.declared.steps.PageMove.TheVariants as pages
 use Rattle.nc_rules.specs.declared.steps.Step.{Step}
 use Rattle.nc_rules.specs.declared.steps.Turn.{Turn}
 use Rattle.nc_rules.specs.declared.steps.Turn.TheVariants as turns
 use Rattle.nc_rules.specs.Lots.{Fixed, is_lot, is_wanted, lot_waits, slots_held}
 use Rattle.nc_rules.specs.Refusals.{buffer_of}
-use Rattle.nc_rules.specs.Turns.{Moved, moved, is_area, those, lots_after, lots_after_both, ended_of, pages_of, page_move, page_moves, pages_taken, turned, given_up, without_wanted}
-use Rattle.nc_rules.specs.Driver.{DriverState, Went}
+use Rattle.nc_rules.specs.Turns.{moved, is_area, those, lots_after, lots_after_both, ended_of, pages_of, page_move, page_moves, pages_taken, turned, given_up, without_wanted}
+use Rattle.nc_rules.specs.Driver.{Went}
 use Rattle.nc_scripts.specs.Drivers.{IsLotIn, FitsKind, IsEndName, LendsFirst, lots_of, IsOwed}
 use Rattle.nc_scripts.proofs.Lists.{all_to, all_filtered}
 use Rattle.nc_scripts.proofs.LotLaws.{IsPlaced, Becomes, thinned, thins_all, named_so, its_name}
 use Rattle.nc_holds.specs.Held.{Held, AreLent, IsOwnedBy}
-use Rattle.nc_holds.specs.Changes.{Change, Made, Got, Turned, Dropped, changed, AreAreas, ArePlaced, MayTurn, MayGet, IsFirstTurn, IsLastTurn, IsPlanStep}
+use Rattle.nc_holds.specs.Changes.{Made, Got, Turned, changed, AreAreas, ArePlaced, MayTurn, MayGet, IsFirstTurn, IsLastTurn, IsPlanStep}
 use Rattle.nc_holds.proofs.OwnerFacts.{AllLent, NoAreas, TurnFits, IsMaking}
 use Rattle.nc_holds.proofs.CallPlans.{ArePlanSteps, IsOpening}
 
@@ -61,7 +57,7 @@ pub data Ends (f : Fixed) (m : Held) (went : Went) : Type 0 where
   Stays : went.driver.lots ≡ m.lots → went.moves ≡ moved [] None → Ends f m went
   Drops : (a : Answer) → went.driver.lots ≡ without_wanted m.lots → went.moves ≡ given_up m.lots a → Ends f m went
   Turns : (t u : Turn) (a : Option Answer) → MakesTurn f m t → MakesTurn f (changed f m (Turned t)) u → (u ≡ turns.Stay) ⊎ IsQuietTurn f m.lots t
-    → went.driver.lots ≡ lots_after_both t u m.lots → went.moves ≡ turned f m.lots t u a → Ends f m went
+      → went.driver.lots ≡ lots_after_both t u m.lots → went.moves ≡ turned f m.lots t u a → Ends f m went
 
 -- an area is made and lent
 pub record Allocates (ram : ℕ) (f : Fixed) (s : Held) (went : Went) : Type 0 where

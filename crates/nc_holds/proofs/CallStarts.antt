@@ -1,13 +1,11 @@
 -- What a start, and an answer to a try, does to what a hart holds.
-use Rattle.std.proofs.Common.{◌≡◌, ℕ, ◌+◌, ◌<◌, Bool, true, false, List, [], ◌∷◌, ◌++◌, length, flat_map, map, refl, sym, ap, ◌∙◌, subst, arith, inl, inr, Option, Some, None, Result, Ok, Err}
-use Rattle.std.specs.Prelude.{All, ◌||◌, nat_lt, if◌then◌else◌}
-use Rattle.std.specs.List.{list_any}
+use Rattle.std.proofs.Common.{◌≡◌, ℕ, ◌<◌, Bool, true, false, List, [], ◌∷◌, ◌++◌, length, refl, sym, ap, ◌∙◌, subst, arith, inl, Option, Some, None, Result, Ok, Err}
+use Rattle.std.specs.Prelude.{All, if◌then◌else◌}
 use Rattle.std.proofs.lemmas.Bool.{false≢true}
 use Rattle.std.proofs.lemmas.Bool.Decides.{nat_tests}
 use Rattle.std.proofs.lemmas.List.{append-nil}
 use Rattle.std.proofs.lemmas.List.Elements.{All-nil, All-cons, All-append}
-use Rattle.std.proofs.lemmas.List.Folds.{list_any-append, list_any_none}
-use Rattle.nc_num.specs.Places.{covers}
+use Rattle.std.proofs.lemmas.List.Folds.{list_any_none}
 use Rattle.nc_num.specs.declared.names.ChanNo.{ChanNo}
 use Rattle.nc_num.specs.declared.names.HartNo.{HartNo}
 use Rattle.nc_num.specs.declared.names.Label.{Label}
@@ -18,42 +16,36 @@ use Rattle.nc_model.specs.declared.owners.Owner.{Owner}
 use Rattle.nc_model.specs.declared.owners.Owner.TheVariants as owners
 use Rattle.nc_model.proofs.Faults.{passes}
 use Rattle.nc_own.specs.Books.{owner_in}
-use Rattle.nc_coherent.specs.Pages.{PageMap}
-use Rattle.nc_slots.specs.SlotWords.{holder_of}
 use Rattle.nc_ops.specs.declared.ops.Op.{Op}
 use Rattle.nc_ops.specs.declared.ops.Op.TheVariants as ops
 use Rattle.nc_rules.specs.declared.answers.Refusal.{Refusal}
-use Rattle.nc_rules.specs.declared.answers.Refusal.TheVariants as refusals
 use Rattle.nc_rules.specs.declared.lots.Lot.{Lot}
-use Rattle.nc_rules.specs.declared.lots.LotId.{LotId}
 use Rattle.nc_rules.specs.declared.steps.Act.{Act}
 use Rattle.nc_rules.specs.declared.steps.Act.TheVariants as acts
-use Rattle.nc_rules.specs.declared.steps.Next.{Next}
 use Rattle.nc_rules.specs.declared.steps.Next.TheVariants as nexts
 use Rattle.nc_rules.specs.declared.steps.Phase.{Phase}
 use Rattle.nc_rules.specs.declared.steps.Phase.TheVariants.{Steps, Search, Work}
 use Rattle.nc_rules.specs.declared.steps.Seen.{Seen}
 use Rattle.nc_rules.specs.declared.steps.Step.{Step}
 use Rattle.nc_rules.specs.declared.steps.Turn.TheVariants as turns
-use Rattle.nc_rules.specs.Lots.{Fixed, lot_id, is_wanted, lot_waits, some_lot_waits, slot_given, area_lot, slots_held}
+use Rattle.nc_rules.specs.Lots.{Fixed, lot_id, is_wanted, lot_waits, some_lot_waits, area_lot}
 use Rattle.nc_rules.specs.Refusals.{owned, owned_but, buffer_of}
-use Rattle.nc_rules.specs.Turns.{is_area, lots_after, turned}
+use Rattle.nc_rules.specs.Turns.{lots_after, turned}
 use Rattle.nc_rules.specs.Areas as areas
 use Rattle.nc_rules.specs.Operations.{meaning, has_start, begin, opening, plan_of, step_at}
-use Rattle.nc_rules.specs.Driver.{DriverState, Went, in_hand, next_of, next_of_op, next_in, next_act, next_rest, next_step, over, stays, give_up, went_to, answered, opened, searches, placed, with_lots, begun, refused_step, started, started_of, steps_done, told, told_of, told_in, told_word}
-use Rattle.nc_scripts.specs.Drivers.{IsFixed, ArePagesOf, IsLotIn, AreApart, IsSettled, AreMade, made_names, IsSearching, IsPhase, IsDriver, turns_of, IsOwed}
-use Rattle.nc_scripts.proofs.Lists.{all_to, all_left, none_any}
+use Rattle.nc_rules.specs.Driver.{DriverState, Went, in_hand, next_of, next_of_op, next_in, next_act, next_rest, stays, give_up, went_to, answered, opened, searches, placed, with_lots, begun, refused_step, started, started_of, steps_done}
+use Rattle.nc_scripts.specs.Drivers.{IsFixed, ArePagesOf, IsLotIn, AreApart, IsSettled, AreMade, IsPhase, IsDriver, turns_of, IsOwed}
+use Rattle.nc_scripts.proofs.Lists.{all_to, none_any}
 use Rattle.nc_scripts.proofs.LotLaws.{IsPlaced}
 use Rattle.nc_scripts.proofs.NewLots.{AreNew, new_is}
 use Rattle.nc_scripts.proofs.Openings.{ready, opens}
-use Rattle.nc_scripts.proofs.SlotLaws.{lots_given, apart_given, made_given}
-use Rattle.nc_scripts.proofs.EveryDriver.{IsInHand, in_hand_is, new_waits}
+use Rattle.nc_scripts.proofs.EveryDriver.{IsInHand, in_hand_is}
 use Rattle.nc_holds.specs.Held.{Held, IsOwnedBy}
-use Rattle.nc_holds.specs.Changes.{Change, Made, Got, changed, WaitsUnlent, MayMake, MayGet, IsPlanStep}
-use Rattle.nc_holds.proofs.OwnerFacts.{AllLent, NoAreas, IsMaking}
+use Rattle.nc_holds.specs.Changes.{Made, changed, IsPlanStep}
+use Rattle.nc_holds.proofs.OwnerFacts.{AllLent, IsMaking}
 use Rattle.nc_holds.proofs.CallPlans.{ArePlanSteps, plan_steps, opening_is}
-use Rattle.nc_holds.proofs.CallNew.{NewIs, Plain, OneArea, new_lots, IsHanded, handed}
-use Rattle.nc_holds.proofs.CallShapes.{here, MakesTurn, Begins, As, Makes, Gets, Ends, Stays, Drops, Turns, Allocates, Shape, Plainly, ByArea, IsCall, CanPass, stays_turn, opening_turn, steps_stay}
+use Rattle.nc_holds.proofs.CallNew.{NewIs, Plain, OneArea, new_lots, handed}
+use Rattle.nc_holds.proofs.CallShapes.{here, Begins, As, Makes, Ends, Stays, Drops, Turns, Plainly, ByArea, IsCall, CanPass, stays_turn, opening_turn, steps_stay}
 
 -- ---- rests
 

@@ -1,6 +1,6 @@
 -- What an answer to a try does to what a hart holds.
-use Rattle.std.proofs.Common.{◌≡◌, ℕ, ◌+◌, ◌<◌, Bool, true, false, List, [], ◌∷◌, ◌++◌, length, map, refl, sym, ap, ◌∙◌, subst, Option, Some, None}
-use Rattle.std.specs.Prelude.{All, nat_lt, slice_set, if◌then◌else◌}
+use Rattle.std.proofs.Common.{◌≡◌, ℕ, ◌+◌, ◌<◌, Bool, true, false, List, [], ◌∷◌, map, refl, sym, ap, ◌∙◌, subst, Option, Some, None}
+use Rattle.std.specs.Prelude.{nat_lt, slice_set, if◌then◌else◌}
 use Rattle.std.proofs.lemmas.Bool.{false≢true}
 use Rattle.std.proofs.lemmas.List.Elements.{All-nil, All-append}
 use Rattle.nc_num.specs.declared.names.HartNo.{HartNo}
@@ -9,7 +9,6 @@ use Rattle.nc_ops.specs.declared.ops.Op.{Op}
 use Rattle.nc_ops.specs.declared.ops.Op.TheVariants as ops
 use Rattle.nc_rules.specs.declared.answers.Refusal.TheVariants as refusals
 use Rattle.nc_rules.specs.declared.lots.Lot.{Lot}
-use Rattle.nc_rules.specs.declared.lots.LotId.{LotId}
 use Rattle.nc_rules.specs.declared.steps.Act.{Act}
 use Rattle.nc_rules.specs.declared.steps.Act.TheVariants as acts
 use Rattle.nc_rules.specs.declared.steps.Next.TheVariants as nexts
@@ -20,16 +19,15 @@ use Rattle.nc_rules.specs.declared.answers.Refusal.{Refusal}
 use Rattle.std.specs.Prelude.{Result, Ok, Err}
 use Rattle.nc_rules.specs.Lots.{Fixed, is_wanted, lot_waits, some_lot_waits, slot_given}
 use Rattle.nc_rules.specs.Operations.{has_start, step_at}
-use Rattle.nc_rules.specs.Driver.{DriverState, in_hand, next_of, next_of_op, next_in, next_act, next_rest, next_step, searched, searching, stays, give_up, searches, with_lots, told, told_of, told_in, told_word, missed}
-use Rattle.nc_scripts.specs.Drivers.{IsLotIn, AreApart, IsSettled, AreMade, made_names, IsSearching, IsPhase, IsDriver}
+use Rattle.nc_rules.specs.Driver.{DriverState, in_hand, next_of, next_of_op, next_in, next_act, next_rest, next_step, searched, searching, stays, give_up, searches, told, told_of, told_in, told_word}
+use Rattle.nc_scripts.specs.Drivers.{IsSettled, AreMade, made_names, IsSearching, IsPhase, IsDriver}
 use Rattle.nc_scripts.proofs.Lists.{all_to}
 use Rattle.nc_scripts.proofs.SlotLaws.{lots_given, apart_given, made_given}
 use Rattle.nc_scripts.proofs.EveryDriver.{IsInHand, in_hand_is, new_waits}
 use Rattle.nc_holds.specs.Held.{Held}
-use Rattle.nc_holds.specs.Changes.{Change, Got, changed, WaitsUnlent, MayGet, IsPlanStep}
-use Rattle.nc_holds.proofs.CallPlans.{ArePlanSteps}
+use Rattle.nc_holds.specs.Changes.{Got, changed, WaitsUnlent, IsPlanStep}
 use Rattle.nc_holds.proofs.CallShapes.{here, As, Gets, Stays, Plainly, IsCall, CanPass}
-use Rattle.nc_holds.proofs.CallStarts.{gives_up, just_stays, placed_call}
+use Rattle.nc_holds.proofs.CallStarts.{gives_up, placed_call}
 
 -- ---- what waits is of an operation that makes lots
 

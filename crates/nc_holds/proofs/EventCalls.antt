@@ -1,28 +1,21 @@
 -- A call of a driver keeps what is held, and what it moves may be moved.
-use Rattle.std.proofs.Common.{◌≡◌, ℕ, ◌<◌, Bool, true, false, List, [], ◌∷◌, ◌++◌, length, flat_map, refl, sym, ap, ◌∙◌, subst, inl, inr, Option, Some, None}
-use Rattle.std.specs.Prelude.{All, ◌⊎◌, slice_set}
+use Rattle.std.proofs.Common.{◌≡◌, ℕ, List, [], ◌∷◌, refl, sym, ap, ◌∙◌, subst, inl, Option, None}
 use Rattle.nc_num.specs.declared.names.HartNo.{HartNo}
-use Rattle.nc_num.specs.declared.places.Span.{Span}
 use Rattle.nc_model.specs.declared.owners.Grant.{Grant}
-use Rattle.nc_model.specs.declared.owners.Owner.{Owner}
 use Rattle.nc_coherent.specs.Pages.{PageMap}
-use Rattle.nc_rules.specs.declared.answers.Answer.{Answer}
 use Rattle.nc_rules.specs.declared.lots.Lot.{Lot}
-use Rattle.nc_rules.specs.declared.lots.LotId.{LotId}
-use Rattle.nc_rules.specs.declared.steps.PageMove.{PageMove}
 use Rattle.nc_rules.specs.declared.steps.Turn.{Turn}
 use Rattle.nc_rules.specs.declared.steps.Turn.TheVariants as turns
-use Rattle.nc_rules.specs.Lots.{Fixed, slots_held}
-use Rattle.nc_rules.specs.Turns.{Moved, moved, is_area, lots_after, lots_after_both, grants_of, backs_of, pages_of, turned, given_up, slots_wanted, without_wanted}
+use Rattle.nc_rules.specs.Lots.{Fixed}
+use Rattle.nc_rules.specs.Turns.{Moved, moved, lots_after, lots_after_both, grants_of, backs_of, pages_of, turned, given_up, without_wanted}
 use Rattle.nc_rules.specs.World.{owners_moved, grants_added, grants_ended, slots_back, pages_moved}
 use Rattle.nc_rules.specs.Driver.{Went}
-use Rattle.nc_holds.specs.Held.{Held, WordsAgree}
-use Rattle.nc_holds.specs.Changes.{Change, Made, Got, Turned, Dropped, changed, MayChange}
+use Rattle.nc_holds.specs.Held.{Held}
+use Rattle.nc_holds.specs.Changes.{Made, Got, Turned, Dropped, changed}
 use Rattle.nc_holds.specs.Holds.{CanAddAll, AreBack, MayMovePages}
-use Rattle.nc_holds.proofs.OwnerFacts.{Fits, IsMaking}
 use Rattle.nc_holds.proofs.WordLists.{back_join}
 use Rattle.nc_holds.proofs.WordMoves.{turned_words, dropped_words}
-use Rattle.nc_holds.proofs.CallShapes.{here, MakesTurn, IsQuietTurn, Begins, As, Makes, Gets, Ends, Stays, Drops, Turns, Allocates, Shape, Plainly, ByArea, IsCall}
+use Rattle.nc_holds.proofs.CallShapes.{MakesTurn, Begins, As, Makes, Gets, Ends, Stays, Drops, Turns, Allocates, Shape, Plainly, ByArea, IsCall}
 use Rattle.nc_holds.proofs.EventGiven.{OwnerLaws, area_made}
 use Rattle.nc_holds.proofs.EventHart.{Everyone, each_held, IsOneChange, change_stays, area_stays}
 use Rattle.nc_holds.proofs.EventMoves.{moved_by, stayed, dropped, both_turned, grants_of_both, pages_of_both, backs_both}
@@ -112,7 +105,7 @@ ends_move laws ram n h f fixed lots m went all (Turns t u a mt mu both el em) =
     subst (λ (x : Moved). MayBeMoved ram f m m.slots x) (sym em) (record {
       grants = grants_of_both ram f m t u a both (turn_grants laws ram n h f fixed lots m t all mt) (turn_grants laws ram n h f fixed lots (changed f m (Turned t)) u one mu);
       backs = subst (λ (ks : List ℕ). AreBack f.me m.slots ks) (sym (backs_both f m.lots t u a))
-        (back_join f.me m.slots (backs_of m.lots t) (backs_of (lots_after t m.lots) u) (turned_words f.me m.slots m.lots t all.words).backs (turned_words f.me s.slots s.lots u one.words).backs);
+          (back_join f.me m.slots (backs_of m.lots t) (backs_of (lots_after t m.lots) u) (turned_words f.me m.slots m.lots t all.words).backs (turned_words f.me s.slots s.lots u one.words).backs);
       pages = pages_of_both f m t u a both (turn_pages laws ram n h f fixed lots m t all mt) (turn_pages laws ram n h f fixed lots (changed f m (Turned t)) u one mu);
     })
 

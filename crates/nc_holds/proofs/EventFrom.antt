@@ -1,5 +1,5 @@
 -- All that is held in a world, as seen from the hart whose driver goes on.
-use Rattle.std.proofs.Common.{◌≡◌, ℕ, ◌<◌, List, [], ◌∷◌, length, refl, sym, ap, ◌∙◌, subst, inl, inr, Option, Some, None}
+use Rattle.std.proofs.Common.{◌≡◌, ℕ, ◌<◌, List, length, sym, ap, ◌∙◌, subst, inl, inr, Option}
 use Rattle.std.specs.Prelude.{All, ◌≢◌, slice_set}
 use Rattle.std.proofs.lemmas.Bool.{cases_eq}
 use Rattle.std.proofs.lemmas.List.{get_or-set_same, get_or-set_other, length-set}
@@ -11,7 +11,6 @@ use Rattle.nc_coherent.specs.Pages.{PageMap}
 use Rattle.nc_rules.specs.declared.lots.Lot.{Lot}
 use Rattle.nc_rules.specs.Lots.{Fixed}
 use Rattle.nc_rules.specs.Machine.{MachineState}
-use Rattle.nc_rules.specs.Turns.{Moved}
 use Rattle.nc_rules.specs.Driver.{DriverState, Went}
 use Rattle.nc_rules.specs.World.{WorldState, no_driver, driver_of, with_moves}
 use Rattle.nc_calls.specs.MachineLaws.{SameShape}
@@ -21,11 +20,11 @@ use Rattle.nc_holds.specs.Held.{Held, AreRegions, IsGrantOf, HartAgrees}
 use Rattle.nc_holds.specs.Changes.{WaitsUnlent}
 use Rattle.nc_holds.specs.Holds.{IsSetting, KnowsAlike, held_of, DriverHolds, IsHeldGrant, Holds}
 use Rattle.nc_holds.proofs.ListsA.{all_at}
-use Rattle.nc_holds.proofs.OwnerFacts.{Knows, Mine, Theirs}
+use Rattle.nc_holds.proofs.OwnerFacts.{Knows, Mine}
 use Rattle.nc_holds.proofs.CallPlans.{ArePlanSteps}
-use Rattle.nc_holds.proofs.CallShapes.{here, IsCall}
+use Rattle.nc_holds.proofs.CallShapes.{IsCall}
 use Rattle.nc_holds.proofs.EventGiven.{OwnerLaws}
-use Rattle.nc_holds.proofs.EventHart.{HasTheirs, IsTheirGrant, Everyone, agrees_mine, agrees_theirs}
+use Rattle.nc_holds.proofs.EventHart.{HasTheirs, Everyone, agrees_mine, agrees_theirs}
 use Rattle.nc_holds.proofs.EventCalls.{after_call, call_stays}
 
 -- ---- from a world
@@ -179,17 +178,17 @@ each_behind : (w : WorldState) (h g : ℕ) (machine : MachineState) (now : List 
     → OwnHolds (gone_on w h machine now went) (driver_of (gone_on w h machine now went) g) g
 each_behind w h g machine now went all go every lt = elim (cases_eq g h) [
   | inl same ↦
-    let at : h < length w.drivers = subst (λ n. h < n) (sym all.drivers) go.there in
-    subst (λ (k : ℕ). OwnHolds (gone_on w h machine now went) (driver_of (gone_on w h machine now went) k) k) (sym same)
-    (subst (λ (d : DriverState). OwnHolds (gone_on w h machine now went) d h) (sym (get_or-set_same w.drivers h went.driver no_driver at)) (own_behind w h machine now went all go every))
+      let at : h < length w.drivers = subst (λ n. h < n) (sym all.drivers) go.there in
+      subst (λ (k : ℕ). OwnHolds (gone_on w h machine now went) (driver_of (gone_on w h machine now went) k) k) (sym same)
+      (subst (λ (d : DriverState). OwnHolds (gone_on w h machine now went) d h) (sym (get_or-set_same w.drivers h went.driver no_driver at)) (own_behind w h machine now went all go every))
   | inr ne ↦ subst (λ (d : DriverState). OwnHolds (gone_on w h machine now went) d g) (sym (driver_away w h g went.driver ne)) (other_behind w h g machine now went all go every lt ne)
 ]
 
 fixed_behind : (w : WorldState) (h g : ℕ) (machine : MachineState) (now : List (Option HartNo)) (went : Went) → Holds w → GoesOn w h machine now went → (driver_of (gone_on w h machine now went) g).fixed ≡ fixed_in w g
 fixed_behind w h g machine now went all go = elim (cases_eq g h) [
   | inl same ↦
-    let at : h < length w.drivers = subst (λ n. h < n) (sym all.drivers) go.there in
-    subst (λ (k : ℕ). (driver_of (gone_on w h machine now went) k).fixed ≡ fixed_in w k) (sym same) (ap (λ (d : DriverState). d.fixed) (get_or-set_same w.drivers h went.driver no_driver at) ∙ go.fixed)
+      let at : h < length w.drivers = subst (λ n. h < n) (sym all.drivers) go.there in
+      subst (λ (k : ℕ). (driver_of (gone_on w h machine now went) k).fixed ≡ fixed_in w k) (sym same) (ap (λ (d : DriverState). d.fixed) (get_or-set_same w.drivers h went.driver no_driver at) ∙ go.fixed)
   | inr ne ↦ ap (λ (d : DriverState). d.fixed) (driver_away w h g went.driver ne)
 ]
 
@@ -198,19 +197,19 @@ grant_behind : (w : WorldState) (h : ℕ) (machine : MachineState) (now : List (
 unfolding after_call
 grant_behind w h machine now went x all go every here_x = elim (cases_eq x.id.hart.0 h) [
   | inl same ↦
-    let at : h < length w.drivers = subst (λ n. h < n) (sym all.drivers) go.there in
-    let is = every.mine.held x here_x (same ∙ sym every.me) in
-    let mine = subst (λ (d : DriverState). IsGrantOf d.fixed d.lots x) (sym (get_or-set_same w.drivers h went.driver no_driver at)) (subst (λ (f : Fixed). IsGrantOf f went.driver.lots x) (sym go.fixed) is) in
-    record {
-      hart = rw go.shape.harts (subst (λ (k : ℕ). k < length w.machine.harts) (sym same) go.there);
-      is = subst (λ (k : ℕ). IsGrantOf (driver_of (gone_on w h machine now went) k).fixed (driver_of (gone_on w h machine now went) k).lots x) (sym same) mine;
-    }
+      let at : h < length w.drivers = subst (λ n. h < n) (sym all.drivers) go.there in
+      let is = every.mine.held x here_x (same ∙ sym every.me) in
+      let mine = subst (λ (d : DriverState). IsGrantOf d.fixed d.lots x) (sym (get_or-set_same w.drivers h went.driver no_driver at)) (subst (λ (f : Fixed). IsGrantOf f went.driver.lots x) (sym go.fixed) is) in
+      record {
+        hart = rw go.shape.harts (subst (λ (k : ℕ). k < length w.machine.harts) (sym same) go.there);
+        is = subst (λ (k : ℕ). IsGrantOf (driver_of (gone_on w h machine now went) k).fixed (driver_of (gone_on w h machine now went) k).lots x) (sym same) mine;
+      }
   | inr ne ↦
-    let is = every.grants x here_x ne in
-    record {
-      hart = rw go.shape.harts is.hart;
-      is = subst (λ (d : DriverState). IsGrantOf d.fixed d.lots x) (sym (driver_away w h x.id.hart.0 went.driver ne)) is.is;
-    }
+      let is = every.grants x here_x ne in
+      record {
+        hart = rw go.shape.harts is.hart;
+        is = subst (λ (d : DriverState). IsGrantOf d.fixed d.lots x) (sym (driver_away w h x.id.hart.0 went.driver ne)) is.is;
+      }
 ]
 
 pub goes_stays : (laws : OwnerLaws) (w : WorldState) (h : ℕ) (machine : MachineState) (now : List (Option HartNo)) (went : Went) → Holds w → GoesOn w h machine now went → OwnWorld (gone_on w h machine now went)

@@ -1,6 +1,6 @@
 -- What the laws of owners, grants and pages say of one change, and those of messages, tokens and loads of one event, each
 -- in one record.
-use Rattle.std.specs.Prelude.{ℕ, ◌≡◌, ◌≢◌, ◌<◌, Bool, true, false, List, [], ◌∷◌, ◌++◌, length, All}
+use Rattle.std.specs.Prelude.{ℕ, ◌≡◌, ◌<◌, true, false, List, [], ◌∷◌, ◌++◌, length, All}
 use Rattle.nc_plan.specs.Plans.{In}
 use Rattle.nc_model.specs.declared.owners.Grant.{Grant}
 use Rattle.nc_rules.specs.declared.lots.Lot.{Lot}
@@ -41,12 +41,12 @@ pub record OwnerLaws : Type 0 where
   pub waits_stay : (ram : ℕ) (f : Fixed) (s : Held) (c : Change) → Fits ram f s c → WaitsUnlent s.lots → WaitsUnlent (changed f s c).lots
   pub area_waits : (ram : ℕ) (f : Fixed) (s : Held) (lot : Lot) → IsMaking ram f s (lot ∷ []) → is_area lot.kind ≡ true → WaitsUnlent s.lots → WaitsUnlent (area_made f s lot).lots
   pub can_add_all : (ram harts : ℕ) (f : Fixed) (s : Held) (id : LotId) → Knows ram harts f s → Mine f s → WordsAgree f.me s.slots s.lots → EachIsHeld ram f s → All (λ lot. lot_waits lot ≡ false) s.lots
-    → CanAddAll ram s.grants (grants_of f.me f.slots_at s.lots (turns.Lend id))
+      → CanAddAll ram s.grants (grants_of f.me f.slots_at s.lots (turns.Lend id))
   pub area_can_add_all : (ram harts : ℕ) (f : Fixed) (s : Held) (lot : Lot) → Knows ram harts f s → Mine f s → EachIsHeld ram f s → IsMaking ram f s (lot ∷ []) → is_area lot.kind ≡ true
-    → CanAddAll ram s.grants (grants_of f.me f.slots_at (s.lots ++ lot ∷ []) (turns.Lend lot.id))
+      → CanAddAll ram s.grants (grants_of f.me f.slots_at (s.lots ++ lot ∷ []) (turns.Lend lot.id))
   pub may_move_pages : (ram harts : ℕ) (f : Fixed) (s : Held) (t : Turn) → Knows ram harts f s → Mine f s → Fits ram f s (Turned t) → MayMovePages s.pages (pages_of s.lots t)
   pub area_may_move_pages : (ram harts : ℕ) (f : Fixed) (s : Held) (lot : Lot) → Knows ram harts f s → Mine f s → IsMaking ram f s (lot ∷ []) → is_area lot.kind ≡ true
-    → MayMovePages s.pages (pages_of (s.lots ++ lot ∷ []) (turns.Lend lot.id))
+      → MayMovePages s.pages (pages_of (s.lots ++ lot ∷ []) (turns.Lend lot.id))
 
 -- what an event is of that may happen
 pub record IsEvent (w : WorldState) (e : Event) : Type 0 where

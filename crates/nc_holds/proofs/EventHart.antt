@@ -1,21 +1,19 @@
 -- All that is held, as seen from one hart: its lots and what all share, each other hart's lots, and whose each grant is.
-use Rattle.std.proofs.Common.{◌≡◌, ℕ, ◌<◌, Bool, true, false, List, [], ◌∷◌, ◌++◌, length, flat_map, refl, sym, ap, ◌∙◌, subst, inl, inr, Option, Some, None}
-use Rattle.std.specs.Prelude.{All, ◌≢◌, ◌⊎◌, slice_set}
+use Rattle.std.proofs.Common.{◌≡◌, ℕ, ◌<◌, true, List, [], ◌∷◌, ◌++◌, length, flat_map, refl, sym, ◌∙◌, inl, inr, Some}
+use Rattle.std.specs.Prelude.{◌≢◌}
 use Rattle.std.proofs.lemmas.Bool.{cases_eq}
 use Rattle.std.proofs.lemmas.List.{length-set}
-use Rattle.nc_num.specs.declared.names.HartNo.{HartNo}
 use Rattle.nc_plan.specs.Plans.{In}
 use Rattle.nc_model.specs.declared.owners.Grant.{Grant}
 use Rattle.nc_rules.specs.declared.lots.Lot.{Lot}
-use Rattle.nc_rules.specs.declared.steps.Turn.{Turn}
 use Rattle.nc_rules.specs.declared.steps.Turn.TheVariants as turns
 use Rattle.nc_rules.specs.Lots.{Fixed, slots_held}
-use Rattle.nc_rules.specs.Turns.{is_area, backs_of, slots_wanted, lots_after}
+use Rattle.nc_rules.specs.Turns.{is_area, backs_of, slots_wanted}
 use Rattle.nc_scripts.specs.Drivers.{AreApart}
 use Rattle.nc_holds.specs.Held.{Held, EntriesAreApart, WordsAgree, IsGrantOf, HartAgrees}
-use Rattle.nc_holds.specs.Changes.{Change, Made, Got, Turned, Dropped, WaitsUnlent, changed, changed_by, MayChange}
+use Rattle.nc_holds.specs.Changes.{Change, Made, Got, Turned, Dropped, WaitsUnlent, changed, MayChange}
 use Rattle.nc_holds.specs.Holds.{KnowsAlike}
-use Rattle.nc_holds.proofs.OwnerFacts.{Knows, Mine, Fits, Theirs, IsHeldBy, EachIsHeld, IsMaking, NoAreas}
+use Rattle.nc_holds.proofs.OwnerFacts.{Knows, Mine, Fits, Theirs, IsHeldBy, EachIsHeld, IsMaking}
 use Rattle.nc_holds.proofs.WordLists.{length-back}
 use Rattle.nc_holds.proofs.WordMoves.{MakesUnplaced, words_own, words_other, turned_words}
 use Rattle.nc_holds.proofs.CallShapes.{here}

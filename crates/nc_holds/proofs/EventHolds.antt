@@ -1,33 +1,29 @@
 -- The world behind an event holds what worlds hold, and what an event moves may be moved.
-use Rattle.std.proofs.Common.{◌≡◌, ℕ, ◌<◌, ◌≤◌, Bool, true, false, List, [], ◌∷◌, length, refl, sym, ap, ◌∙◌, subst, arith, Option, Some, None}
-use Rattle.std.specs.Prelude.{All, if◌then◌else◌}
+use Rattle.std.proofs.Common.{◌≡◌, ℕ, ◌<◌, Bool, true, false, List, [], length, refl, sym, ap, ◌∙◌, subst, arith, Option, Some, None}
+use Rattle.std.specs.Prelude.{if◌then◌else◌}
 use Rattle.std.proofs.lemmas.Bool.{false≢true}
 use Rattle.std.proofs.lemmas.List.Elements.{All-nil}
 use Rattle.nc_num.specs.declared.names.HartNo.{HartNo}
 use Rattle.nc_num.specs.declared.places.Span.{Span}
-use Rattle.nc_model.specs.declared.owners.Grant.{Grant}
 use Rattle.nc_model.specs.declared.owners.Owner.{Owner}
 use Rattle.nc_model.specs.declared.touches.Touch.{Touch}
 use Rattle.nc_scen.specs.Events.{IsThere}
 use Rattle.nc_scen.specs.declared.events.Event.{Event}
-use Rattle.nc_rules.specs.declared.records.Record.{Record}
 use Rattle.nc_rules.specs.Machine.{MachineState}
-use Rattle.nc_rules.specs.Turns.{Moved, moved}
+use Rattle.nc_rules.specs.Turns.{moved}
 use Rattle.nc_rules.specs.Driver.{DriverState, Went}
 use Rattle.nc_rules.specs.Events.{enabled}
 use Rattle.nc_rules.specs.Next.{touched_by, after_outcome, performed, counted, next}
-use Rattle.nc_rules.specs.Outcomes.{Outcome, goes, runs, outcome}
+use Rattle.nc_rules.specs.Outcomes.{Outcome, outcome}
 use Rattle.nc_rules.specs.Sound.{IsMachine}
 use Rattle.nc_rules.specs.World.{WorldState, driver_of, with_moves, one_more}
 use Rattle.nc_calls.specs.MachineLaws.{SameShape}
 use Rattle.nc_scripts.specs.Scripts.{IsRangeIn}
-use Rattle.nc_scripts.specs.Drivers.{AreThere}
 use Rattle.nc_scripts.proofs.Lists.{all_to}
-use Rattle.nc_holds.specs.Held.{Held, IsGrantOf}
-use Rattle.nc_holds.specs.Holds.{IsSetting, DriverHolds, IsHeldGrant, Holds, held_of, CanAddAll, AreBack, MayMove, mover}
+use Rattle.nc_holds.specs.Holds.{DriverHolds, IsHeldGrant, Holds, held_of, AreBack, MayMove, mover}
 use Rattle.nc_holds.proofs.EventGiven.{OwnerLaws, IsEvent, EventLaws}
-use Rattle.nc_holds.proofs.EventCalls.{MayBeMoved, call_moves}
-use Rattle.nc_holds.proofs.EventFrom.{EveryoneIn, OwnHolds, OwnWorld, GoesOn, gone_on, everyone_from, fixed_in, lots_in, goes_stays}
+use Rattle.nc_holds.proofs.EventCalls.{call_moves}
+use Rattle.nc_holds.proofs.EventFrom.{OwnHolds, OwnWorld, GoesOn, gone_on, everyone_from, fixed_in, lots_in, goes_stays}
 use Rattle.nc_holds.proofs.EventSteps.{OutcomeIs, Runs, Goes, outcome_is}
 
 -- ---- counts

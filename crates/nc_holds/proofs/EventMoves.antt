@@ -1,5 +1,5 @@
 -- Two turns move at once what one after another they move.
-use Rattle.std.proofs.Common.{◌≡◌, ℕ, List, [], ◌∷◌, ◌++◌, refl, sym, ap, ◌∙◌, subst, inl, inr, Option, Some, None}
+use Rattle.std.proofs.Common.{◌≡◌, ℕ, List, [], ◌∷◌, ◌++◌, refl, sym, ap, ◌∙◌, subst, inl, inr, Option, None}
 use Rattle.std.specs.Prelude.{◌⊎◌}
 use Rattle.std.proofs.lemmas.List.{append-nil}
 use Rattle.nc_num.specs.declared.names.HartNo.{HartNo}
@@ -7,7 +7,6 @@ use Rattle.nc_num.specs.declared.names.MapId.{MapId}
 use Rattle.nc_num.specs.declared.places.Span.{Span}
 use Rattle.nc_model.specs.declared.owners.Grant.{Grant}
 use Rattle.nc_model.specs.declared.owners.Owner.{Owner}
-use Rattle.nc_model.specs.Grants.{without}
 use Rattle.nc_own.specs.Books.{transferred}
 use Rattle.nc_coherent.specs.Pages.{PageMap}
 use Rattle.nc_rules.specs.declared.answers.Answer.{Answer}

@@ -1,11 +1,10 @@
 -- A buffer whose message waits for a hart was passed to it.
-use Rattle.std.proofs.Common.{◌≡◌, ℕ, ◌<◌, Bool, true, false, List, [], ◌∷◌, length, refl, sym, ap, ◌∙◌, subst, arith, inl, inr, Option, Some, None}
-use Rattle.std.specs.Prelude.{◌≢◌, ◌⊎◌, ◌==◌}
+use Rattle.std.proofs.Common.{◌≡◌, ℕ, ◌<◌, true, length, refl, subst, arith, inl, inr, Option, Some, None}
+use Rattle.std.specs.Prelude.{◌==◌}
 use Rattle.std.proofs.lemmas.Bool.{false≢true}
 use Rattle.std.proofs.lemmas.Bool.Decides.{nat_tests}
 use Rattle.nc_num.specs.declared.names.HartNo.{HartNo}
 use Rattle.nc_num.specs.declared.places.Span.{Span}
-use Rattle.nc_model.specs.declared.owners.Owner.{Owner}
 use Rattle.nc_model.specs.declared.owners.Owner.TheVariants as owners
 use Rattle.nc_rules.specs.declared.steps.Next.{Next}
 use Rattle.nc_rules.specs.declared.steps.Next.TheVariants as nexts
@@ -19,7 +18,7 @@ use Rattle.nc_rules.specs.World.{WorldState, driver_of}
 use Rattle.nc_scripts.specs.Drivers.{NextIsThere}
 use Rattle.nc_scripts.proofs.EveryDriver.{next_there}
 use Rattle.nc_holds.specs.Held.{IsOwnedBy}
-use Rattle.nc_holds.specs.Messages.{Status, Still, Passed, IsPassed, Stage, ToIssue, IsQueued, IsWaiting, rest_of}
+use Rattle.nc_holds.specs.Messages.{Status, Still, Passed, Stage, rest_of}
 use Rattle.nc_holds.specs.Holds.{Holds, KnowsAlike}
 
 none_for : (h : ℕ) (o : Option HartNo) → o ≡ None → is_for h o ≡ true → ⊥

@@ -1,18 +1,15 @@
 -- What each event does that may happen: the machine alone goes on, or a driver goes on by one of its calls.
-use Rattle.std.proofs.Common.{◌≡◌, ℕ, ◌<◌, Bool, true, false, List, [], ◌∷◌, length, refl, sym, ap, ◌∙◌, subst, Option, Some, None}
-use Rattle.std.specs.Prelude.{All, not, ◌&&◌, is_none, is_some, slice_set}
-use Rattle.std.proofs.lemmas.Bool.{and_parts, false≢true}
+use Rattle.std.proofs.Common.{◌≡◌, ℕ, ◌<◌, Bool, true, false, List, [], length, refl, sym, ap, ◌∙◌, subst, Option, Some, None}
+use Rattle.std.specs.Prelude.{not, is_none, slice_set}
+use Rattle.std.proofs.lemmas.Bool.{and_parts}
 use Rattle.nc_num.specs.declared.names.ChanNo.{ChanNo}
 use Rattle.nc_num.specs.declared.names.HartNo.{HartNo}
-use Rattle.nc_num.specs.declared.names.Label.{Label}
 use Rattle.nc_queue.specs.declared.entry.Entry.{Entry}
 use Rattle.nc_queue.specs.declared.entry.Entry.TheVariants as entries
 use Rattle.nc_plan.specs.declared.ops.HartOp.{HartOp}
-use Rattle.nc_model.specs.declared.owners.Owner.{Owner}
 use Rattle.nc_model.specs.declared.owners.Owner.TheVariants as owners
 use Rattle.nc_model.specs.declared.touches.Touch.{Touch}
-use Rattle.nc_slots.specs.SlotWords.{holder_of, tried, tried_at}
-use Rattle.nc_scen.specs.Events.{IsThere}
+use Rattle.nc_slots.specs.SlotWords.{holder_of, tried_at}
 use Rattle.nc_scen.specs.declared.events.Event.{Event}
 use Rattle.nc_scen.specs.declared.events.Event.TheVariants as events
 use Rattle.nc_rules.specs.declared.answers.Issued.{Issued}
@@ -22,25 +19,24 @@ use Rattle.nc_rules.specs.declared.steps.Next.{Next}
 use Rattle.nc_rules.specs.declared.steps.Next.TheVariants as nexts
 use Rattle.nc_rules.specs.declared.steps.Seen.{Seen}
 use Rattle.nc_rules.specs.declared.steps.Seen.TheVariants as seen
-use Rattle.nc_rules.specs.Lots.{Fixed, lot_id}
 use Rattle.nc_rules.specs.Refusals.{buffer_of}
-use Rattle.nc_rules.specs.Machine.{MachineState, grantee_of, hart_of}
+use Rattle.nc_rules.specs.Machine.{MachineState, grantee_of}
 use Rattle.nc_rules.specs.Calls.{issue_next, issue_answer, leaving, drain_next, control_of, claim_next, take_next, may_take, io_waits}
-use Rattle.nc_rules.specs.Driver.{DriverState, Went, next_of, searching, is_script, started, told, done, lent, waits_for}
-use Rattle.nc_rules.specs.Events.{enabled, may_go_on, is_out, is_over, may_issue_step}
-use Rattle.nc_rules.specs.Outcomes.{Outcome, goes, runs, nothing, seen_of, claim_seen, start_outcome, op_outcome, claim_outcome, poll_outcome, take_outcome, step_outcome, try_outcome, got_word, told_slots, told_outcome, at_word, leaves, drain_outcome, outcome}
+use Rattle.nc_rules.specs.Driver.{Went, next_of, searching, is_script, started, told, done, lent, waits_for}
+use Rattle.nc_rules.specs.Events.{enabled, may_go_on, is_out}
+use Rattle.nc_rules.specs.Outcomes.{Outcome, goes, runs, nothing, seen_of, claim_seen, start_outcome, op_outcome, claim_outcome, poll_outcome, take_outcome, step_outcome, try_outcome, got_word, told_outcome, at_word, leaves, drain_outcome, outcome}
 use Rattle.nc_rules.specs.Records.{op_records, drain_records, try_records, told_records}
 use Rattle.nc_rules.specs.Sound.{IsMachine}
 use Rattle.nc_rules.specs.Watched.{issue_touch, poll_touch, drain_touch}
 use Rattle.nc_rules.specs.World.{WorldState, driver_of}
-use Rattle.nc_calls.specs.MachineLaws.{SameShape, IsIssue, IsMove}
+use Rattle.nc_calls.specs.MachineLaws.{SameShape}
 use Rattle.nc_calls.proofs.SoundLaws.{calls_keep_shape}
 use Rattle.nc_calls.proofs.SoundWith.{shape_same}
 use Rattle.nc_scripts.specs.Scripts.{is_act}
 use Rattle.nc_scripts.specs.Scripts as plain
-use Rattle.nc_scripts.specs.Drivers.{IsDriver, IsSeenAt, Keeps, StaysDriver}
+use Rattle.nc_scripts.specs.Drivers.{IsSeenAt, Keeps, StaysDriver}
 use Rattle.nc_scripts.proofs.EveryDriver.{drivers_stay, op_there}
-use Rattle.nc_holds.specs.Held.{Held, IsOwnedBy}
+use Rattle.nc_holds.specs.Held.{IsOwnedBy}
 use Rattle.nc_holds.specs.Holds.{DriverHolds, Holds, held_of, mover}
 use Rattle.nc_holds.proofs.CallShapes.{IsCall}
 use Rattle.nc_holds.proofs.CallStarts.{start_call}
@@ -55,7 +51,7 @@ use Rattle.nc_holds.proofs.EventFrom.{GoesOn, fixed_in}
 pub data OutcomeIs (w : WorldState) (by : Option HartNo) (o : Outcome) : Type 0 where
   Runs : (machine : MachineState) (touch : Option Touch) (records : List Record) → SameShape w.machine machine → o ≡ runs w machine touch records → OutcomeIs w by o
   Goes : (h : HartNo) (machine : MachineState) (went : Went) (now : List (Option HartNo)) (touch : Option Touch) (records : List Record) → by ≡ Some h → GoesOn w h.0 machine now went → o ≡ goes w h machine went now touch records
-    → OutcomeIs w by o
+      → OutcomeIs w by o
 
 nothing_is : (w : WorldState) (by : Option HartNo) → OutcomeIs w by (nothing w)
 nothing_is w by = Runs w.machine None [] (shape_same w.machine) refl
@@ -94,8 +90,8 @@ start_is w h g e =
     let d = holds_of w h g in
     Goes h w.machine (started (driver_of w h.0) w.owners w.pages) w.slots None [] refl
     (go_by w h w.machine w.slots (started (driver_of w h.0) w.owners w.pages) (λ n. n) g (shape_same w.machine)
-      (start_call (length w.machine.cache.ram) (length w.machine.harts) (driver_of w h.0) (held_of w h.0) d.driver d.setting.pages d.turns e)
-      ((stays_of w h g).start w.owners w.pages e d.setting.pages))
+    (start_call (length w.machine.cache.ram) (length w.machine.harts) (driver_of w h.0) (held_of w h.0) d.driver d.setting.pages d.turns e)
+    ((stays_of w h g).start w.owners w.pages e d.setting.pages))
     refl
 
 -- a step that is made
@@ -134,7 +130,7 @@ op_is w h op g e may =
     let shape = calls_keep_shape.of_issue w.machine h.0 op g.sound (record { hart = g.there; there = there; may = may }) in
     Goes h (issue_next w.machine h.0 op) (done (driver_of w h.0) (seen_of (issue_answer w.machine h.0 op))) w.slots (issue_touch w h (is_script (driver_of w h.0).phase) op) (op_records w.machine h (is_script (driver_of w h.0).phase) op) refl
     (done_go w h (issue_next w.machine h.0 op) (seen_of (issue_answer w.machine h.0 op)) g shape (acts_so (next_of (driver_of w h.0)) (nexts.Op op) e refl) (seen_op (next_of (driver_of w h.0)) (issue_answer w.machine h.0 op))
-      (no_take w h (next_of (driver_of w h.0)) (nexts.Op op) e (λ buf is. absurd (cc))))
+    (no_take w h (next_of (driver_of w h.0)) (nexts.Op op) e (λ buf is. absurd (cc))))
     refl
 
 claim_is : (w : WorldState) (h : HartNo) (chan : ChanNo) → IsGoing w h → next_of (driver_of w h.0) ≡ nexts.Claim chan → OutcomeIs w (Some h) (claim_outcome w h chan)
@@ -142,7 +138,7 @@ unfolding claim_outcome
 claim_is w h chan g e =
     Goes h (claim_next w.machine h chan.0) (done (driver_of w h.0) (claim_seen (grantee_of w.machine chan.0))) w.slots None [] refl
     (done_go w h (claim_next w.machine h chan.0) (claim_seen (grantee_of w.machine chan.0)) g (calls_keep_shape.of_claim w.machine h chan.0) (acts_so (next_of (driver_of w h.0)) (nexts.Claim chan) e refl)
-      (seen_claim (next_of (driver_of w h.0)) chan (grantee_of w.machine chan.0) e) (no_take w h (next_of (driver_of w h.0)) (nexts.Claim chan) e (λ buf is. absurd (cc))))
+    (seen_claim (next_of (driver_of w h.0)) chan (grantee_of w.machine chan.0) e) (no_take w h (next_of (driver_of w h.0)) (nexts.Claim chan) e (λ buf is. absurd (cc))))
     refl
 
 poll_is : (w : WorldState) (h : HartNo) (chan : ChanNo) → IsGoing w h → next_of (driver_of w h.0) ≡ nexts.Poll chan → OutcomeIs w (Some h) (poll_outcome w h chan)
@@ -150,7 +146,7 @@ unfolding poll_outcome
 poll_is w h chan g e =
     Goes h w.machine (done (driver_of w h.0) (seen.Control (control_of w.machine chan.0))) w.slots (poll_touch w h chan) [] refl
     (done_go w h w.machine (seen.Control (control_of w.machine chan.0)) g (shape_same w.machine) (acts_so (next_of (driver_of w h.0)) (nexts.Poll chan) e refl) tt
-      (no_take w h (next_of (driver_of w h.0)) (nexts.Poll chan) e (λ buf is. absurd (cc))))
+    (no_take w h (next_of (driver_of w h.0)) (nexts.Poll chan) e (λ buf is. absurd (cc))))
     refl
 
 takes : (w : WorldState) (h : HartNo) (buf : ℕ) → IsGoing w h → next_of (driver_of w h.0) ≡ nexts.Take buf → may_take w.machine h.0 buf ≡ true → CanTake (fixed_in w h.0) (held_of w h.0) (next_of (driver_of w h.0))
@@ -165,7 +161,7 @@ unfolding take_outcome
 take_is w h buf g e may =
     Goes h (take_next w.machine h.0 buf) (done (driver_of w h.0) seen.Nothing) w.slots None [] refl
     (done_go w h (take_next w.machine h.0 buf) seen.Nothing g (calls_keep_shape.of_take w.machine h.0 buf) (acts_so (next_of (driver_of w h.0)) (nexts.Take buf) e refl) tt
-      (takes w h buf g e (and_parts (not (io_waits w.machine h.0)) (may_take w.machine h.0 buf) may).1))
+    (takes w h buf g e (and_parts (not (io_waits w.machine h.0)) (may_take w.machine h.0 buf) may).1))
     refl
 
 step_by : (w : WorldState) (h : HartNo) (next : Next) → IsGoing w h → next_of (driver_of w h.0) ≡ next → may_go_on w h next ≡ true → OutcomeIs w (Some h) (step_outcome w h next)
@@ -192,8 +188,8 @@ got_go w h k g at free =
     let d = holds_of w h g in
     subst (λ (x : HartNo). GoesOn w h.0 w.machine (slice_set w.slots k (Some x)) (told (driver_of w h.0) true)) (me_is w h g)
     (go_by w h w.machine (slice_set w.slots k (Some (fixed_in w h.0).me)) (told (driver_of w h.0) true) (λ n. n) g (shape_same w.machine)
-      (told_call (length w.machine.cache.ram) (length w.machine.harts) (driver_of w h.0) (held_of w h.0) k true d.driver at free)
-      ((stays_of w h g).hears true))
+    (told_call (length w.machine.cache.ram) (length w.machine.harts) (driver_of w h.0) (held_of w h.0) k true d.driver at free)
+    ((stays_of w h g).hears true))
 
 try_at : (w : WorldState) (h : HartNo) (k : ℕ) (o : Option HartNo) → holder_of w.slots k ≡ o → IsGoing w h → searching (driver_of w h.0) ≡ Some k
     → OutcomeIs w (Some h) (goes w h w.machine (told (driver_of w h.0) (is_none o)) (tried_at o w.slots h k) None (try_records h k o))
@@ -225,8 +221,8 @@ leaves_so w h i (entries.Lend label first count) g e =
     let at = tokens_are_lent w h.0 i label first count g.all g.there e in
     Goes h (drain_next w.machine h.0 i) (lent (driver_of w h.0) label first) w.slots (drain_touch w h (entries.Lend label first count)) (drain_records w.machine h (entries.Lend label first count)) refl
     (go_by w h (drain_next w.machine h.0 i) w.slots (lent (driver_of w h.0) label first) (λ n. n) g (calls_keep_shape.of_drain w.machine h.0 i g.sound g.there)
-      (lent_call (length w.machine.cache.ram) (driver_of w h.0) (held_of w h.0) label first at d.turns)
-      ((stays_of w h g).lends label first at))
+    (lent_call (length w.machine.cache.ram) (driver_of w h.0) (held_of w h.0) label first at d.turns)
+    ((stays_of w h g).lends label first at))
     refl
 leaves_so w h i (entries.Store span bytes kind) g e = Runs (drain_next w.machine h.0 i) _ _ (calls_keep_shape.of_drain w.machine h.0 i g.sound g.there) refl
 leaves_so w h i (entries.Cbo block op) g e = Runs (drain_next w.machine h.0 i) _ _ (calls_keep_shape.of_drain w.machine h.0 i g.sound g.there) refl

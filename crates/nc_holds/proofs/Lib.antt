@@ -57,3 +57,4 @@ pub mod MessageOwners
 pub mod EventPassed
 pub mod MessageCalls
 pub mod MessageMoves
+pub mod EventLast

@@ -1,13 +1,12 @@
 -- What worlds hold is true at the start of an accepted scenario.
-use Rattle.std.proofs.Common.{◌≡◌, ℕ, ◌+◌, ◌*◌, ◌<◌, ◌≤◌, Bool, true, false, List, [], ◌∷◌, length, map, replicate, refl, sym, ap, ◌∙◌, subst, arith, inl, inr, Option, Some, None}
-use Rattle.std.specs.Prelude.{All, slice_index_or, if◌then◌else◌}
+use Rattle.std.proofs.Common.{◌≡◌, ℕ, ◌*◌, ◌<◌, ◌≤◌, true, List, [], ◌∷◌, length, map, replicate, refl, sym, ap, ◌∙◌, subst, arith, inl, inr, None}
+use Rattle.std.specs.Prelude.{All, if◌then◌else◌}
 use Rattle.std.specs.List.{range_with_len}
 use Rattle.std.proofs.lemmas.Bool.{cases_lt}
 use Rattle.std.proofs.lemmas.List.{get_or_past, length-map, length-replicate}
 use Rattle.std.proofs.lemmas.List.Elements.{All-nil}
 use Rattle.std.proofs.lemmas.List.FromFn.{length-map-range_with_len, get_or-map-range_with_len}
 use Rattle.nc_num.specs.declared.names.HartNo.{HartNo}
-use Rattle.nc_num.specs.declared.places.Span.{Span}
 use Rattle.nc_plan.specs.Plans.{In}
 use Rattle.nc_queue.specs.declared.entry.Entry.{Entry}
 use Rattle.nc_model.specs.declared.owners.Grant.{Grant}
@@ -17,28 +16,23 @@ use Rattle.nc_own.specs.Books.{transferred}
 use Rattle.nc_own.proofs.Follows.{length-transferred}
 use Rattle.nc_slots.specs.SlotWords.{holder_of}
 use Rattle.nc_scen.specs.Accepted.{IsAccepted}
-use Rattle.nc_scen.specs.Regions.{pool_of}
 use Rattle.nc_scen.specs.declared.scenario.BufferSpec.{BufferSpec}
 use Rattle.nc_scen.specs.declared.scenario.Scenario.{Scenario}
 use Rattle.nc_rules.specs.declared.lots.Lot.{Lot}
-use Rattle.nc_rules.specs.declared.lots.LotId.{LotId}
-use Rattle.nc_rules.specs.declared.steps.Step.{Step}
 use Rattle.nc_rules.specs.Lots.{Fixed, is_wanted, lot_waits}
 use Rattle.nc_rules.specs.Machine.{MachineState, queue_of}
 use Rattle.nc_rules.specs.Start.{first_machine, first_driver}
-use Rattle.nc_rules.specs.Start as start_of
 use Rattle.nc_rules.specs.Driver.{DriverState}
-use Rattle.nc_rules.specs.World.{WorldState, no_driver, driver_of, owned_by_harts, first_owners, hart, start}
+use Rattle.nc_rules.specs.World.{no_driver, driver_of, owned_by_harts, first_owners, hart, start}
 use Rattle.nc_calls.proofs.StartPlaces.{start_is_empty}
 use Rattle.nc_calls.proofs.SoundStart.{blank}
-use Rattle.nc_scripts.specs.Drivers.{IsDriver}
 use Rattle.nc_scripts.proofs.EveryDriver.{first_drivers}
 use Rattle.nc_holds.specs.Held.{Held, AreRegions, FitsSide, HartAgrees, IsTaken, is_holder}
 use Rattle.nc_holds.specs.Changes.{IsPlanStep}
-use Rattle.nc_holds.specs.Messages.{Quiet, HasNone, Status, Still, rest_of}
+use Rattle.nc_holds.specs.Messages.{Quiet, Status, Still, rest_of}
 use Rattle.nc_holds.specs.Rests.{TokenIsLight, RestAgrees}
-use Rattle.nc_holds.specs.Tokens.{TokensAgree, token_of}
-use Rattle.nc_holds.specs.Holds.{IsSetting, KnowsAlike, DriverHolds, IsHeldGrant, Holds, StartHolds}
+use Rattle.nc_holds.specs.Tokens.{TokensAgree}
+use Rattle.nc_holds.specs.Holds.{IsSetting, KnowsAlike, DriverHolds, IsHeldGrant, StartHolds}
 use Rattle.nc_holds.proofs.StartRegions.{regions_of_scenario}
 
 -- ---- the drivers

@@ -1,5 +1,5 @@
 -- The regions of an accepted scenario share no byte, as each driver knows them.
-use Rattle.std.proofs.Common.{◌≡◌, ℕ, ◌+◌, ◌*◌, ◌<◌, ◌≤◌, Bool, true, false, List, [], ◌∷◌, length, map, refl, sym, ap, ◌∙◌, subst, arith, inl, inr}
+use Rattle.std.proofs.Common.{◌≡◌, ℕ, ◌<◌, true, length, map, subst, arith, inl, inr}
 use Rattle.std.specs.Prelude.{All, ◌≢◌, slice_index_or}
 use Rattle.std.proofs.lemmas.Bool.{cases_lt}
 use Rattle.std.proofs.lemmas.Bool.Decides.{nat_tests}
@@ -12,10 +12,8 @@ use Rattle.nc_scen.specs.Accepted.{IsAccepted}
 use Rattle.nc_scen.specs.Regions.{IsIn, AreApart, slots_of, pool_of}
 use Rattle.nc_scen.specs.declared.scenario.BufferSpec.{BufferSpec}
 use Rattle.nc_scen.specs.declared.scenario.Scenario.{Scenario}
-use Rattle.nc_rules.specs.Lots.{Fixed}
-use Rattle.nc_rules.specs.Refusals.{buffer_of}
-use Rattle.nc_rules.specs.Start.{fixed_of, first_driver, hart_spec}
-use Rattle.nc_holds.specs.Held.{AreRegions, SharesNone, slots_span}
+use Rattle.nc_rules.specs.Start.{first_driver}
+use Rattle.nc_holds.specs.Held.{AreRegions, SharesNone}
 
 is_in : (s : Span) (x : ℕ) → covers s x ≡ true → IsIn s x
 is_in s x e = record { from = grind (arith, nat_tests); before = grind (arith, nat_tests) }

@@ -1,11 +1,11 @@
 -- How many times a slot stands in lists, and slot words that are given back one after another.
-use Rattle.std.proofs.Common.{◌≡◌, ℕ, suc, ◌+◌, ◌<◌, ◌≤◌, Bool, true, false, List, [], ◌∷◌, ◌++◌, length, flat_map, refl, sym, ap, ◌∙◌, subst, arith, cond, inl, inr, Option, Some, None}
-use Rattle.std.specs.Prelude.{All, count_by, filter, filter_map, not, is_none, is_some, ◌==◌, ◌&&◌, ◌||◌, ◌≢◌, if◌then◌else◌, slice_set, slice_index_or}
+use Rattle.std.proofs.Common.{◌≡◌, ℕ, suc, ◌+◌, Bool, true, false, List, [], ◌∷◌, ◌++◌, length, flat_map, refl, sym, ◌∙◌, subst, arith, cond, inl, inr, Option, Some, None}
+use Rattle.std.specs.Prelude.{count_by, filter, not, is_none, ◌==◌, ◌||◌, ◌≢◌, if◌then◌else◌, slice_set}
 use Rattle.std.specs.List.{list_any, cons_option}
 use Rattle.std.proofs.lemmas.Bool.{and_parts, cases_eq, false≢true, cases_lt}
 use Rattle.std.proofs.lemmas.Bool.Decides.{nat_tests}
 use Rattle.std.proofs.lemmas.List.Sums.{sum_by-append, sum_by-cons}
-use Rattle.std.proofs.lemmas.List.{get_or-set_same, get_or-set_other, get_or_past, set_past, length-set}
+use Rattle.std.proofs.lemmas.List.{get_or-set_same, get_or-set_other, get_or_past, length-set}
 use Rattle.nc_num.specs.declared.names.HartNo.{HartNo}
 use Rattle.nc_sg.specs.declared.list.Entry.{Entry}
 use Rattle.nc_sg.specs.Lists.{waits, give_slot, held}
@@ -14,7 +14,7 @@ use Rattle.nc_rules.specs.declared.lots.Lot.{Lot}
 use Rattle.nc_rules.specs.declared.lots.LotId.{LotId}
 use Rattle.nc_rules.specs.declared.lots.Side.{Side}
 use Rattle.nc_rules.specs.Lots.{is_lot, lot_waits, some_lot_waits, with_slot, slot_given, slots_held}
-use Rattle.nc_rules.specs.Turns.{with_side, set_side}
+use Rattle.nc_rules.specs.Turns.{set_side}
 use Rattle.nc_rules.specs.World.{slots_back}
 use Rattle.nc_scripts.proofs.Lists.{position_any}
 use Rattle.nc_holds.specs.Held.{times_held, is_holder}
@@ -142,8 +142,8 @@ less_by : (h : HartNo) (slots : List (Option HartNo)) (k : ℕ) (ks : List ℕ) 
 less_by h slots k ks rest all w = elim (cases_eq w k) [
   | inl same ↦ subst (λ v. times v ks + rest v ≡ counted h (slice_set slots k None) v) (sym same) (rw (freed slots k) (first_held h slots k ks rest all).1)
   | inr ne ↦
-    let none : times w (k ∷ ks) ≡ times w ks = times-cons w k ks ∙ rw (differs k w ne) (omega arith) in
-    rw (kept slots k w None ne) (subst (λ n. n + rest w ≡ counted h slots w) none (all w))
+      let none : times w (k ∷ ks) ≡ times w ks = times-cons w k ks ∙ rw (differs k w ne) (omega arith) in
+      rw (kept slots k w None ne) (subst (λ n. n + rest w ≡ counted h slots w) none (all w))
 ]
 
 pub backs_are : (h : HartNo) (slots : List (Option HartNo)) (ks : List ℕ) (rest : ℕ → ℕ) → Counts h slots ks rest → AreBack h slots ks × ((w : ℕ) → rest w ≡ counted h (slots_back slots ks) w)

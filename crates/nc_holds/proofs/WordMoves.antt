@@ -1,13 +1,11 @@
 -- The slot words agree with the lots behind each change, of the hart that changes and of each other.
-use Rattle.std.proofs.Common.{◌≡◌, ℕ, ◌+◌, ◌<◌, Bool, true, false, List, [], ◌∷◌, ◌++◌, length, flat_map, refl, sym, ap, ◌∙◌, subst, arith, inl, inr, Option, Some, None}
-use Rattle.std.specs.Prelude.{All, filter, not, ◌==◌, ◌≢◌, if◌then◌else◌, slice_set}
+use Rattle.std.proofs.Common.{◌≡◌, ℕ, ◌<◌, Bool, true, List, [], ◌++◌, length, flat_map, refl, sym, ap, ◌∙◌, subst, arith, inl, inr, Option, Some, None}
+use Rattle.std.specs.Prelude.{filter, not, ◌≢◌, slice_set}
 use Rattle.std.proofs.lemmas.Bool.{cases_eq}
 use Rattle.std.proofs.lemmas.List.{get_or-set_same}
 use Rattle.nc_num.specs.declared.names.HartNo.{HartNo}
 use Rattle.nc_slots.specs.SlotWords.{holder_of}
 use Rattle.nc_rules.specs.declared.lots.Lot.{Lot}
-use Rattle.nc_rules.specs.declared.lots.LotId.{LotId}
-use Rattle.nc_rules.specs.declared.lots.Side.{Side}
 use Rattle.nc_rules.specs.declared.lots.Side.TheVariants as sides
 use Rattle.nc_rules.specs.declared.steps.Turn.{Turn}
 use Rattle.nc_rules.specs.declared.steps.Turn.TheVariants as turns
@@ -15,9 +13,9 @@ use Rattle.nc_rules.specs.Lots.{Fixed, is_lot, is_wanted, some_lot_waits, slot_g
 use Rattle.nc_rules.specs.Turns.{lots_after, backs_of, set_side, slots_wanted, without_wanted}
 use Rattle.nc_rules.specs.World.{slots_back}
 use Rattle.nc_holds.specs.Held.{Held, times_held, is_holder, WordsAgree}
-use Rattle.nc_holds.specs.Changes.{Change, Made, Got, Turned, Dropped, changed, MayChange, MayGet}
+use Rattle.nc_holds.specs.Changes.{Change, Made, Got, Turned, Dropped, changed, MayChange}
 use Rattle.nc_holds.specs.Holds.{AreBack}
-use Rattle.nc_holds.proofs.WordLists.{times, times_join, times_split, slots_sided, times_given, counted, own_hart, other_hart, self, differs, kept, Counts, backs_are, others_stay, length-back}
+use Rattle.nc_holds.proofs.WordLists.{times, times_join, times_split, slots_sided, times_given, counted, own_hart, other_hart, self, differs, kept, Counts, backs_are, others_stay}
 
 -- what is given back, and that the words agree behind it
 pub record GivesBack (h : HartNo) (slots : List (Option HartNo)) (ks : List ℕ) (lots : List Lot) : Type 0 where
@@ -59,12 +57,12 @@ got_at : (h : HartNo) (slots : List (Option HartNo)) (k w : ℕ) (lots : List Lo
     → times_held w (slot_given k lots) ≡ counted h (slice_set slots k (Some h)) w
 got_at h slots k w lots lt free waits all = elim (cases_eq w k) [
   | inl same ↦
-    let none = none_there h slots k (times_held k lots) free (all k) in
-    let one : times_held k (slot_given k lots) ≡ 1 = times_given k k lots waits ∙ rw (self k) (omega (arith, none)) in
-    subst (λ v. times_held v (slot_given k lots) ≡ counted h (slice_set slots k (Some h)) v) (sym same) (one ∙ rw (get_or-set_same slots k (Some h) None lt, own_hart h) refl)
+      let none = none_there h slots k (times_held k lots) free (all k) in
+      let one : times_held k (slot_given k lots) ≡ 1 = times_given k k lots waits ∙ rw (self k) (omega (arith, none)) in
+      subst (λ v. times_held v (slot_given k lots) ≡ counted h (slice_set slots k (Some h)) v) (sym same) (one ∙ rw (get_or-set_same slots k (Some h) None lt, own_hart h) refl)
   | inr ne ↦
-    let stays : times_held w (slot_given k lots) ≡ times_held w lots = times_given w k lots waits ∙ rw (differs k w ne) (omega arith) in
-    stays ∙ all w ∙ rw (kept slots k w (Some h) ne) refl
+      let stays : times_held w (slot_given k lots) ≡ times_held w lots = times_given w k lots waits ∙ rw (differs k w ne) (omega arith) in
+      stays ∙ all w ∙ rw (kept slots k w (Some h) ne) refl
 ]
 
 got_other : (g h : HartNo) (slots : List (Option HartNo)) (k w : ℕ) → g.0 ≢ h.0 → k < length slots → holder_of slots k ≡ None → is_holder g (holder_of (slice_set slots k (Some h)) w) ≡ is_holder g (holder_of slots w)
