@@ -1,4 +1,18 @@
-pub mod Agrees
+pub mod WordLists
+pub mod WordMoves
+mod ListsA
+mod OwnerFacts
+pub mod CallPlans
+pub mod CallNew
+pub mod CallNumbers
+pub mod CallShapes
+pub mod CallStarts
+pub mod CallTold
+pub mod CallDone
+pub mod EventGiven
+pub mod EventHart
+pub mod EventMoves
+pub mod EventCalls
 pub mod ListsC
 pub mod QuietSteps
 pub mod TokenLots
@@ -11,11 +25,36 @@ pub mod TokenKeeps
 pub mod TokenCalls
 pub mod TokenDone
 pub mod MessageWorlds
+mod OwnerMoves
+mod OwnerLots
+mod OwnerSides
+mod GrantMoves
+mod GrantSides
+mod PageMaps
+mod OwnerPages
+mod OwnerEnds
+mod OwnerTurns
+mod OwnerBegins
+mod OwnerMade
+mod OwnerSlots
+mod OwnerLaws
+mod OwnerAreas
+mod GrantWords
+mod GrantAdds
+mod GrantLists
+mod OwnerWaits
+pub mod EventFrom
+pub mod EventSteps
+pub mod EventHolds
+pub mod StartRegions
+pub mod StartHolds
+mod OwnerGiven
 pub mod TokenHarts
 pub mod TokenEvents
 pub mod TokenWorlds
 pub mod TokenGoesOn
 pub mod MessageOwners
+pub mod EventPassed
 pub mod MessageCalls
 pub mod MessageMoves
 pub mod MessageRests
@@ -25,3 +64,4 @@ pub mod MessageStarts
 pub mod MessageEvents
 pub mod MessageGoesOn
 pub mod MessageLaws
+pub mod EventLast

@@ -1,14 +1,7 @@
 -- What a driver's call changes of what is held, as a list of changes one after another. This project's own.
-use Rattle.std.specs.Prelude.{ℕ, ◌≡◌, ◌<◌, Bool, true, false, List, [], ◌∷◌, ◌++◌, Option, Some, None, All, Ok, slice_set}
-use Rattle.nc_num.specs.Places.{covers}
+use Rattle.std.specs.Prelude.{ℕ, ◌≡◌, ◌<◌, true, false, List, [], ◌∷◌, ◌++◌, Some, None, All, Ok, slice_set}
 use Rattle.nc_num.specs.declared.names.HartNo.{HartNo}
-use Rattle.nc_num.specs.declared.places.Span.{Span}
-use Rattle.nc_model.specs.Rights.{is_thread}
-use Rattle.nc_model.specs.declared.owners.Grant.{Grant}
-use Rattle.nc_model.specs.declared.owners.Owner.{Owner}
 use Rattle.nc_model.specs.declared.owners.Owner.TheVariants as owners
-use Rattle.nc_own.specs.Books.{owner_in}
-use Rattle.nc_coherent.specs.Pages.{PageMap}
 use Rattle.nc_ops.specs.declared.ops.Op.{Op}
 use Rattle.nc_slots.specs.SlotWords.{holder_of}
 use Rattle.nc_rules.specs.declared.lots.Lot.{Lot}
