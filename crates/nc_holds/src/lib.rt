@@ -7,4 +7,4 @@
 
 mod laws;
 
-pub use laws::{moves_may_be_made, tokens_are_lent, worlds_begin};
+pub use laws::{events_keep_holding, moves_may_be_made, tokens_are_lent, worlds_begin};
