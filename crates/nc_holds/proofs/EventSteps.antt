@@ -43,7 +43,7 @@ use Rattle.nc_holds.proofs.CallStarts.{start_call}
 use Rattle.nc_holds.proofs.CallTold.{told_call}
 use Rattle.nc_holds.proofs.CallDone.{CanTake, done_call, lent_call}
 use Rattle.nc_holds.proofs.TokenGoesOn.{tokens_are_lent}
-use Rattle.nc_holds.proofs.EventPassed.{take_is_passed}
+use Rattle.nc_holds.proofs.MessageLaws.{take_is_passed}
 use Rattle.nc_holds.proofs.EventGiven.{IsEvent}
 use Rattle.nc_holds.proofs.EventFrom.{GoesOn, fixed_in}
 

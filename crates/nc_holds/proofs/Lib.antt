@@ -54,7 +54,6 @@ pub mod TokenEvents
 pub mod TokenWorlds
 pub mod TokenGoesOn
 pub mod MessageOwners
-pub mod EventPassed
 pub mod MessageCalls
 pub mod MessageMoves
 pub mod MessageRests

@@ -1,9 +1,9 @@
 -- Lists: what stands in them behind a push and a removal, and filters of which one or none passes.
-use Rattle.std.specs.Prelude.{All, Some, None, filter, remove, slice_get, ◌⊎◌}
+use Rattle.std.specs.Prelude.{All, Some, filter, remove, slice_get, ◌⊎◌}
 use Rattle.std.specs.List.{list_any}
 use Rattle.std.proofs.Common.{◌≡◌, ℕ, zero, suc, Bool, true, false, List, [], ◌∷◌, ◌++◌, refl, sym, ap, ◌∙◌, inl, inr, subst, cond}
-use Rattle.std.proofs.lemmas.Bool.{cases_Bool, both_ways, cond-true, cond-false, or_parts, or_left, or_right, or_cases}
-use Rattle.std.proofs.lemmas.List.Elements.{All-nil, All-cons, All-head, All-tail, filter-append}
+use Rattle.std.proofs.lemmas.Bool.{cases_Bool, both_ways, cond-true, cond-false, or_parts}
+use Rattle.std.proofs.lemmas.List.Elements.{All-head, All-tail, filter-append}
 use Rattle.nc_plan.specs.Plans.{In}
 
 pub in_pushed : {X : Type 0} (e x : X) (q : List X) → In e (q ++ x ∷ []) → In e q ⊎ (x ≡ e)

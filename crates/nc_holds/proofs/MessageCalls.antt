@@ -1,12 +1,11 @@
 -- The owner of a byte that is passed stays through the calls of a driver, but for the take of its buffer.
-use Rattle.std.specs.Prelude.{All, Option, Some, None, Result, Ok, Err, nat_lt, nat_le, ◌<◌, ◌≤◌, ◌&&◌, flat_map, if◌then◌else◌}
-use Rattle.std.proofs.Common.{◌≡◌, ℕ, ◌+◌, Bool, true, false, List, [], ◌∷◌, ◌++◌, length, map, refl, sym, ap, ◌∙◌, subst, arith, inl, inr}
-use Rattle.std.proofs.lemmas.Bool.{false≢true, cases_Bool}
+use Rattle.std.specs.Prelude.{All, Option, Some, None, Result, Ok, Err, ◌<◌, ◌≤◌, flat_map, if◌then◌else◌}
+use Rattle.std.proofs.Common.{◌≡◌, ℕ, ◌+◌, Bool, true, false, List, [], ◌∷◌, ◌++◌, map, refl, sym, ap, ◌∙◌, arith}
+use Rattle.std.proofs.lemmas.Bool.{false≢true}
 use Rattle.std.proofs.lemmas.Bool.Decides.{nat_tests}
 use Rattle.std.proofs.lemmas.List.Elements.{All-nil, All-cons, All-head, All-tail, All-append}
 use Rattle.nc_num.specs.Places.{covers}
 use Rattle.nc_num.specs.declared.names.HartNo.{HartNo}
-use Rattle.nc_num.specs.declared.names.Label.{Label}
 use Rattle.nc_num.specs.declared.places.Span.{Span}
 use Rattle.nc_model.proofs.Faults.{covers-low, covers-high}
 use Rattle.nc_model.specs.Rights.{is_thread}
@@ -17,41 +16,29 @@ use Rattle.nc_coherent.specs.Pages.{PageMap}
 use Rattle.nc_sg.specs.declared.list.Entry.{Entry}
 use Rattle.nc_ops.specs.declared.ops.Op.{Op}
 use Rattle.nc_rules.specs.declared.answers.Refusal.{Refusal}
-use Rattle.nc_rules.specs.declared.answers.Refusal.TheVariants as refusals
 use Rattle.nc_rules.specs.declared.lots.Kind.{Kind}
 use Rattle.nc_rules.specs.declared.lots.Kind.TheVariants as kinds
 use Rattle.nc_rules.specs.declared.lots.Lot.{Lot}
 use Rattle.nc_rules.specs.declared.lots.LotId.{LotId}
-use Rattle.nc_rules.specs.declared.steps.Next.{Next}
 use Rattle.nc_rules.specs.declared.steps.Next.TheVariants as nexts
-use Rattle.nc_rules.specs.declared.steps.Phase.{Phase}
-use Rattle.nc_rules.specs.declared.steps.Phase.TheVariants.{Steps, Search, Work}
-use Rattle.nc_rules.specs.declared.steps.Seen.{Seen}
-use Rattle.nc_rules.specs.declared.steps.Seen.TheVariants as seen
 use Rattle.nc_rules.specs.declared.steps.Step.{Step}
-use Rattle.nc_rules.specs.declared.steps.Turn.{Turn}
 use Rattle.nc_rules.specs.declared.steps.Turn.TheVariants as turns
-use Rattle.nc_rules.specs.Lots.{Fixed, lot_id, some_lot_waits, slot_given}
+use Rattle.nc_rules.specs.Lots.{Fixed, some_lot_waits}
 use Rattle.nc_rules.specs.Refusals.{buffer_of}
-use Rattle.nc_rules.specs.Turns.{is_area, transfers_of, turned, turned_by}
-use Rattle.nc_rules.specs.Handing.{take_step}
-use Rattle.nc_rules.specs.Operations.{step_at, has_start, begin, opening, plan_of}
-use Rattle.nc_rules.specs.Driver.{DriverState, Went, in_hand, next_of, next_of_op, next_in, next_step, next_act, stays, kept, give_up, opened, searches, placed, with_lots, begun, refused_step, steps_done, started, started_of, told, told_of, told_in, told_word, busy, stepped, worked, done, done_of, done_unless, done_in, lent}
-use Rattle.nc_scripts.specs.Scripts.{is_act}
-use Rattle.nc_scripts.specs.Drivers.{IsInPool, FitsKind, IsLotIn, ArePagesOf, IsSettled, IsSearching, IsPhase, IsDriver}
+use Rattle.nc_rules.specs.Turns.{is_area}
+use Rattle.nc_rules.specs.Operations.{step_at, has_start, begin, opening}
+use Rattle.nc_rules.specs.Driver.{DriverState, in_hand, next_of, next_of_op, stays, opened, searches, placed, with_lots, begun, refused_step, steps_done, started, started_of}
+use Rattle.nc_scripts.specs.Drivers.{IsInPool, FitsKind, IsLotIn, ArePagesOf, IsSettled, IsDriver}
 use Rattle.nc_scripts.specs.NewLots.{IsOwned, AreOwned, own_ranges, AreFree}
-use Rattle.nc_scripts.proofs.DriverLaws.{next_step_is}
 use Rattle.nc_scripts.proofs.EveryDriver.{IsInHand, in_hand_is}
 use Rattle.nc_scripts.proofs.FreeLots.{new_lots_are_free}
 use Rattle.nc_scripts.proofs.Lists.{all_to}
 use Rattle.nc_scripts.proofs.NewLots.{AreNew, new_is}
-use Rattle.nc_scripts.proofs.SlotLaws.{lots_given}
 use Rattle.nc_holds.specs.Held.{AreRegions, OwnersAgree}
 use Rattle.nc_holds.specs.Rests.{RestAgrees}
-use Rattle.nc_holds.proofs.MessageOwners.{Spares, IsOff, IsFreeLot, AreOff, turned_off, given_off, passing_off}
-use Rattle.nc_holds.proofs.MessageSteps.{Numbered, Quietly, Takes, numbered}
-use Rattle.nc_holds.proofs.TokenPlans.{OfLots, NoHand}
-use Rattle.nc_holds.proofs.TokenCalls.{HandsNone, start_at, makes_some, makes}
+use Rattle.nc_holds.proofs.MessageOwners.{Spares, IsOff, IsFreeLot, AreOff, turned_off, passing_off}
+use Rattle.nc_holds.proofs.TokenPlans.{NoHand}
+use Rattle.nc_holds.proofs.TokenCalls.{HandsNone, start_at}
 use Rattle.nc_holds.proofs.TokenCopies.{opens_so}
 
 -- a byte of a buffer that is passed

@@ -1,15 +1,9 @@
 -- Messages after a step of a driver.
-use Rattle.std.specs.Prelude.{All, Option, Some, None, ◌<◌, ◌⊎◌, ◌==◌, ◌&&◌, not, slice_set, slice_index_or, if◌then◌else◌}
-use Rattle.std.proofs.Common.{◌≡◌, ◌≢◌, ℕ, Bool, true, false, List, [], ◌∷◌, ◌++◌, length, refl, sym, ap, ◌∙◌, subst, arith, inl, inr}
-use Rattle.std.proofs.lemmas.Bool.{false≢true, cases_Bool, cases_eq, eq-eqb, ne_eqb, and_parts}
-use Rattle.std.proofs.lemmas.Bool.Decides.{nat_tests}
-use Rattle.std.proofs.lemmas.List.{get_or-set_same, get_or-set_other}
+use Rattle.std.specs.Prelude.{Option, Some, None, ◌<◌, ◌==◌, slice_index_or, if◌then◌else◌}
+use Rattle.std.proofs.Common.{◌≡◌, ℕ, Bool, true, false, List, [], ◌∷◌, ◌++◌, length, refl, sym, ap, ◌∙◌, subst, inl, inr}
+use Rattle.std.proofs.lemmas.Bool.{false≢true, cases_Bool, cases_eq}
 use Rattle.nc_num.specs.Places.{covers}
-use Rattle.nc_num.specs.declared.names.ChanNo.{ChanNo}
 use Rattle.nc_num.specs.declared.names.HartNo.{HartNo}
-use Rattle.nc_num.specs.declared.places.Span.{Span}
-use Rattle.nc_model.specs.declared.owners.Owner.{Owner}
-use Rattle.nc_model.specs.declared.owners.Owner.TheVariants as owners
 use Rattle.nc_queue.specs.QueueState.{QueueState}
 use Rattle.nc_queue.specs.declared.entry.Entry.{Entry}
 use Rattle.nc_queue.specs.declared.entry.Entry.TheVariants as entries
@@ -20,38 +14,31 @@ use Rattle.nc_plan.specs.declared.ops.IoTarget.TheVariants as io
 use Rattle.nc_hart.specs.HartState.{HartState}
 use Rattle.nc_hart.specs.Issue.{entry_of, io_entry, marker, marks, payload, pushed}
 use Rattle.nc_rules.specs.declared.answers.Issued.{Issued}
-use Rattle.nc_rules.specs.declared.records.Record.{Record}
 use Rattle.nc_rules.specs.declared.steps.Act.{Act}
-use Rattle.nc_rules.specs.declared.steps.Act.TheVariants as acts
 use Rattle.nc_rules.specs.declared.steps.Next.{Next}
 use Rattle.nc_rules.specs.declared.steps.Next.TheVariants as nexts
 use Rattle.nc_rules.specs.declared.steps.Seen.{Seen}
-use Rattle.nc_rules.specs.declared.steps.Seen.TheVariants as seen
 use Rattle.nc_rules.specs.declared.steps.Step.{Step}
-use Rattle.nc_rules.specs.Lots.{Fixed}
-use Rattle.nc_rules.specs.Machine.{MachineState, no_hart, hart_of, queue_of, box_of, grantee_of}
-use Rattle.nc_rules.specs.Calls.{io_waits, is_for, may_take, issue_next, issue_answer, claim_next, take_next, control_of}
+use Rattle.nc_rules.specs.Machine.{MachineState, hart_of, queue_of, box_of}
+use Rattle.nc_rules.specs.Calls.{issue_next}
 use Rattle.nc_rules.specs.Refusals.{buffer_of}
-use Rattle.nc_rules.specs.Driver.{DriverState, Went, next_of, next_act, started, done}
-use Rattle.nc_rules.specs.World.{WorldState, driver_of, owners_moved}
-use Rattle.nc_rules.specs.Events.{may_go_on}
-use Rattle.nc_rules.specs.Outcomes.{seen_of, claim_seen, step_outcome, start_outcome, op_outcome, claim_outcome, poll_outcome, take_outcome}
+use Rattle.nc_rules.specs.Driver.{DriverState, next_of, next_act, done}
+use Rattle.nc_rules.specs.World.{WorldState, driver_of}
+use Rattle.nc_rules.specs.Outcomes.{seen_of}
 use Rattle.nc_scripts.specs.Scripts.{is_act}
-use Rattle.nc_scripts.specs.Drivers.{IsSeenAt, Keeps}
+use Rattle.nc_scripts.specs.Drivers.{IsSeenAt}
 use Rattle.nc_scripts.proofs.EveryDriver.{drivers_stay}
-use Rattle.nc_holds.specs.Held.{IsOwnedBy}
-use Rattle.nc_holds.specs.Messages.{is_mail, is_mail_to, is_mail_op, mails, mail_steps, mail_act, rest_of, Status}
-use Rattle.nc_holds.specs.Holds.{Holds, DriverHolds}
+use Rattle.nc_holds.specs.Messages.{is_mail, is_mail_to, is_mail_op, mails, mail_steps, mail_act, Status}
 use Rattle.nc_holds.proofs.ListsC.{last_gone, last_kept}
 use Rattle.nc_holds.proofs.MessageOwners.{Spares}
 use Rattle.nc_holds.proofs.MessageCalls.{IsPassing}
 use Rattle.nc_holds.proofs.MessageMoves.{TakesOther, done_off}
-use Rattle.nc_holds.proofs.MessageRests.{mail_next, MailGoes, MailsLeft, done_mails}
-use Rattle.nc_holds.proofs.MessageStatus.{Stays, status_kept, status_issued, status_taken}
+use Rattle.nc_holds.proofs.MessageRests.{mail_next, done_mails}
+use Rattle.nc_holds.proofs.MessageStatus.{status_kept, status_issued}
 use Rattle.nc_holds.proofs.MessageGoes.{GoesOn, rest_here, rest_away, steps_stay, owners_stay, lots_off, turns_lots}
-use Rattle.nc_holds.proofs.MessageStarts.{AllStatus, none_moves, start_messages}
-use Rattle.nc_holds.proofs.MessageWorlds.{Comes, SameHarts, same_harts, claim_same, take_harts, take_boxes, Issues, issue_is}
-use Rattle.nc_holds.proofs.TokenWorlds.{At, here, seen_at, claim_at, hart_same}
+use Rattle.nc_holds.proofs.MessageStarts.{AllStatus}
+use Rattle.nc_holds.proofs.MessageWorlds.{SameHarts, issue_is}
+use Rattle.nc_holds.proofs.TokenWorlds.{At, here, seen_at, hart_same}
 
 -- ---- the entry of an operation
 

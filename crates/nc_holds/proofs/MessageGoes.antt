@@ -1,6 +1,6 @@
 -- A driver goes on: the drivers, what is left of their plans, and the owners of bytes that are passed.
-use Rattle.std.specs.Prelude.{All, Option, Some, None, ◌<◌, slice_set, slice_index_or}
-use Rattle.std.proofs.Common.{◌≡◌, ◌≢◌, ℕ, zero, suc, Bool, true, false, List, [], ◌∷◌, length, refl, sym, ap, ◌∙◌, subst, arith, inl, inr}
+use Rattle.std.specs.Prelude.{All, ◌<◌, slice_set, slice_index_or}
+use Rattle.std.proofs.Common.{◌≡◌, ◌≢◌, ℕ, zero, suc, true, List, [], ◌∷◌, length, sym, ap, ◌∙◌, subst, arith, inl, inr}
 use Rattle.std.proofs.lemmas.Bool.{cases_eq}
 use Rattle.std.proofs.lemmas.List.{get_or-set_same, get_or-set_other}
 use Rattle.nc_num.specs.Places.{covers}
@@ -22,7 +22,6 @@ use Rattle.nc_scripts.proofs.Lists.{all_to}
 use Rattle.nc_holds.specs.Held.{IsOwnedBy}
 use Rattle.nc_holds.specs.Changes.{IsFirstTurn, IsLastTurn, IsPlanStep}
 use Rattle.nc_holds.specs.Messages.{mail_steps, rest_of}
-use Rattle.nc_holds.specs.Holds.{Holds, DriverHolds, KnowsAlike}
 use Rattle.nc_holds.proofs.MessageOwners.{Spares, AreOff, owner_moved_off, passing_off}
 use Rattle.nc_holds.proofs.MessageCalls.{IsPassing}
 use Rattle.nc_holds.proofs.MessageMoves.{TurnsLots}

@@ -1,29 +1,21 @@
 -- Messages after every event that may happen.
-use Rattle.std.specs.Prelude.{All, Option, Some, None, ◌<◌, ◌⊎◌, ◌==◌, ◌&&◌, not, is_some, is_none, remove, slice_get, slice_set, slice_index_or}
-use Rattle.std.proofs.Common.{◌≡◌, ◌≢◌, ℕ, Bool, true, false, List, [], ◌∷◌, ◌++◌, length, refl, sym, ap, ◌∙◌, subst, arith, inl, inr}
-use Rattle.std.proofs.lemmas.Bool.{false≢true, cases_Bool, cases_eq, eq-eqb, ne_eqb, and_parts}
+use Rattle.std.specs.Prelude.{Option, Some, None, ◌<◌, is_some, is_none, slice_set, slice_index_or}
+use Rattle.std.proofs.Common.{◌≡◌, ◌≢◌, ℕ, Bool, true, false, List, [], ◌∷◌, length, refl, sym, ap, ◌∙◌, subst, arith, inl, inr}
+use Rattle.std.proofs.lemmas.Bool.{false≢true, cases_eq, eq-eqb, ne_eqb, and_parts}
 use Rattle.std.proofs.lemmas.Bool.Decides.{nat_tests}
-use Rattle.std.proofs.lemmas.List.{get_or-set_same, get_or-set_other, length-set}
+use Rattle.std.proofs.lemmas.List.{get_or-set_same, get_or-set_other}
 use Rattle.nc_num.specs.Places.{covers}
-use Rattle.nc_num.specs.declared.names.ChanNo.{ChanNo}
 use Rattle.nc_num.specs.declared.names.HartNo.{HartNo}
 use Rattle.nc_num.specs.declared.names.Label.{Label}
-use Rattle.nc_num.specs.declared.places.Span.{Span}
 use Rattle.nc_model.specs.declared.owners.Owner.{Owner}
 use Rattle.nc_model.specs.declared.owners.Owner.TheVariants as owners
-use Rattle.nc_model.specs.declared.touches.Touch.{Touch}
 use Rattle.nc_own.specs.Books.{owner_in}
 use Rattle.nc_queue.specs.declared.entry.Entry.{Entry}
 use Rattle.nc_queue.specs.declared.entry.Entry.TheVariants as entries
-use Rattle.nc_plan.specs.Plans.{In}
 use Rattle.nc_hart.specs.HartState.{HartState}
 use Rattle.nc_slots.specs.SlotWords.{holder_of}
-use Rattle.nc_scen.specs.declared.events.Event.{Event}
-use Rattle.nc_scen.specs.declared.events.Event.TheVariants as events
-use Rattle.nc_scen.specs.Events.{IsThere}
 use Rattle.nc_ops.specs.declared.ops.Op.{Op}
 use Rattle.nc_rules.specs.declared.lots.LotId.{LotId}
-use Rattle.nc_rules.specs.declared.records.Record.{Record}
 use Rattle.nc_rules.specs.declared.steps.Act.{Act}
 use Rattle.nc_rules.specs.declared.steps.Act.TheVariants as acts
 use Rattle.nc_rules.specs.declared.steps.Next.{Next}
@@ -33,39 +25,30 @@ use Rattle.nc_rules.specs.declared.steps.Phase.TheVariants.{Steps, Search, Work}
 use Rattle.nc_rules.specs.declared.steps.Seen.{Seen}
 use Rattle.nc_rules.specs.declared.steps.Seen.TheVariants as seen
 use Rattle.nc_rules.specs.declared.steps.Step.{Step}
-use Rattle.nc_rules.specs.Lots.{Fixed, lot_id}
-use Rattle.nc_rules.specs.Machine.{MachineState, no_hart, hart_of, queue_of, box_of, channel_of, grantee_of}
-use Rattle.nc_rules.specs.Calls.{io_waits, is_for, may_take, leaving, drain_next, issue_next, issue_answer, claim_next, take_next, control_of}
+use Rattle.nc_rules.specs.Machine.{MachineState, queue_of, box_of, grantee_of}
+use Rattle.nc_rules.specs.Calls.{is_for, may_take, drain_next, issue_answer, claim_next, take_next, control_of}
 use Rattle.nc_rules.specs.Refusals.{buffer_of}
-use Rattle.nc_rules.specs.Sound.{IsMachine}
-use Rattle.nc_rules.specs.Driver.{DriverState, Went, in_hand, next_of, next_of_op, next_in, next_rest, next_act, searched, searching, waits_for, started, told, done, lent}
+use Rattle.nc_rules.specs.Driver.{DriverState, in_hand, next_of, next_of_op, next_in, next_rest, next_act, searched, searching, told, done, lent}
 use Rattle.nc_rules.specs.World.{WorldState, no_driver, driver_of, owners_moved}
-use Rattle.nc_rules.specs.Events.{enabled, is_out, may_go_on}
-use Rattle.nc_rules.specs.Outcomes.{Outcome, outcome, seen_of, claim_seen, step_outcome, start_outcome, op_outcome, claim_outcome, poll_outcome, take_outcome, at_word, got_word, try_outcome, told_outcome, leaves, drain_outcome}
-use Rattle.nc_rules.specs.Next.{next}
-use Rattle.nc_calls.specs.MachineLaws.{SameDevices}
-use Rattle.nc_calls.specs.PlaceLaws.{Drains, QueueLoses, DevicesAfter, BoxIs, ChannelIs}
-use Rattle.nc_calls.proofs.DrainPlaces.{drain_is}
+use Rattle.nc_rules.specs.Events.{may_go_on}
+use Rattle.nc_rules.specs.Outcomes.{Outcome, seen_of, claim_seen, step_outcome, start_outcome, op_outcome, claim_outcome, poll_outcome, take_outcome, at_word, got_word, try_outcome, told_outcome}
+use Rattle.nc_calls.specs.PlaceLaws.{Drains}
 use Rattle.nc_scripts.specs.Scripts.{is_act}
-use Rattle.nc_scripts.specs.Drivers.{IsSeenAt, IsLentAt}
+use Rattle.nc_scripts.specs.Drivers.{IsSeenAt}
 use Rattle.nc_scripts.proofs.EveryDriver.{drivers_stay}
 use Rattle.nc_holds.specs.Held.{IsOwnedBy}
-use Rattle.nc_holds.specs.Messages.{is_mail, mails, mail_steps, rest_of, Status, MessagesAgree}
+use Rattle.nc_holds.specs.Messages.{is_mail, mails, mail_steps, rest_of, Status}
 use Rattle.nc_holds.specs.Rests.{RestAt, RestAgrees}
-use Rattle.nc_holds.specs.Holds.{Holds, DriverHolds}
-use Rattle.nc_holds.proofs.ListsC.{in_got, none_here, other_removed, one_removed}
-use Rattle.nc_holds.proofs.MessageOwners.{Spares}
-use Rattle.nc_holds.proofs.MessageCalls.{IsPassing}
+use Rattle.nc_holds.proofs.ListsC.{none_here, other_removed, one_removed}
 use Rattle.nc_holds.proofs.MessageMoves.{TakesOther, told_off, lent_off}
-use Rattle.nc_holds.proofs.MessageRests.{mail_next, MailsLeft, done_mails}
-use Rattle.nc_holds.proofs.MessageStatus.{Stays, OneHart, status_kept, status_sent, status_taken, IsGiven, given_from}
-use Rattle.nc_holds.proofs.MessageGoes.{GoesOn, rest_away, steps_stay, buffer_alike, owners_stay, lots_off}
+use Rattle.nc_holds.proofs.MessageRests.{mail_next, done_mails}
+use Rattle.nc_holds.proofs.MessageStatus.{status_kept, status_sent, status_taken}
+use Rattle.nc_holds.proofs.MessageGoes.{GoesOn, steps_stay, owners_stay, lots_off}
 use Rattle.nc_holds.proofs.MessageStarts.{AllStatus, none_moves, start_messages}
 use Rattle.nc_holds.proofs.MessageEvents.{done_fixed, done_spares, still_step, op_messages}
-use Rattle.nc_holds.proofs.MessageWorlds.{Comes, comes, SameHarts, same_harts, fill_same, evict_same, read_same, write_same, claim_same, take_harts, take_boxes}
-use Rattle.nc_holds.proofs.TokenCalls.{Before, told_leaves}
-use Rattle.nc_holds.proofs.TokenGoesOn.{lent_at}
-use Rattle.nc_holds.proofs.TokenWorlds.{At, here, world_so, seen_at, claim_at, hart_same}
+use Rattle.nc_holds.proofs.MessageWorlds.{Comes, same_harts, claim_same, take_harts, take_boxes}
+use Rattle.nc_holds.proofs.TokenCalls.{told_leaves}
+use Rattle.nc_holds.proofs.TokenWorlds.{At, here, seen_at, claim_at, hart_same}
 
 -- ---- a take
 
@@ -96,20 +79,20 @@ take_messages w n h buf a e may k b lt =
     let s = here w h a in
     let acts : is_act (next_of (driver_of w h.0)) ≡ true = ap is_act e in
     let steps : (g : ℕ) → mail_steps b (rest_of n g) ≡ mail_steps b (rest_of w g)
-        = steps_stay w n h (take_next w.machine h.0 buf) (done (driver_of w h.0) seen.Nothing) b a k ((done_mails (driver_of w h.0) seen.Nothing b s.rest acts tt).other (ap (mail_next b) e)) in
+    = steps_stay w n h (take_next w.machine h.0 buf) (done (driver_of w h.0) seen.Nothing) b a k ((done_mails (driver_of w h.0) seen.Nothing b s.rest acts tt).other (ap (mail_next b) e)) in
     let queue : (g : ℕ) → mails b (queue_of n.machine g) ≡ mails b (queue_of w.machine g)
-        = λ g. ap (λ (v : MachineState). mails b (queue_of v g)) k.machine ∙ ap (λ (t : HartState). mails b t.queue.entries) (hart_same w.machine (take_next w.machine h.0 buf) g (take_harts w.machine h.0 buf)) in
+    = λ g. ap (λ (v : MachineState). mails b (queue_of v g)) k.machine ∙ ap (λ (t : HartState). mails b t.queue.entries) (hart_same w.machine (take_next w.machine h.0 buf) g (take_harts w.machine h.0 buf)) in
     elim (cases_eq b buf) [
       | inl same ↦ status_taken w n b h steps queue (ap (box_of w.machine) same ∙ for_hart h (box_of w.machine buf) may)
           (ap (λ (v : MachineState). box_of v b) k.machine ∙ ap (λ (bs : List (Option HartNo)). slice_index_or bs b None) (take_boxes w.machine h.0 buf may)
           ∙ subst (λ (c : ℕ). slice_index_or (slice_set w.machine.boxes c None) b None ≡ None) same (get_or-set_same w.machine.boxes b None None lt))
           (a.holds.messages b lt)
       | inr ne ↦ status_kept w n b (record {
-          steps = steps;
-          queue = queue;
-          box_is = take_none w n h buf a k may b ne;
-          owners = owners_stay w n h (take_next w.machine h.0 buf) (done (driver_of w h.0) seen.Nothing) b a k (done_spares w h seen.Nothing b a acts (λ x on. other_take w h buf b x a e ne on));
-        }) (a.holds.messages b lt)
+        steps = steps;
+        queue = queue;
+        box_is = take_none w n h buf a k may b ne;
+        owners = owners_stay w n h (take_next w.machine h.0 buf) (done (driver_of w h.0) seen.Nothing) b a k (done_spares w h seen.Nothing b a acts (λ x on. other_take w h buf b x a e ne on));
+      }) (a.holds.messages b lt)
     ]
 
 -- ---- a step
@@ -236,17 +219,17 @@ pub mail_leaves : (w n : WorldState) (h : HartNo) (i buf : ℕ) (to : HartNo) �
 mail_leaves w n h i buf to a u out m b lt = elim (cases_eq b buf) [
   | inr ne ↦ unmoved_status w n h i (entries.Mail buf to) b a u out (ne_eqb buf b (λ e. ne (sym e))) m (out.devices.others b ne) lt
   | inl same ↦ subst (λ (c : ℕ). Status n c) (sym same) (status_sent w n buf h.0 to
-    (record {
-      steps = λ g ne. ap (mail_steps buf) (unmoved_rest w n g u);
-      queue = λ g ne. ap (λ (v : MachineState). mails buf (queue_of v g)) m ∙ ap (mails buf) (out.queues.others g ne);
-    })
-    (ap (mail_steps buf) (unmoved_rest w n h.0 u))
-    (λ none. none_here (is_mail buf) (queue_of w.machine h.0) i (entries.Mail buf to) none out.queues.stood (eq-eqb buf buf refl))
-    (λ x one. let it = one_removed (is_mail buf) (queue_of w.machine h.0) i (entries.Mail buf to) x one out.queues.stood (eq-eqb buf buf refl) in
-        (it.0, ap (λ (v : MachineState). mails buf (queue_of v h.0)) m ∙ ap (mails buf) out.queues.own ∙ it.1))
-    (ap (λ (v : MachineState). box_of v buf) m ∙ out.devices.box)
-    (unmoved_owners w n buf u)
-    (a.holds.messages buf (subst (λ (c : ℕ). c < length w.machine.boxes) same lt)))
+      (record {
+        steps = λ g ne. ap (mail_steps buf) (unmoved_rest w n g u);
+        queue = λ g ne. ap (λ (v : MachineState). mails buf (queue_of v g)) m ∙ ap (mails buf) (out.queues.others g ne);
+      })
+      (ap (mail_steps buf) (unmoved_rest w n h.0 u))
+      (λ none. none_here (is_mail buf) (queue_of w.machine h.0) i (entries.Mail buf to) none out.queues.stood (eq-eqb buf buf refl))
+      (λ x one. let it = one_removed (is_mail buf) (queue_of w.machine h.0) i (entries.Mail buf to) x one out.queues.stood (eq-eqb buf buf refl) in
+      (it.0, ap (λ (v : MachineState). mails buf (queue_of v h.0)) m ∙ ap (mails buf) out.queues.own ∙ it.1))
+      (ap (λ (v : MachineState). box_of v buf) m ∙ out.devices.box)
+      (unmoved_owners w n buf u)
+      (a.holds.messages buf (subst (λ (c : ℕ). c < length w.machine.boxes) same lt)))
 ]
 
 pub token_leaves : (w n : WorldState) (h : HartNo) (i : ℕ) (label : Label) (first count : ℕ) → At w h → Drains w.machine (drain_next w.machine h.0 i) h.0 i (entries.Lend label first count) → GoesOn w n h (drain_next w.machine h.0 i) (lent (driver_of w h.0) label first) → AllStatus w n

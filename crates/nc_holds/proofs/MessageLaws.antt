@@ -1,8 +1,7 @@
 -- Messages go on; and a message that is taken is of a buffer that is passed to the hart.
-use Rattle.std.specs.Prelude.{Option, Some, None, ◌<◌, is_some, slice_set, slice_index_or}
-use Rattle.std.proofs.Common.{◌≡◌, ◌≢◌, ℕ, Bool, true, false, List, [], ◌∷◌, length, refl, sym, ap, ◌∙◌, subst, arith, inl, inr}
+use Rattle.std.specs.Prelude.{Option, Some, None, ◌<◌, is_some}
+use Rattle.std.proofs.Common.{◌≡◌, ℕ, Bool, true, List, length, refl, ap, ◌∙◌, subst, arith}
 use Rattle.std.proofs.lemmas.Bool.{false≢true, and_parts}
-use Rattle.std.proofs.lemmas.List.{length-set}
 use Rattle.nc_num.specs.declared.names.HartNo.{HartNo}
 use Rattle.nc_num.specs.declared.places.Span.{Span}
 use Rattle.nc_model.specs.declared.owners.Owner.TheVariants as owners
@@ -16,30 +15,27 @@ use Rattle.nc_scen.specs.Events.{IsThere}
 use Rattle.nc_rules.specs.declared.records.Record.{Record}
 use Rattle.nc_rules.specs.declared.steps.Next.{Next}
 use Rattle.nc_rules.specs.declared.steps.Next.TheVariants as nexts
-use Rattle.nc_rules.specs.Lots.{Fixed, lot_id}
 use Rattle.nc_rules.specs.Machine.{MachineState, queue_of, box_of}
-use Rattle.nc_rules.specs.Calls.{may_take, leaving, drain_next, take_next, claim_next}
+use Rattle.nc_rules.specs.Calls.{may_take, leaving, drain_next}
 use Rattle.nc_rules.specs.Refusals.{buffer_of}
 use Rattle.nc_rules.specs.Sound.{IsMachine}
-use Rattle.nc_rules.specs.Driver.{DriverState, next_of, searching, waits_for, lent}
+use Rattle.nc_rules.specs.Driver.{next_of, searching, waits_for}
 use Rattle.nc_rules.specs.World.{WorldState, driver_of}
 use Rattle.nc_rules.specs.Events.{enabled, is_out, may_go_on}
 use Rattle.nc_rules.specs.Outcomes.{Outcome, outcome, step_outcome, start_outcome, op_outcome, claim_outcome, poll_outcome, take_outcome, at_word, try_outcome, told_outcome, leaves, drain_outcome}
 use Rattle.nc_rules.specs.Next.{next}
-use Rattle.nc_calls.specs.MachineLaws.{SameShape}
-use Rattle.nc_calls.specs.PlaceLaws.{Drains}
 use Rattle.nc_calls.proofs.DrainPlaces.{drain_is}
 use Rattle.nc_calls.proofs.SoundLaws.{calls_keep_shape}
 use Rattle.nc_scripts.proofs.EveryDriver.{drivers_stay}
 use Rattle.nc_holds.specs.Held.{IsOwnedBy}
-use Rattle.nc_holds.specs.Messages.{mails, mail_steps, rest_of, Status, MessagesAgree}
-use Rattle.nc_holds.specs.Holds.{Holds, DriverHolds}
+use Rattle.nc_holds.specs.Messages.{mails, mail_steps, MessagesAgree}
+use Rattle.nc_holds.specs.Holds.{Holds}
 use Rattle.nc_holds.proofs.ListsC.{in_got}
-use Rattle.nc_holds.proofs.MessageGoes.{GoesOn, buffer_alike}
+use Rattle.nc_holds.proofs.MessageGoes.{buffer_alike}
 use Rattle.nc_holds.proofs.MessageGoesOn.{for_hart, Unmoved, unmoved_status, unmoved_rest, unmoved_owners, mail_leaves, token_leaves, step_messages, at_word_messages, try_messages, told_messages, same_boxes}
 use Rattle.nc_holds.proofs.MessageStarts.{AllStatus}
-use Rattle.nc_holds.proofs.MessageStatus.{status_kept, IsGiven, given_from}
-use Rattle.nc_holds.proofs.MessageWorlds.{Comes, comes, SameHarts, same_harts, fill_same, evict_same, read_same, write_same, claim_same, issue_is}
+use Rattle.nc_holds.proofs.MessageStatus.{status_kept, given_from}
+use Rattle.nc_holds.proofs.MessageWorlds.{Comes, comes, SameHarts, fill_same, evict_same, read_same, write_same, claim_same, issue_is}
 use Rattle.nc_holds.proofs.TokenGoesOn.{lent_at}
 use Rattle.nc_holds.proofs.TokenWorlds.{At, here, world_so, hart_same}
 

@@ -1,8 +1,8 @@
 -- The owner of a byte that is passed stays through a slot word, a step and a token; and the messages that a step leaves.
-use Rattle.std.specs.Prelude.{All, Option, Some, None, Result, Ok, Err, nat_lt, if◌then◌else◌}
-use Rattle.std.proofs.Common.{◌≡◌, ℕ, ◌+◌, Bool, true, false, List, [], ◌∷◌, ◌++◌, length, refl, sym, ap, ◌∙◌, subst, inl, inr}
+use Rattle.std.specs.Prelude.{All, Option, Some, None, Result, Ok, nat_lt, if◌then◌else◌}
+use Rattle.std.proofs.Common.{◌≡◌, ℕ, ◌+◌, Bool, true, false, List, [], ◌∷◌, refl, sym, ap, ◌∙◌, subst}
 use Rattle.std.proofs.lemmas.Bool.{false≢true}
-use Rattle.std.proofs.lemmas.List.Elements.{All-nil, All-cons, All-head, All-tail}
+use Rattle.std.proofs.lemmas.List.Elements.{All-nil, All-cons, All-head}
 use Rattle.nc_num.specs.Places.{covers}
 use Rattle.nc_num.specs.declared.names.Label.{Label}
 use Rattle.nc_num.specs.declared.places.Span.{Span}
@@ -12,9 +12,6 @@ use Rattle.nc_ops.specs.declared.ops.Op.{Op}
 use Rattle.nc_rules.specs.declared.answers.Answer.{Answer}
 use Rattle.nc_rules.specs.declared.answers.Refusal.{Refusal}
 use Rattle.nc_rules.specs.declared.answers.Refusal.TheVariants as refusals
-use Rattle.nc_rules.specs.declared.lots.Lot.{Lot}
-use Rattle.nc_rules.specs.declared.steps.Act.{Act}
-use Rattle.nc_rules.specs.declared.steps.Act.TheVariants as acts
 use Rattle.nc_rules.specs.declared.steps.Next.{Next}
 use Rattle.nc_rules.specs.declared.steps.Next.TheVariants as nexts
 use Rattle.nc_rules.specs.declared.steps.Phase.{Phase}
@@ -24,20 +21,16 @@ use Rattle.nc_rules.specs.declared.steps.Seen.TheVariants as seen
 use Rattle.nc_rules.specs.declared.steps.Step.{Step}
 use Rattle.nc_rules.specs.declared.steps.Turn.{Turn}
 use Rattle.nc_rules.specs.declared.steps.Turn.TheVariants as turns
-use Rattle.nc_rules.specs.Lots.{Fixed, lot_id, slot_given}
+use Rattle.nc_rules.specs.Lots.{lot_id, slot_given}
 use Rattle.nc_rules.specs.Refusals.{buffer_of}
 use Rattle.nc_rules.specs.Turns.{turned, turned_by}
-use Rattle.nc_rules.specs.Handing.{take_step}
 use Rattle.nc_rules.specs.Operations.{step_at, has_start}
-use Rattle.nc_rules.specs.Driver.{DriverState, Went, in_hand, next_of, next_of_op, next_in, next_step, next_rest, next_act, stays, kept, give_up, went_to, searches, told, told_of, told_in, told_word, busy, stepped_to, stepped, step_answer, worked, done, done_of, done_unless, done_in, lent}
+use Rattle.nc_rules.specs.Driver.{DriverState, in_hand, next_of, next_of_op, next_in, next_step, next_act, stays, kept, give_up, searches, told, told_of, told_in, told_word, busy, stepped, step_answer, worked, done, done_of, done_unless, done_in, lent}
 use Rattle.nc_scripts.specs.Scripts.{is_act}
-use Rattle.nc_scripts.specs.Drivers.{IsSearching, IsPhase, IsDriver, IsSeenAt, is_claim}
+use Rattle.nc_scripts.specs.Drivers.{IsSearching, IsPhase, IsDriver}
 use Rattle.nc_scripts.proofs.DriverLaws.{next_step_is}
 use Rattle.nc_scripts.proofs.EveryDriver.{in_hand_is}
 use Rattle.nc_scripts.proofs.SlotLaws.{lots_given}
-use Rattle.nc_holds.specs.Messages.{is_mail_op, is_mail_act, mail_steps}
-use Rattle.nc_holds.specs.Rests.{ClaimsAlone, RestAgrees}
-use Rattle.nc_holds.proofs.ListsC.{first_kept, first_gone}
 use Rattle.nc_holds.proofs.MessageOwners.{Spares, AreOff, turned_off, given_off}
 use Rattle.nc_holds.proofs.MessageSteps.{Numbered, Quietly, Takes, numbered}
 use Rattle.nc_holds.proofs.MessageCalls.{placed_off}

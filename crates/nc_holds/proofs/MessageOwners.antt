@@ -1,26 +1,18 @@
 -- A byte that no entry of a hart's lots covers keeps its owner through the hart's turns of lots.
-use Rattle.std.specs.Prelude.{All, Option, Some, None, filter, flat_map, ◌<◌, ◌≤◌, ◌&&◌, if◌then◌else◌, slice_get}
-use Rattle.std.proofs.Common.{◌≡◌, ℕ, ◌+◌, Bool, true, false, List, [], ◌∷◌, ◌++◌, length, map, refl, sym, ap, ◌∙◌, subst, arith, inl, inr, cond}
-use Rattle.std.proofs.lemmas.Bool.{false≢true, cases_Bool}
-use Rattle.std.proofs.lemmas.Bool.Decides.{nat_tests}
+use Rattle.std.specs.Prelude.{All, Option, Some, ◌<◌, if◌then◌else◌}
+use Rattle.std.proofs.Common.{◌≡◌, ℕ, ◌+◌, Bool, true, false, List, [], ◌∷◌, length, refl, sym, ap, ◌∙◌, arith, cond}
 use Rattle.std.proofs.lemmas.List.Elements.{All-nil, All-cons, All-head, All-tail, All-append, All-map}
 use Rattle.nc_num.specs.Places.{covers}
 use Rattle.nc_num.specs.declared.names.HartNo.{HartNo}
 use Rattle.nc_num.specs.declared.names.MapId.{MapId}
 use Rattle.nc_num.specs.declared.places.Span.{Span}
-use Rattle.nc_model.proofs.Faults.{covers-low, covers-high}
-use Rattle.nc_model.specs.Rights.{is_thread}
 use Rattle.nc_model.specs.declared.owners.Owner.{Owner}
 use Rattle.nc_model.specs.declared.owners.Owner.TheVariants as owners
 use Rattle.nc_own.specs.Books.{owner_in, transferred}
 use Rattle.nc_own.proofs.Follows.{length-transferred, owner_in-transferred}
-use Rattle.nc_plan.specs.Plans.{In}
-use Rattle.nc_coherent.specs.Pages.{PageMap}
 use Rattle.nc_sg.specs.declared.list.Entry.{Entry}
 use Rattle.nc_sg.specs.Lists.{waits, give_slot}
 use Rattle.nc_rules.specs.declared.answers.Answer.{Answer}
-use Rattle.nc_rules.specs.declared.lots.Kind.{Kind}
-use Rattle.nc_rules.specs.declared.lots.Kind.TheVariants as kinds
 use Rattle.nc_rules.specs.declared.lots.Lot.{Lot}
 use Rattle.nc_rules.specs.declared.lots.LotId.{LotId}
 use Rattle.nc_rules.specs.declared.lots.Side.{Side}
@@ -28,15 +20,12 @@ use Rattle.nc_rules.specs.declared.lots.Side.TheVariants as sides
 use Rattle.nc_rules.specs.declared.steps.Turn.{Turn}
 use Rattle.nc_rules.specs.declared.steps.Turn.TheVariants as turns
 use Rattle.nc_rules.specs.Lots.{Fixed, is_lot, map_id, each_from, owner_of_side, lot_waits, with_slot, slot_given}
-use Rattle.nc_rules.specs.Refusals.{buffer_of}
-use Rattle.nc_rules.specs.Turns.{is_area, last_owner, to_side, to_end, of_those, those, lots_after, transfers_of, turned, turned_by}
+use Rattle.nc_rules.specs.Turns.{last_owner, to_side, to_end, of_those, those, lots_after, transfers_of, turned, turned_by}
 use Rattle.nc_rules.specs.World.{owners_moved}
-use Rattle.nc_scripts.specs.Drivers.{IsInPool, FitsKind, IsLotIn}
-use Rattle.nc_scripts.specs.NewLots.{IsOwned, AreOwned, own_ranges, AreFree}
-use Rattle.nc_scripts.proofs.Lists.{all_filtered, all_joined, all_in, all_both}
+use Rattle.nc_scripts.proofs.Lists.{all_filtered, all_joined, all_in}
 use Rattle.nc_scripts.proofs.LotLaws.{Becomes, thinned, thins_all}
-use Rattle.nc_holds.specs.Held.{AreRegions, OwnersAgree}
-use Rattle.nc_holds.proofs.ListsC.{in_all, at_in}
+use Rattle.nc_holds.specs.Held.{OwnersAgree}
+use Rattle.nc_holds.proofs.ListsC.{at_in}
 use Rattle.nc_holds.proofs.TokenPlans.{OfLots}
 
 -- no span of these covers the byte

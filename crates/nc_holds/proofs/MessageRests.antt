@@ -1,9 +1,8 @@
 -- The messages that a driver still has to issue, through a step; and the start of a hand.
-use Rattle.std.specs.Prelude.{All, Option, Some, None, Result, Ok, Err, ◌==◌, if◌then◌else◌}
-use Rattle.std.proofs.Common.{◌≡◌, ℕ, ◌+◌, Bool, true, false, List, [], ◌∷◌, ◌++◌, length, refl, sym, ap, ◌∙◌, subst, inl, inr}
+use Rattle.std.specs.Prelude.{All, Option, Some, None, Result, Ok, Err, if◌then◌else◌}
+use Rattle.std.proofs.Common.{◌≡◌, ℕ, ◌+◌, Bool, true, false, List, [], ◌∷◌, refl, sym, ap, ◌∙◌, subst}
 use Rattle.std.proofs.lemmas.Bool.{false≢true}
 use Rattle.std.proofs.lemmas.List.Folds.{list_any_none}
-use Rattle.std.proofs.lemmas.List.Elements.{All-nil, All-cons, All-head, All-tail}
 use Rattle.nc_num.specs.declared.names.HartNo.{HartNo}
 use Rattle.nc_num.specs.declared.places.Span.{Span}
 use Rattle.nc_model.proofs.Faults.{passes}
@@ -16,7 +15,6 @@ use Rattle.nc_coherent.specs.Pages.{PageMap}
 use Rattle.nc_ops.specs.declared.ops.Op.{Op}
 use Rattle.nc_ops.specs.declared.ops.Op.TheVariants as ops
 use Rattle.nc_rules.specs.declared.answers.Refusal.{Refusal}
-use Rattle.nc_rules.specs.declared.answers.Refusal.TheVariants as refusals
 use Rattle.nc_rules.specs.declared.lots.Lot.{Lot}
 use Rattle.nc_rules.specs.declared.steps.Act.{Act}
 use Rattle.nc_rules.specs.declared.steps.Act.TheVariants as acts
@@ -27,17 +25,16 @@ use Rattle.nc_rules.specs.declared.steps.Phase.TheVariants.{Steps, Search, Work}
 use Rattle.nc_rules.specs.declared.steps.Seen.{Seen}
 use Rattle.nc_rules.specs.declared.steps.Seen.TheVariants as seen
 use Rattle.nc_rules.specs.declared.steps.Step.{Step}
-use Rattle.nc_rules.specs.declared.steps.Turn.TheVariants as turns
 use Rattle.nc_rules.specs.Lots.{Fixed, lot_waits, some_lot_waits}
 use Rattle.nc_rules.specs.Refusals.{◌>>=◌, buffer_of, owned, owned_but}
-use Rattle.nc_rules.specs.Turns.{lots_after, turned, turned_by}
+use Rattle.nc_rules.specs.Turns.{turned_by}
 use Rattle.nc_rules.specs.Handing as handing
 use Rattle.nc_rules.specs.Handing.{hand_steps}
 use Rattle.nc_rules.specs.Operations.{meaning, step_at, has_start, begin, opening, plan_of}
-use Rattle.nc_rules.specs.Driver.{DriverState, Went, in_hand, next_of, next_of_op, next_in, next_step, next_rest, next_act, stays, kept, give_up, went_to, opened, searches, placed, with_lots, begun, started, started_of, started_op, busy, stepped_to, stepped, worked, done, done_of, done_unless, done_in}
+use Rattle.nc_rules.specs.Driver.{DriverState, Went, in_hand, next_of, next_of_op, next_in, next_rest, next_act, stays, kept, went_to, opened, searches, placed, with_lots, begun, started, started_of, started_op, busy, stepped_to, stepped, worked, done, done_of, done_unless, done_in}
 use Rattle.nc_scripts.specs.NewLots.{IsOwned}
 use Rattle.nc_scripts.specs.Scripts.{is_act}
-use Rattle.nc_scripts.specs.Drivers.{IsSettled, IsPhase, IsDriver, IsSeenAt, is_claim}
+use Rattle.nc_scripts.specs.Drivers.{IsSettled, IsDriver, IsSeenAt, is_claim}
 use Rattle.nc_scripts.proofs.DriverLaws.{next_step_is}
 use Rattle.nc_scripts.proofs.Lists.{all_to}
 use Rattle.nc_holds.specs.Messages.{is_mail_op, is_mail_act, mail_steps}

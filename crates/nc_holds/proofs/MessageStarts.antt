@@ -1,13 +1,13 @@
 -- Messages after a start step.
-use Rattle.std.specs.Prelude.{All, Option, Some, None, ◌<◌, ◌≤◌, ◌⊎◌, ◌==◌}
-use Rattle.std.proofs.Common.{◌≡◌, ◌≢◌, ℕ, ◌+◌, Bool, true, false, List, [], ◌∷◌, length, refl, sym, ap, ◌∙◌, subst, arith, inl, inr}
+use Rattle.std.specs.Prelude.{Option, Some, None, ◌<◌, ◌⊎◌}
+use Rattle.std.proofs.Common.{◌≡◌, ◌≢◌, ℕ, Bool, true, false, List, [], ◌∷◌, length, refl, sym, ap, ◌∙◌, subst, arith, inl, inr}
 use Rattle.std.proofs.lemmas.Bool.{false≢true, cases_eq, eq-eqb, ne_eqb}
 use Rattle.std.proofs.lemmas.Bool.Decides.{nat_tests}
 use Rattle.std.proofs.lemmas.List.Elements.{All-nil, All-cons}
 use Rattle.nc_num.specs.Places.{covers}
 use Rattle.nc_num.specs.declared.names.HartNo.{HartNo}
 use Rattle.nc_num.specs.declared.places.Span.{Span}
-use Rattle.nc_model.proofs.Faults.{covers-low, covers-high}
+use Rattle.nc_model.proofs.Faults.{covers-high}
 use Rattle.nc_model.specs.declared.owners.Owner.{Owner}
 use Rattle.nc_model.specs.declared.owners.Owner.TheVariants as owners
 use Rattle.nc_own.specs.Books.{owner_in}
@@ -23,23 +23,21 @@ use Rattle.nc_rules.specs.Machine.{MachineState, queue_of, box_of}
 use Rattle.nc_rules.specs.Plans.{hart_step}
 use Rattle.nc_rules.specs.Refusals.{buffer_of}
 use Rattle.nc_rules.specs.Handing.{hand_steps}
-use Rattle.nc_rules.specs.Driver.{DriverState, Went, in_hand, next_of, next_of_op, next_in, started}
+use Rattle.nc_rules.specs.Driver.{DriverState, Went, in_hand, next_of, next_of_op, started}
 use Rattle.nc_rules.specs.World.{WorldState, driver_of, owners_moved}
 use Rattle.nc_scripts.specs.NewLots.{IsOwned}
 use Rattle.nc_scripts.specs.Scripts.{IsRangeIn}
 use Rattle.nc_scripts.specs.Drivers.{IsDriver}
-use Rattle.nc_holds.specs.Held.{IsOwnedBy}
 use Rattle.nc_holds.specs.Messages.{is_mail_act, mails, mail_steps, mail_act, rest_of, Status}
 use Rattle.nc_holds.specs.Tokens.{TokensFollow}
 use Rattle.nc_holds.specs.Rests.{RestAgrees}
-use Rattle.nc_holds.specs.Holds.{Holds, DriverHolds}
 use Rattle.nc_holds.proofs.ListsC.{first_kept, none_kept}
 use Rattle.nc_holds.proofs.MessageOwners.{Spares, owner_moved_on}
 use Rattle.nc_holds.proofs.MessageCalls.{IsPassing, owned_off, started_off}
 use Rattle.nc_holds.proofs.MessageRests.{HandStarts, Refused, Passes, hand_starts}
-use Rattle.nc_holds.proofs.MessageStatus.{Stays, OneHart, status_kept, status_begun}
-use Rattle.nc_holds.proofs.MessageGoes.{GoesOn, driver_here, rest_here, rest_away, steps_stay, fixed_stays, buffer_alike, passing_there, owners_stay, lots_off}
-use Rattle.nc_holds.proofs.TokenCalls.{Before, HandsNone, Leaves, started_leaves, start_at}
+use Rattle.nc_holds.proofs.MessageStatus.{status_kept, status_begun}
+use Rattle.nc_holds.proofs.MessageGoes.{GoesOn, rest_here, rest_away, steps_stay, fixed_stays, buffer_alike, owners_stay}
+use Rattle.nc_holds.proofs.TokenCalls.{Before, HandsNone, started_leaves, start_at}
 use Rattle.nc_holds.proofs.TokenWorlds.{At, here}
 
 abbrev pub AllStatus : WorldState → WorldState → Type 0

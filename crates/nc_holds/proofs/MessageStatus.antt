@@ -1,27 +1,17 @@
 -- What an event does to the one message of a buffer.
-use Rattle.std.specs.Prelude.{All, Option, Some, None, ◌<◌, ◌≤◌, ◌⊎◌, ◌==◌, filter, remove, slice_get, slice_set, slice_index_or}
-use Rattle.std.proofs.Common.{◌≡◌, ◌≢◌, ℕ, zero, suc, ◌+◌, Bool, true, false, List, [], ◌∷◌, ◌++◌, length, refl, sym, ap, ◌∙◌, subst, arith, inl, inr}
-use Rattle.std.proofs.lemmas.Bool.{false≢true, cases_eq, eq-eqb, ne_eqb}
-use Rattle.std.proofs.lemmas.List.{get_or-set_same, get_or-set_other}
-use Rattle.nc_num.specs.Places.{covers}
+use Rattle.std.specs.Prelude.{Option, Some, None}
+use Rattle.std.proofs.Common.{◌≡◌, ◌≢◌, ℕ, List, [], ◌∷◌, length, refl, sym, ap, ◌∙◌, subst, arith, inl, inr}
+use Rattle.std.proofs.lemmas.Bool.{cases_eq}
 use Rattle.nc_num.specs.declared.names.HartNo.{HartNo}
-use Rattle.nc_num.specs.declared.places.Span.{Span}
-use Rattle.nc_model.specs.declared.owners.Owner.{Owner}
 use Rattle.nc_model.specs.declared.owners.Owner.TheVariants as owners
-use Rattle.nc_own.specs.Books.{owner_in}
 use Rattle.nc_queue.specs.declared.entry.Entry.{Entry}
 use Rattle.nc_queue.specs.declared.entry.Entry.TheVariants as entries
-use Rattle.nc_rules.specs.declared.steps.Act.{Act}
 use Rattle.nc_rules.specs.declared.steps.Step.{Step}
-use Rattle.nc_rules.specs.Lots.{Fixed}
-use Rattle.nc_rules.specs.Machine.{MachineState, queue_of, box_of}
+use Rattle.nc_rules.specs.Machine.{queue_of, box_of}
 use Rattle.nc_rules.specs.Refusals.{buffer_of}
-use Rattle.nc_rules.specs.Driver.{DriverState, Went}
-use Rattle.nc_rules.specs.World.{WorldState, no_driver, driver_of, owners_moved}
+use Rattle.nc_rules.specs.World.{WorldState, driver_of}
 use Rattle.nc_holds.specs.Held.{IsOwnedBy}
-use Rattle.nc_holds.specs.Messages.{is_mail, mails, mail_steps, mail_act, Quiet, ToIssue, IsQueued, IsWaiting, Stage, rest_of, HasNone, IsPassed, Status, Still, Passed}
-use Rattle.nc_holds.proofs.MessageOwners.{Spares, owner_moved_off}
-use Rattle.nc_holds.proofs.MessageCalls.{IsPassing}
+use Rattle.nc_holds.specs.Messages.{mails, mail_steps, mail_act, Quiet, ToIssue, Stage, rest_of, IsPassed, Status, Still, Passed}
 
 -- ---- a buffer that no message of which moves
 

@@ -1,6 +1,6 @@
 -- The steps of operations without a plan: none queues a message or a token, and only a take turns a range.
-use Rattle.std.specs.Prelude.{All, Option, Some, None, Result, Ok, Err, slice_get, option_map}
-use Rattle.std.proofs.Common.{◌≡◌, ℕ, zero, suc, Bool, true, false, List, [], ◌∷◌, length, refl, sym, ap, ◌∙◌, subst}
+use Rattle.std.specs.Prelude.{Option, Some, None, Result, Ok, Err, slice_get, option_map}
+use Rattle.std.proofs.Common.{◌≡◌, ℕ, zero, suc, Bool, List, length, refl, subst}
 use Rattle.nc_num.specs.Places.{pieces}
 use Rattle.nc_num.specs.declared.names.ChanNo.{ChanNo}
 use Rattle.nc_num.specs.declared.names.MemType.{MemType}
@@ -20,7 +20,6 @@ use Rattle.nc_rules.specs.declared.answers.Refusal.{Refusal}
 use Rattle.nc_rules.specs.declared.lots.Lot.{Lot}
 use Rattle.nc_rules.specs.declared.steps.Act.TheVariants as acts
 use Rattle.nc_rules.specs.declared.steps.Step.{Step}
-use Rattle.nc_rules.specs.declared.steps.Turn.TheVariants as turns
 use Rattle.nc_rules.specs.Lots.{Fixed}
 use Rattle.nc_rules.specs.Refusals.{◌>>=◌, buffer_of, part_of, legal}
 use Rattle.nc_rules.specs.Plans.{step, hart_step, single, control_step}
@@ -38,7 +37,7 @@ use Rattle.nc_rules.specs.Areas as areas
 use Rattle.nc_rules.specs.Copies as copies
 use Rattle.nc_rules.specs.Operations.{meaning, step_at}
 use Rattle.nc_scripts.proofs.DriverSteps.{passed}
-use Rattle.nc_holds.proofs.QuietSteps.{IsQuiet, IsQuietOp, IsQuietAct, op_quiet}
+use Rattle.nc_holds.proofs.QuietSteps.{IsQuiet, IsQuietOp, op_quiet}
 use Rattle.nc_holds.proofs.TokenRests.{IsStay}
 
 pub data Numbered (f : Fixed) (s : Step) : Type 0 where

@@ -1,25 +1,23 @@
 -- The world after an event that may happen, and the machine's harts and boxes after each of its calls.
 use Rattle.std.specs.Prelude.{Option, Some, None, Bool, true, false, ◌<◌, if◌then◌else◌, slice_set, slice_index_or}
-use Rattle.std.proofs.Common.{◌≡◌, ◌≢◌, ℕ, List, [], ◌∷◌, ◌++◌, length, refl, sym, ap, ◌∙◌, inl, inr, subst, arith}
-use Rattle.std.proofs.lemmas.List.{get_or-set_same, get_or-set_other}
+use Rattle.std.proofs.Common.{◌≡◌, ◌≢◌, ℕ, List, length, refl, sym, ap, subst}
+use Rattle.std.proofs.lemmas.List.{get_or-set_same}
 use Rattle.nc_num.specs.declared.names.HartNo.{HartNo}
-use Rattle.nc_model.specs.declared.owners.Owner.{Owner}
 use Rattle.nc_model.specs.declared.touches.Touch.{Touch}
-use Rattle.nc_queue.specs.declared.entry.Entry.{Entry}
 use Rattle.nc_plan.specs.declared.ops.HartOp.{HartOp}
 use Rattle.nc_plan.specs.declared.ops.HartOp.TheVariants as hart
 use Rattle.nc_hart.specs.HartState.{HartState}
 use Rattle.nc_hart.specs.Issue.{entry_of, issued, pushed}
 use Rattle.nc_scen.specs.declared.events.Event.{Event}
-use Rattle.nc_rules.specs.Machine.{MachineState, hart_of, queue_of, box_of, with_hart, with_cache, with_box}
+use Rattle.nc_rules.specs.Machine.{MachineState, hart_of, queue_of, with_hart, with_cache, with_box}
 use Rattle.nc_rules.specs.Calls.{cache_loaded, has_loaded, issue_next, claimed_by, claim_next, may_take, take_next, may_fill, fill_next, evict_next, chan_read_next, chan_write_next}
 use Rattle.nc_rules.specs.Machine.{grantee_of}
 use Rattle.nc_rules.specs.View.{bytes_seen}
 use Rattle.nc_rules.specs.Driver.{DriverState}
-use Rattle.nc_rules.specs.World.{WorldState, no_driver, driver_of, owners_moved, with_moves}
+use Rattle.nc_rules.specs.World.{WorldState, no_driver, owners_moved, with_moves}
 use Rattle.nc_rules.specs.Events.{enabled}
 use Rattle.nc_rules.specs.Outcomes.{Outcome, outcome}
-use Rattle.nc_rules.specs.Next.{touched_by, after_outcome, performed, counted, next}
+use Rattle.nc_rules.specs.Next.{touched_by, performed, counted, next}
 use Rattle.nc_calls.proofs.MachineParts.{hart_here, hart_away}
 
 -- the world after an outcome

@@ -1,10 +1,9 @@
 -- The steps of plans that queue no message and no token, and the turns that they make.
-use Rattle.std.specs.Prelude.{All, Some, None, if◌then◌else◌, ◌&&◌}
+use Rattle.std.specs.Prelude.{All, None, if◌then◌else◌, ◌&&◌}
 use Rattle.std.specs.Result.{result_unwrap_or}
-use Rattle.std.proofs.Common.{◌≡◌, ℕ, Bool, true, false, List, [], ◌∷◌, ◌++◌, map, flat_map, refl, sym, subst, ◌∙◌}
-use Rattle.std.proofs.lemmas.List.Elements.{All-nil, All-cons, All-head, All-tail, All-append, All-map}
+use Rattle.std.proofs.Common.{◌≡◌, ℕ, Bool, true, false, List, [], ◌∷◌, ◌++◌, map, flat_map, refl}
+use Rattle.std.proofs.lemmas.List.Elements.{All-nil, All-cons, All-head, All-tail, All-append}
 use Rattle.nc_num.specs.Places.{pieces}
-use Rattle.nc_num.specs.declared.names.ChanNo.{ChanNo}
 use Rattle.nc_num.specs.declared.names.MemType.TheVariants.{Pma}
 use Rattle.nc_num.specs.declared.places.Span.{Span}
 use Rattle.nc_env.specs.declared.CboOp.{CboOp}
@@ -17,9 +16,6 @@ use Rattle.nc_plan.specs.declared.ops.HartOp.TheVariants as hart
 use Rattle.nc_plan.specs.declared.ops.Payload.TheVariants.{Last}
 use Rattle.nc_plan.specs.declared.parts.Part.{Part}
 use Rattle.nc_coherent.specs.Areas.{allocating}
-use Rattle.nc_memcpy.specs.Copy as memcpy
-use Rattle.nc_memcpy.specs.declared.copy.CopyStep.{CopyStep}
-use Rattle.nc_memcpy.specs.declared.copy.CopyStep.TheVariants as copies
 use Rattle.nc_rules.specs.declared.lots.Lot.{Lot}
 use Rattle.nc_rules.specs.declared.steps.Act.{Act}
 use Rattle.nc_rules.specs.declared.steps.Act.TheVariants as acts
@@ -28,7 +24,6 @@ use Rattle.nc_rules.specs.declared.steps.Turn.{Turn}
 use Rattle.nc_rules.specs.declared.steps.Turn.TheVariants as turns
 use Rattle.nc_rules.specs.Lots.{Fixed, parts}
 use Rattle.nc_rules.specs.Plans.{hart_step, op_steps, turning, ending, beginning, carried, return_steps}
-use Rattle.nc_rules.specs.Copies.{copy_step}
 use Rattle.nc_holds.specs.Messages.{is_mail_op, is_mail_act}
 use Rattle.nc_holds.specs.Tokens.{token_op, token_act}
 

@@ -1,11 +1,9 @@
 -- What the calls of a driver leave of its rest, its messages and its tokens: its start, and a slot word that it is told of.
-use Rattle.std.specs.Prelude.{All, Option, Some, None, Result, Ok, Err, ◌||◌, ◌<◌, nat_lt, if◌then◌else◌}
-use Rattle.std.specs.List.{list_any}
-use Rattle.std.proofs.Common.{◌≡◌, ℕ, ◌+◌, Bool, true, false, List, [], ◌∷◌, ◌++◌, length, map, refl, sym, ap, ◌∙◌, inl, inr, subst, arith}
+use Rattle.std.specs.Prelude.{All, Option, Some, None, Result, Ok, Err, ◌<◌, nat_lt, if◌then◌else◌}
+use Rattle.std.proofs.Common.{◌≡◌, ℕ, ◌+◌, Bool, true, false, List, [], ◌∷◌, ◌++◌, length, map, refl, ap, ◌∙◌, subst, arith}
 use Rattle.std.proofs.lemmas.Bool.{false≢true}
 use Rattle.std.proofs.lemmas.List.Elements.{All-nil, All-append}
 use Rattle.nc_num.specs.declared.names.HartNo.{HartNo}
-use Rattle.nc_num.specs.declared.names.Label.{Label}
 use Rattle.nc_model.specs.declared.owners.Owner.{Owner}
 use Rattle.nc_coherent.specs.Pages.{PageMap}
 use Rattle.nc_ops.specs.declared.ops.Op.{Op}
@@ -21,11 +19,11 @@ use Rattle.nc_rules.specs.declared.steps.Phase.{Phase}
 use Rattle.nc_rules.specs.declared.steps.Phase.TheVariants.{Steps, Search, Work}
 use Rattle.nc_rules.specs.declared.steps.Seen.{Seen}
 use Rattle.nc_rules.specs.declared.steps.Step.{Step}
-use Rattle.nc_rules.specs.Lots.{Fixed, some_lot_waits, slot_given}
+use Rattle.nc_rules.specs.Lots.{some_lot_waits, slot_given}
 use Rattle.nc_rules.specs.Turns.{lots_after, without_wanted}
-use Rattle.nc_rules.specs.Operations.{step_at, has_start, begin, opening, plan_of, waited_label}
-use Rattle.nc_rules.specs.Driver.{DriverState, Went, in_hand, next_of, next_of_op, next_in, next_rest, next_act, over, stands, stays, give_up, went_to, opened, searches, placed, with_lots, begun, refused_step, steps_done, started, started_of, told, told_of, told_in, told_word, missed}
-use Rattle.nc_scripts.specs.Drivers.{IsFixed, ArePagesOf, IsLotIn, AreApart, IsSettled, AreMade, made_names, IsSearching, IsPhase, IsDriver}
+use Rattle.nc_rules.specs.Operations.{step_at, has_start, begin, opening, plan_of}
+use Rattle.nc_rules.specs.Driver.{DriverState, in_hand, next_of, next_of_op, next_in, next_rest, next_act, over, stands, stays, give_up, went_to, opened, searches, placed, with_lots, begun, refused_step, steps_done, started, started_of, told, told_of, told_in, told_word}
+use Rattle.nc_scripts.specs.Drivers.{ArePagesOf, IsLotIn, IsSettled, AreMade, made_names, IsSearching, IsPhase, IsDriver}
 use Rattle.nc_scripts.proofs.NewLots.{AreNew, new_is}
 use Rattle.nc_scripts.proofs.SlotLaws.{lots_given}
 use Rattle.nc_scripts.proofs.EveryDriver.{IsInHand, in_hand_is, new_waits}
@@ -34,7 +32,7 @@ use Rattle.nc_holds.specs.Tokens.{HasLent, TokenStays, TokensFollow}
 use Rattle.nc_holds.specs.Rests.{TokenIsLight, ClaimsAlone, RestAt, RestAgrees}
 use Rattle.nc_holds.proofs.TokenKeeps.{left_has, made_has, given_has}
 use Rattle.nc_holds.proofs.TokenRests.{stays_has}
-use Rattle.nc_holds.proofs.TokenPlans.{NotWaited, NoHand, OpensSo}
+use Rattle.nc_holds.proofs.TokenPlans.{NotWaited, NoHand}
 use Rattle.nc_holds.proofs.TokenCopies.{opens_so}
 
 -- what a call leaves, where tokens of such names are queued, and messages are to be none

@@ -3,23 +3,18 @@ use Rattle.std.specs.Prelude.{All, Option, Some, None, find, ◌⊎◌, if◌the
 use Rattle.std.specs.List.{list_any}
 use Rattle.std.proofs.Common.{◌≡◌, ℕ, Bool, true, false, List, [], ◌∷◌, ◌++◌, map, length, refl, sym, ap, ◌∙◌, inl, inr, subst, append_assoc, cond}
 use Rattle.std.proofs.lemmas.Bool.{false≢true}
-use Rattle.std.proofs.lemmas.List.Elements.{All-nil, All-cons, All-head, All-tail, All-append}
+use Rattle.std.proofs.lemmas.List.Elements.{All-nil, All-cons, All-append}
 use Rattle.nc_num.specs.declared.names.ChanNo.{ChanNo}
 use Rattle.nc_plan.specs.Plans.{full}
-use Rattle.nc_plan.specs.declared.ops.HartOp.{HartOp}
 use Rattle.nc_plan.specs.declared.ops.HartOp.TheVariants as hart
 use Rattle.nc_plan.specs.declared.ops.IoTarget.TheVariants as io
-use Rattle.nc_plan.specs.declared.parts.Part.{Part}
 use Rattle.nc_memcpy.specs.Copy.{transfer, bus_of}
-use Rattle.nc_memcpy.specs.declared.copy.CopyStep.{CopyStep}
-use Rattle.nc_memcpy.specs.declared.copy.CopyStep.TheVariants as copy_steps
 use Rattle.nc_ops.specs.Fits.{FitsOp}
 use Rattle.nc_ops.specs.declared.ops.Op.{Op}
 use Rattle.nc_ops.specs.declared.ops.Op.TheVariants as ops
 use Rattle.nc_rules.specs.declared.lots.Kind.TheVariants as kinds
 use Rattle.nc_rules.specs.declared.lots.Lot.{Lot}
 use Rattle.nc_rules.specs.declared.lots.LotId.{LotId}
-use Rattle.nc_rules.specs.declared.steps.Act.{Act}
 use Rattle.nc_rules.specs.declared.steps.Act.TheVariants as acts
 use Rattle.nc_rules.specs.declared.steps.Step.{Step}
 use Rattle.nc_rules.specs.declared.steps.Turn.{Turn}
@@ -27,7 +22,7 @@ use Rattle.nc_rules.specs.declared.steps.Turn.TheVariants as turns
 use Rattle.nc_rules.specs.declared.lots.Side.TheVariants as sides
 use Rattle.nc_rules.specs.Lots.{Fixed, lot_id, is_lot, is_synced, is_own, lot_named, parts}
 use Rattle.nc_rules.specs.Turns.{lots_after, lots_after_both}
-use Rattle.nc_rules.specs.Plans.{step, hart_step, op_steps, turning, beginning, ending, carried, token_steps, lending_end, lend_steps, return_steps}
+use Rattle.nc_rules.specs.Plans.{step, hart_step, op_steps, turning, ending, carried, token_steps, lending_end, lend_steps, return_steps}
 use Rattle.nc_rules.specs.Mappings as mappings
 use Rattle.nc_rules.specs.Mappings.{with_lot, unmap_turn, unmap_steps, to_cpu_turn, to_cpu_steps, to_dev_turn, to_dev_steps}
 use Rattle.nc_rules.specs.ScatterLists as lists
@@ -39,15 +34,13 @@ use Rattle.nc_rules.specs.Copies.{source, target, copy_step, claim_step, back_st
 use Rattle.nc_rules.specs.Handing as handing
 use Rattle.nc_rules.specs.Operations.{meaning, has_start, opening, plan_of}
 use Rattle.nc_scripts.specs.Drivers.{IsLotIn}
-use Rattle.nc_scripts.proofs.LotLaws.{named_so, its_name}
-use Rattle.nc_scripts.proofs.Lists.{Found, found, all_to}
-use Rattle.nc_holds.specs.Tokens.{HasLent, TokenStays, TokensFollow}
-use Rattle.nc_holds.specs.Rests.{TokenIsLight, ClaimsAlone}
-use Rattle.nc_holds.specs.Messages.{mail_steps}
-use Rattle.nc_holds.proofs.QuietSteps.{IsQuiet, IsQuietOp, op_quiet, ending_quiet, beginning_quiet, return_quiet, carried_steps_quiet}
+use Rattle.nc_scripts.proofs.LotLaws.{named_so}
+use Rattle.nc_holds.specs.Tokens.{HasLent, TokensFollow}
+use Rattle.nc_holds.specs.Rests.{TokenIsLight}
+use Rattle.nc_holds.proofs.QuietSteps.{IsQuiet, op_quiet, ending_quiet, beginning_quiet, return_quiet, carried_steps_quiet}
 use Rattle.nc_holds.proofs.TokenLots.{set_there, after_has, lend_has}
-use Rattle.nc_holds.proofs.TokenRests.{NotEnd, NoEnd, stays_by, end_join, follow_quiet, IsStay, follow_join, follow_token}
-use Rattle.nc_holds.proofs.TokenPlans.{OfLots, OpensSo, IsMailless, no_mails, claims_alone, quiet_mailless, quiet_light, all_light, token_mailless, token_ends, stay_ends, give_quiet, quiet_to, none_opens, lent_opens, lend_opens}
+use Rattle.nc_holds.proofs.TokenRests.{NoEnd, stays_by, end_join, follow_quiet, IsStay, follow_join, follow_token}
+use Rattle.nc_holds.proofs.TokenPlans.{OpensSo, IsMailless, no_mails, quiet_mailless, quiet_light, all_light, token_mailless, token_ends, stay_ends, give_quiet, quiet_to, none_opens, lent_opens, lend_opens}
 use Rattle.nc_holds.proofs.TokenOpens as opens
 use Rattle.nc_holds.proofs.TokenOpens.{find_any, found_lot}
 
@@ -170,9 +163,10 @@ no_token i e = absurd cc
 
 both_lent : (lots : List Lot) (src dst : LotId) → list_any (is_lot src) lots ≡ true → list_any (is_lot dst) lots ≡ true
     → HasLent (lots_after_both (turns.Lend src) (turns.Lend dst) lots) src × HasLent (lots_after_both (turns.Lend src) (turns.Lend dst) lots) dst
-both_lent lots src dst s d =
-    (after_has (turns.Lend dst) (lots_after (turns.Lend src) lots) src (λ e. absurd cc) (lend_has lots src s),
-     lend_has (lots_after (turns.Lend src) lots) dst (set_there sides.Lending src lots dst ∙ d))
+both_lent lots src dst s d = (
+  after_has (turns.Lend dst) (lots_after (turns.Lend src) lots) src (λ e. absurd cc) (lend_has lots src s),
+  lend_has (lots_after (turns.Lend src) lots) dst (set_there sides.Lending src lots dst ∙ d),
+)
 
 copy_opens : (f : Fixed) (lots : List Lot) (o : Op) (chan : ChanNo) (cfg : ℕ) (src dst : Lot) → src.id ≡ source → dst.id ≡ target → list_any (is_lot source) lots ≡ true → list_any (is_lot target) lots ≡ true
     → OpensSo f lots o turns.Stay (claim_step chan ∷ claimed f chan cfg src dst)

@@ -1,8 +1,8 @@
 -- What the calls of a driver leave of its rest, its messages and its tokens: a step that is made, and a token that is out.
 use Rattle.std.specs.Prelude.{All, Option, Some, None, Result, Ok, Err, ◌⊎◌, if◌then◌else◌}
-use Rattle.std.proofs.Common.{◌≡◌, ℕ, ◌+◌, Bool, true, false, List, [], ◌∷◌, ◌++◌, length, refl, sym, ap, ◌∙◌, inl, inr, subst}
+use Rattle.std.proofs.Common.{◌≡◌, ℕ, ◌+◌, Bool, true, false, List, [], ◌∷◌, refl, sym, ap, ◌∙◌, inl, inr, subst}
 use Rattle.std.proofs.lemmas.Bool.{false≢true}
-use Rattle.std.proofs.lemmas.List.Elements.{All-nil, All-head, All-tail}
+use Rattle.std.proofs.lemmas.List.Elements.{All-head, All-tail}
 use Rattle.nc_num.specs.declared.names.Label.{Label}
 use Rattle.nc_ops.specs.declared.ops.Op.{Op}
 use Rattle.nc_rules.specs.declared.answers.Refusal.{Refusal}
@@ -22,9 +22,8 @@ use Rattle.nc_rules.specs.declared.steps.Turn.{Turn}
 use Rattle.nc_rules.specs.declared.steps.Turn.TheVariants as turns
 use Rattle.nc_rules.specs.Lots.{Fixed, lot_id}
 use Rattle.nc_rules.specs.Turns.{lots_after, lots_after_both}
-use Rattle.nc_rules.specs.Handing.{take_step}
 use Rattle.nc_rules.specs.Operations.{step_at, has_start}
-use Rattle.nc_rules.specs.Driver.{DriverState, in_hand, next_of, next_of_op, next_in, next_step, next_rest, next_act, stays, kept, give_up, with_lots, busy, stepped_to, stepped, worked, done, done_of, done_unless, done_in, lent}
+use Rattle.nc_rules.specs.Driver.{DriverState, in_hand, next_of, next_of_op, next_in, next_step, next_rest, next_act, kept, busy, stepped_to, stepped, worked, done, done_of, done_unless, done_in, lent}
 use Rattle.nc_scripts.specs.Scripts.{is_act}
 use Rattle.nc_scripts.specs.Drivers.{is_claim, ClaimsNothing, ClaimsFirst, IsAtWork, IsPhase, IsDriver, IsSeenAt}
 use Rattle.nc_scripts.proofs.DriverLaws.{next_step_is}
@@ -32,9 +31,8 @@ use Rattle.nc_holds.specs.Messages.{mail_steps}
 use Rattle.nc_holds.specs.Tokens.{HasLent, token_op, token_act, waits_op, waits_act, TokenStays, TokensFollow}
 use Rattle.nc_holds.specs.Rests.{TokenIsLight, ClaimsAlone, RestAgrees}
 use Rattle.nc_holds.proofs.MessageSteps.{Numbered, Quietly, Takes, numbered}
-use Rattle.nc_holds.proofs.QuietSteps.{IsQuiet}
 use Rattle.nc_holds.proofs.TokenLots.{give_alike}
-use Rattle.nc_holds.proofs.TokenRests.{IsStay, stays_has, stays_alike, follow_alike}
+use Rattle.nc_holds.proofs.TokenRests.{stays_has, stays_alike, follow_alike}
 use Rattle.nc_holds.proofs.TokenCalls.{Leaves, AllLent, over_leaves, counted_leaves, went_leaves, gives_up, Before}
 
 -- what comes next is made only while no entry of class O is queued, or queues a token

@@ -1,7 +1,6 @@
 -- A hart's driver goes on: tokens, what is left of its plan, and loads.
-use Rattle.std.specs.Prelude.{All, Option, Some, None, Result, Ok, Err, ◌⊎◌, ◌<◌, ◌==◌, if◌then◌else◌}
-use Rattle.std.specs.List.{list_any}
-use Rattle.std.proofs.Common.{◌≡◌, ℕ, Bool, true, false, List, [], ◌∷◌, ◌++◌, length, refl, sym, ap, ◌∙◌, inl, inr, subst, arith}
+use Rattle.std.specs.Prelude.{All, Option, Some, None, Result, Ok, Err, ◌⊎◌, ◌==◌, if◌then◌else◌}
+use Rattle.std.proofs.Common.{◌≡◌, ℕ, Bool, true, false, List, [], ◌∷◌, refl, sym, ap, ◌∙◌, inl, inr, subst, arith}
 use Rattle.std.proofs.lemmas.Bool.{false≢true}
 use Rattle.std.proofs.lemmas.Bool.Decides.{nat_tests}
 use Rattle.std.proofs.lemmas.List.Elements.{All-head}
@@ -16,9 +15,6 @@ use Rattle.nc_plan.specs.Plans.{In}
 use Rattle.nc_ops.specs.declared.ops.Op.{Op}
 use Rattle.nc_rules.specs.declared.answers.Refusal.{Refusal}
 use Rattle.nc_rules.specs.declared.lots.LotId.{LotId}
-use Rattle.nc_rules.specs.declared.steps.Act.{Act}
-use Rattle.nc_rules.specs.declared.steps.Act.TheVariants as acts
-use Rattle.nc_rules.specs.declared.steps.Next.{Next}
 use Rattle.nc_rules.specs.declared.steps.Next.TheVariants as nexts
 use Rattle.nc_rules.specs.declared.steps.Phase.{Phase}
 use Rattle.nc_rules.specs.declared.steps.Phase.TheVariants.{Steps, Search, Work}
@@ -26,16 +22,14 @@ use Rattle.nc_rules.specs.declared.steps.Seen.{Seen}
 use Rattle.nc_rules.specs.declared.steps.Step.{Step}
 use Rattle.nc_rules.specs.Lots.{Fixed, lot_id}
 use Rattle.nc_rules.specs.Operations.{step_at, has_start, waited_label}
-use Rattle.nc_rules.specs.Driver.{DriverState, in_hand, next_of, next_of_op, next_in, next_step, next_rest, next_act, waited_in, waits_for, started, told, done, lent}
+use Rattle.nc_rules.specs.Driver.{DriverState, in_hand, next_of, next_of_op, next_in, next_step, next_rest, waited_in, waits_for, started, told, done, lent}
 use Rattle.nc_scripts.specs.Scripts.{is_act}
-use Rattle.nc_scripts.specs.Drivers.{LoadsFit, ArePagesOf, IsPhase, IsDriver, IsSeenAt, IsLentAt, loaded_next, Keeps, StaysDriver}
+use Rattle.nc_scripts.specs.Drivers.{LoadsFit, ArePagesOf, IsPhase, IsDriver, IsSeenAt, IsLentAt, loaded_next}
 use Rattle.nc_scripts.proofs.EveryDriver.{drivers_stay}
-use Rattle.nc_holds.specs.Tokens.{token_of, token_act, TokenStays}
+use Rattle.nc_holds.specs.Tokens.{token_of}
 use Rattle.nc_holds.specs.Rests.{TokenIsLight, RestAgrees}
 use Rattle.nc_holds.proofs.ListsC.{in_none}
-use Rattle.nc_holds.proofs.MessageSteps.{numbered}
-use Rattle.nc_holds.proofs.TokenPlans.{NotWaited}
-use Rattle.nc_holds.proofs.TokenCalls.{Leaves, Before, Unwaited, next_rest_not, started_leaves, told_leaves}
+use Rattle.nc_holds.proofs.TokenCalls.{Unwaited, next_rest_not, started_leaves, told_leaves}
 use Rattle.nc_holds.proofs.TokenDone.{waits_next, token_next, QueuedBy, next_token, step_token, done_leaves, lent_leaves}
 use Rattle.nc_holds.proofs.TokenHarts.{HartSo, Queued, before, so_left}
 

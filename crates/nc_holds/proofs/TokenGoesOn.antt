@@ -1,6 +1,6 @@
 -- Tokens, what is left of plans, and loads after every event that may happen.
-use Rattle.std.specs.Prelude.{Option, Some, None, ◌⊎◌, ◌<◌, ◌&&◌, is_some, is_none, remove, slice_set, slice_index_or, slice_get, if◌then◌else◌}
-use Rattle.std.proofs.Common.{◌≡◌, ◌≢◌, ℕ, Bool, true, false, List, [], ◌∷◌, length, refl, sym, ap, ◌∙◌, inl, inr, subst, arith}
+use Rattle.std.specs.Prelude.{Option, Some, None, ◌<◌, is_some, is_none, remove, slice_set, slice_index_or, slice_get, if◌then◌else◌}
+use Rattle.std.proofs.Common.{◌≡◌, ℕ, Bool, true, false, List, length, refl, sym, ap, ◌∙◌, inl, inr, subst}
 use Rattle.std.proofs.lemmas.Bool.{false≢true, and_parts, cases_eq}
 use Rattle.nc_num.specs.declared.names.HartNo.{HartNo}
 use Rattle.nc_num.specs.declared.names.Label.{Label}
@@ -14,29 +14,28 @@ use Rattle.nc_slots.specs.SlotWords.{holder_of}
 use Rattle.nc_scen.specs.declared.events.Event.{Event}
 use Rattle.nc_scen.specs.declared.events.Event.TheVariants as events
 use Rattle.nc_scen.specs.Events.{IsThere}
-use Rattle.nc_rules.specs.declared.lots.LotId.{LotId}
 use Rattle.nc_rules.specs.declared.records.Record.{Record}
 use Rattle.nc_rules.specs.Lots.{lot_id}
-use Rattle.nc_rules.specs.Machine.{MachineState, no_hart, hart_of, queue_of}
+use Rattle.nc_rules.specs.Machine.{MachineState, hart_of, queue_of}
 use Rattle.nc_rules.specs.Calls.{leaving, drain_next}
 use Rattle.nc_rules.specs.Sound.{IsMachine}
 use Rattle.nc_rules.specs.Driver.{DriverState, next_of, searching, waits_for, told, lent}
 use Rattle.nc_rules.specs.World.{WorldState, no_driver, driver_of}
 use Rattle.nc_rules.specs.Events.{enabled, is_out, may_go_on}
-use Rattle.nc_rules.specs.Outcomes.{Outcome, outcome, runs, step_outcome, at_word, got_word, try_outcome, told_outcome, leaves, drain_outcome}
+use Rattle.nc_rules.specs.Outcomes.{Outcome, outcome, at_word, got_word, try_outcome, told_outcome, leaves, drain_outcome}
 use Rattle.nc_rules.specs.Next.{next}
 use Rattle.nc_calls.specs.PlaceLaws.{Drains}
 use Rattle.nc_calls.proofs.DrainPlaces.{drain_is}
 use Rattle.nc_scripts.specs.Drivers.{LoadsFit, IsLentAt}
 use Rattle.nc_holds.specs.Tokens.{token_of, TokensAgree}
 use Rattle.nc_holds.specs.Rests.{RestAgrees}
-use Rattle.nc_holds.specs.Holds.{Holds, DriverHolds, TokensAreLent}
+use Rattle.nc_holds.specs.Holds.{Holds, TokensAreLent}
 use Rattle.nc_holds.proofs.ListsC.{in_got}
 use Rattle.nc_holds.proofs.MessageWorlds.{Comes, comes, fill_same, evict_same, read_same, write_same}
 use Rattle.nc_holds.proofs.TokenRests.{stays_has}
 use Rattle.nc_holds.proofs.TokenHarts.{HartSo, so_removed}
 use Rattle.nc_holds.proofs.TokenEvents.{so_told, so_lent}
-use Rattle.nc_holds.proofs.TokenWorlds.{WorldSo, world_so, tokens_so, At, here, AllSo, Went1, so_at, same_so, so_same, step_so}
+use Rattle.nc_holds.proofs.TokenWorlds.{WorldSo, world_so, tokens_so, At, here, AllSo, so_at, same_so, so_same, step_so}
 
 -- ---- a slot word
 

@@ -1,17 +1,11 @@
 -- A hart's queue and its driver: tokens, what is left of the plan, and loads, through each call of its driver.
-use Rattle.std.specs.Prelude.{All, Option, Some, None, ◌⊎◌, ◌<◌, ◌==◌, ◌&&◌, ◌||◌, not, remove, if◌then◌else◌}
+use Rattle.std.specs.Prelude.{Option, Some, None, ◌⊎◌, ◌==◌, ◌&&◌, not, remove, if◌then◌else◌}
 use Rattle.std.specs.List.{list_any}
-use Rattle.std.proofs.Common.{◌≡◌, ℕ, Bool, true, false, List, [], ◌∷◌, ◌++◌, length, refl, sym, ap, ◌∙◌, inl, inr, subst, arith}
-use Rattle.std.proofs.lemmas.Bool.{false≢true, and_parts, cases_Bool, or_left, or_right}
+use Rattle.std.proofs.Common.{◌≡◌, ℕ, Bool, true, false, List, refl, sym, ap, ◌∙◌, inl, inr, subst, arith}
+use Rattle.std.proofs.lemmas.Bool.{false≢true, and_parts, or_right}
 use Rattle.std.proofs.lemmas.Bool.Decides.{nat_tests}
-use Rattle.nc_num.specs.declared.names.ChanNo.{ChanNo}
-use Rattle.nc_num.specs.declared.names.HartNo.{HartNo}
-use Rattle.nc_num.specs.declared.names.Label.{Label}
-use Rattle.nc_model.specs.declared.owners.Owner.{Owner}
-use Rattle.nc_coherent.specs.Pages.{PageMap}
-use Rattle.nc_queue.specs.Entries.{is_o, is_w, in_set, has_w, has_o, lends_label}
+use Rattle.nc_queue.specs.Entries.{is_o, is_w, in_set, has_w, has_o}
 use Rattle.nc_queue.specs.Rules.{any_in}
-use Rattle.nc_queue.specs.Rules as queues
 use Rattle.nc_queue.specs.QueueState.{QueueState}
 use Rattle.nc_queue.specs.declared.entry.Entry.{Entry}
 use Rattle.nc_queue.specs.declared.entry.Entry.TheVariants as entries
@@ -22,24 +16,13 @@ use Rattle.nc_plan.specs.declared.ops.IoTarget.{IoTarget}
 use Rattle.nc_plan.specs.declared.ops.IoTarget.TheVariants as io
 use Rattle.nc_hart.specs.HartState.{HartState}
 use Rattle.nc_hart.specs.Issue.{entry_of, payload, io_entry, marks, waits, marker, pushed, can_issue, has_room, fence_clear, load_clear}
-use Rattle.nc_ops.specs.declared.ops.Op.{Op}
 use Rattle.nc_rules.specs.declared.lots.LotId.{LotId}
-use Rattle.nc_rules.specs.declared.steps.Next.{Next}
-use Rattle.nc_rules.specs.declared.steps.Next.TheVariants as nexts
-use Rattle.nc_rules.specs.declared.steps.Seen.{Seen}
-use Rattle.nc_rules.specs.declared.steps.Phase.{Phase}
-use Rattle.nc_rules.specs.declared.steps.Phase.TheVariants.{Steps, Search, Work}
-use Rattle.nc_rules.specs.Lots.{lot_id}
-use Rattle.nc_rules.specs.Operations.{waited_label}
-use Rattle.nc_rules.specs.Driver.{DriverState, Went, in_hand, next_of, waited_in, waits_for, started, told, done, lent}
-use Rattle.nc_scripts.specs.Scripts.{is_act}
-use Rattle.nc_scripts.specs.Drivers.{LoadsFit, ArePagesOf, IsDriver, IsSeenAt, loaded_next}
+use Rattle.nc_rules.specs.Driver.{DriverState}
+use Rattle.nc_scripts.specs.Drivers.{LoadsFit}
 use Rattle.nc_holds.specs.Tokens.{token_of, token_op, token_to, waits_op, TokenStays, TokensFollow}
 use Rattle.nc_holds.specs.Rests.{RestAgrees}
 use Rattle.nc_holds.proofs.ListsC.{in_pushed, in_removed, in_none}
-use Rattle.nc_holds.proofs.TokenPlans.{NotWaited}
-use Rattle.nc_holds.proofs.TokenCalls.{Leaves, Before, Unwaited, started_leaves, told_leaves}
-use Rattle.nc_holds.proofs.TokenDone.{waits_next, token_next, QueuedBy, done_leaves, lent_leaves}
+use Rattle.nc_holds.proofs.TokenCalls.{Leaves, Before}
 
 -- what holds of a hart's driver beside its queue, and beside its last load
 pub record HartSo (d : DriverState) (q : List Entry) (n : ℕ) : Type 0 where

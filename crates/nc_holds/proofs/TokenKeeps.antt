@@ -1,14 +1,14 @@
 -- Lots that stay lent where an operation makes others, gets a slot, or gives up.
-use Rattle.std.specs.Prelude.{All, filter, not, ◌||◌, ◌≤◌, if◌then◌else◌}
+use Rattle.std.specs.Prelude.{filter, not, ◌||◌, ◌≤◌, if◌then◌else◌}
 use Rattle.std.specs.List.{list_any}
-use Rattle.std.proofs.Common.{◌≡◌, ℕ, ◌+◌, Bool, true, false, List, [], ◌∷◌, ◌++◌, length, refl, sym, ap, ◌∙◌, inl, inr, subst, cond, arith}
-use Rattle.std.proofs.lemmas.Bool.{cases_Bool, false≢true, or_parts, or_cases, or_left, or_right}
+use Rattle.std.proofs.Common.{◌≡◌, ℕ, Bool, true, false, List, [], ◌∷◌, ◌++◌, length, refl, sym, ap, ◌∙◌, inl, inr, cond, arith}
+use Rattle.std.proofs.lemmas.Bool.{cases_Bool, false≢true, or_cases, or_left, or_right}
 use Rattle.std.proofs.lemmas.List.Folds.{list_any-append}
-use Rattle.std.proofs.lemmas.List.Elements.{All-nil, All-cons, All-head, All-tail, All-append}
+use Rattle.std.proofs.lemmas.List.Elements.{All-cons, All-head, All-tail, All-append}
 use Rattle.nc_rules.specs.declared.lots.Lot.{Lot}
 use Rattle.nc_rules.specs.declared.lots.LotId.{LotId}
 use Rattle.nc_rules.specs.Lots.{is_lot, is_wanted, lot_waits, with_slot, slot_given}
-use Rattle.nc_rules.specs.Turns.{those, without_wanted}
+use Rattle.nc_rules.specs.Turns.{without_wanted}
 use Rattle.nc_scripts.specs.Drivers.{AreApart}
 use Rattle.nc_scripts.proofs.Lists.{all_filtered}
 use Rattle.nc_scripts.proofs.NewLots.{length-filter-join}

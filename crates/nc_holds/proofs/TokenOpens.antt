@@ -1,11 +1,10 @@
 -- What each operation opens with, as tokens and messages go.
 use Rattle.std.specs.Prelude.{All, Option, Some, None, find, if◌then◌else◌, ◌≤◌, ◌==◌}
 use Rattle.std.specs.List.{list_any}
-use Rattle.std.proofs.Common.{◌≡◌, ℕ, Bool, true, false, List, [], ◌∷◌, ◌++◌, map, refl, sym, ap, ◌∙◌, inl, inr, subst, cond, append_assoc, arith}
+use Rattle.std.proofs.Common.{◌≡◌, ℕ, Bool, true, false, List, [], ◌∷◌, refl, sym, ap, ◌∙◌, inr, subst, cond, arith}
 use Rattle.std.proofs.lemmas.Bool.{false≢true, and_parts, or_left, or_right}
 use Rattle.std.proofs.lemmas.Bool.Decides.{nat_tests}
-use Rattle.std.proofs.lemmas.List.Elements.{All-nil, All-cons, All-head, All-tail, All-append}
-use Rattle.nc_num.specs.declared.names.ChanNo.{ChanNo}
+use Rattle.std.proofs.lemmas.List.Elements.{All-nil, All-cons}
 use Rattle.nc_num.specs.declared.names.HartNo.{HartNo}
 use Rattle.nc_num.specs.declared.names.Label.{Label}
 use Rattle.nc_num.specs.declared.places.Span.{Span}
@@ -13,9 +12,7 @@ use Rattle.nc_values.specs.Values.{FitsLabel}
 use Rattle.nc_plan.specs.Plans.{full}
 use Rattle.nc_plan.specs.declared.ops.HartOp.TheVariants as hart
 use Rattle.nc_plan.specs.declared.ops.IoTarget.TheVariants as io
-use Rattle.nc_memcpy.specs.Copy.{transfer}
 use Rattle.nc_coherent.specs.Areas.{allocating}
-use Rattle.nc_ops.specs.Fits.{FitsOp}
 use Rattle.nc_ops.specs.declared.ops.Op.{Op}
 use Rattle.nc_ops.specs.declared.ops.Op.TheVariants as ops
 use Rattle.nc_sg.specs.declared.list.Entry.{Entry}
@@ -23,34 +20,23 @@ use Rattle.nc_rules.specs.declared.lots.Kind.{Kind}
 use Rattle.nc_rules.specs.declared.lots.Kind.TheVariants as kinds
 use Rattle.nc_rules.specs.declared.lots.Lot.{Lot}
 use Rattle.nc_rules.specs.declared.lots.LotId.{LotId}
-use Rattle.nc_rules.specs.declared.steps.Act.TheVariants as acts
 use Rattle.nc_rules.specs.declared.steps.Step.{Step}
 use Rattle.nc_rules.specs.declared.steps.Turn.{Turn}
 use Rattle.nc_rules.specs.declared.steps.Turn.TheVariants as turns
-use Rattle.nc_rules.specs.Lots.{Fixed, lot_id, is_lot, is_named, is_labelled, same_kind, is_synced, is_own, lot_named, only_entry}
+use Rattle.nc_rules.specs.Lots.{Fixed, lot_id, is_lot, is_named, is_labelled, same_kind, lot_named, only_entry}
 use Rattle.nc_rules.specs.Refusals.{buffer_of}
-use Rattle.nc_rules.specs.Turns.{lots_after}
-use Rattle.nc_rules.specs.Plans.{hart_step, op_steps, turning, ending, lending_end, lend_steps, return_steps}
-use Rattle.nc_rules.specs.Mappings as mappings
-use Rattle.nc_rules.specs.Mappings.{with_lot, unmap_turn, unmap_steps, to_cpu_turn, to_cpu_steps, to_dev_turn, to_dev_steps}
-use Rattle.nc_rules.specs.ScatterLists as lists
-use Rattle.nc_rules.specs.ScatterLists.{unmap_sg_turn, unmap_sg_steps}
-use Rattle.nc_rules.specs.Areas as areas
-use Rattle.nc_rules.specs.Areas.{calloc_steps, give_turn, give_steps, fenced, take_turn, take_steps, free_turn, free_steps}
-use Rattle.nc_rules.specs.Copies as copies
-use Rattle.nc_rules.specs.Handing as handing
+use Rattle.nc_rules.specs.Plans.{hart_step, op_steps, turning, ending, lend_steps, return_steps}
+use Rattle.nc_rules.specs.Mappings.{with_lot}
+use Rattle.nc_rules.specs.Areas.{calloc_steps, fenced}
 use Rattle.nc_rules.specs.Handing.{hand_steps}
-use Rattle.nc_rules.specs.Operations.{meaning, has_start, opening, plan_of, waited_label}
-use Rattle.nc_scripts.specs.Drivers.{IsLotIn, IsNamed, FitsKind, is_claim}
-use Rattle.nc_scripts.proofs.Lists.{Found, found}
-use Rattle.nc_scripts.proofs.LotLaws.{named_so, its_name}
-use Rattle.nc_holds.specs.Messages.{is_mail_act, mail_steps}
-use Rattle.nc_holds.specs.Tokens.{HasLent, TokenStays, TokensFollow}
-use Rattle.nc_holds.specs.Rests.{TokenIsLight, ClaimsAlone}
+use Rattle.nc_rules.specs.Operations.{waited_label}
+use Rattle.nc_scripts.specs.Drivers.{IsLotIn, IsNamed, FitsKind}
+use Rattle.nc_scripts.proofs.Lists.{found}
+use Rattle.nc_scripts.proofs.LotLaws.{its_name}
+use Rattle.nc_holds.specs.Rests.{TokenIsLight}
 use Rattle.nc_holds.proofs.QuietSteps.{IsQuiet, ops_quiet, allocating_quiet, ending_quiet, return_quiet, turning_quiet, op_quiet}
-use Rattle.nc_holds.proofs.TokenLots.{after_has}
-use Rattle.nc_holds.proofs.TokenRests.{NotEnd, NoEnd, stays_by}
-use Rattle.nc_holds.proofs.TokenPlans.{OfLots, NotWaited, EndsWaited, NoHand, OpensSo, quiet_opens, none_opens, lent_opens, lend_opens}
+use Rattle.nc_holds.proofs.TokenRests.{stays_by}
+use Rattle.nc_holds.proofs.TokenPlans.{EndsWaited, OpensSo, quiet_opens, none_opens, lend_opens}
 
 -- ---- the lot of a label
 

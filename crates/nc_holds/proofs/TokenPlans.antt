@@ -1,44 +1,30 @@
 -- What an operation opens with: its messages and tokens, and the lots that end.
-use Rattle.std.specs.Prelude.{All, Option, Some, None, find, if◌then◌else◌, ◌≤◌}
+use Rattle.std.specs.Prelude.{All, Option, Some, None, if◌then◌else◌}
 use Rattle.std.specs.List.{list_any}
-use Rattle.std.proofs.Common.{◌≡◌, ℕ, Bool, true, false, List, [], ◌∷◌, ◌++◌, map, length, refl, sym, ap, ◌∙◌, inl, inr, subst, cond, append_assoc, arith}
-use Rattle.std.proofs.lemmas.Bool.{false≢true, and_parts, or_left, or_right}
-use Rattle.std.proofs.lemmas.Bool.Decides.{nat_tests}
+use Rattle.std.proofs.Common.{◌≡◌, ℕ, Bool, true, false, List, [], ◌∷◌, ◌++◌, length, refl, sym, ◌∙◌, inr}
 use Rattle.std.proofs.lemmas.List.Elements.{All-nil, All-cons, All-head, All-tail, All-append}
-use Rattle.nc_num.specs.declared.names.ChanNo.{ChanNo}
 use Rattle.nc_num.specs.declared.names.HartNo.{HartNo}
 use Rattle.nc_num.specs.declared.names.Label.{Label}
-use Rattle.nc_num.specs.declared.places.Span.{Span}
-use Rattle.nc_values.specs.Values.{FitsLabel}
 use Rattle.nc_plan.specs.Plans.{full}
 use Rattle.nc_plan.specs.declared.ops.HartOp.TheVariants as hart
 use Rattle.nc_plan.specs.declared.ops.IoTarget.TheVariants as io
-use Rattle.nc_memcpy.specs.Copy.{transfer}
 use Rattle.nc_ops.specs.declared.ops.Op.{Op}
 use Rattle.nc_ops.specs.declared.ops.Op.TheVariants as ops
-use Rattle.nc_sg.specs.declared.list.Entry.{Entry}
-use Rattle.nc_rules.specs.declared.lots.Kind.{Kind}
-use Rattle.nc_rules.specs.declared.lots.Kind.TheVariants as kinds
 use Rattle.nc_rules.specs.declared.lots.Lot.{Lot}
 use Rattle.nc_rules.specs.declared.lots.LotId.{LotId}
-use Rattle.nc_rules.specs.declared.steps.Act.TheVariants as acts
 use Rattle.nc_rules.specs.declared.steps.Step.{Step}
 use Rattle.nc_rules.specs.declared.steps.Turn.{Turn}
 use Rattle.nc_rules.specs.declared.steps.Turn.TheVariants as turns
-use Rattle.nc_rules.specs.Lots.{Fixed, lot_id, is_lot, is_named, is_labelled, same_kind, is_synced, is_own, lot_named, parts}
-use Rattle.nc_rules.specs.Turns.{lots_after, lots_after_both}
-use Rattle.nc_rules.specs.Plans.{hart_step, op_steps, turning, ending, carried, token_steps, lending_end, lend_steps, return_steps}
-use Rattle.nc_rules.specs.Mappings.{with_lot}
+use Rattle.nc_rules.specs.Lots.{Fixed, is_lot, parts}
+use Rattle.nc_rules.specs.Turns.{lots_after}
+use Rattle.nc_rules.specs.Plans.{hart_step, op_steps, turning, carried, token_steps, lend_steps}
 use Rattle.nc_rules.specs.Operations.{waited_label}
-use Rattle.nc_scripts.specs.Drivers.{IsLotIn, IsNamed, FitsKind, is_claim}
-use Rattle.nc_scripts.proofs.Lists.{Found, found}
-use Rattle.nc_scripts.proofs.LotLaws.{named_so, its_name}
 use Rattle.nc_holds.specs.Messages.{is_mail_act, mail_steps}
-use Rattle.nc_holds.specs.Tokens.{HasLent, token_act, TokenStays, TokensFollow}
+use Rattle.nc_holds.specs.Tokens.{HasLent, TokenStays, TokensFollow}
 use Rattle.nc_holds.specs.Rests.{TokenIsLight, ClaimsAlone}
 use Rattle.nc_holds.proofs.ListsC.{none_kept}
 use Rattle.nc_holds.proofs.QuietSteps.{IsQuiet, carried_steps_quiet, turning_quiet, op_quiet}
-use Rattle.nc_holds.proofs.TokenLots.{set_there, after_has, lend_has}
+use Rattle.nc_holds.proofs.TokenLots.{after_has, lend_has}
 use Rattle.nc_holds.proofs.TokenRests.{NotEnd, NoEnd, stays_by, end_join, end_none, follow_quiet, IsStay, follow_join, follow_token}
 
 -- the turn is of lots, or there is none

@@ -1,19 +1,15 @@
 -- A token along the rest of a plan.
 use Rattle.std.specs.Prelude.{All, Option, Some, None, ◌⊎◌}
-use Rattle.std.specs.List.{list_any}
-use Rattle.std.proofs.Common.{◌≡◌, ℕ, Bool, true, false, List, [], ◌∷◌, ◌++◌, length, refl, sym, ap, ◌∙◌, inl, inr, subst}
+use Rattle.std.proofs.Common.{◌≡◌, true, List, [], ◌∷◌, ◌++◌, sym, ap, ◌∙◌, inl, inr, subst}
 use Rattle.std.proofs.lemmas.List.Elements.{All-head, All-tail}
-use Rattle.nc_plan.specs.declared.ops.HartOp.TheVariants as hart
-use Rattle.nc_plan.specs.declared.ops.IoTarget.TheVariants as io
 use Rattle.nc_rules.specs.declared.lots.Lot.{Lot}
 use Rattle.nc_rules.specs.declared.lots.LotId.{LotId}
 use Rattle.nc_rules.specs.declared.steps.Step.{Step}
 use Rattle.nc_rules.specs.declared.steps.Turn.{Turn}
 use Rattle.nc_rules.specs.declared.steps.Turn.TheVariants as turns
-use Rattle.nc_rules.specs.Lots.{is_lot}
 use Rattle.nc_rules.specs.Turns.{lots_after, lots_after_both}
-use Rattle.nc_rules.specs.Plans.{hart_step, token_steps}
-use Rattle.nc_holds.specs.Tokens.{HasLent, token_act, waits_act, TokenStays, TokensFollow}
+use Rattle.nc_rules.specs.Plans.{token_steps}
+use Rattle.nc_holds.specs.Tokens.{HasLent, waits_act, TokenStays, TokensFollow}
 use Rattle.nc_holds.proofs.TokenLots.{Alike, alike_lent, after_alike, both_has, after_there}
 use Rattle.nc_holds.proofs.QuietSteps.{IsQuiet}
 
@@ -50,9 +46,10 @@ stays_alike i a b rest h k = stays_by i b rest (alike_lent a b i h (stays_has i 
 pub follow_alike : (a b : List Lot) (rest : List Step) → Alike a b → TokensFollow a rest → TokensFollow b rest
 follow_alike a b [] h k = tt
 follow_alike a b (s ∷ rest) h k =
-    let more = after_alike s.last (lots_after s.first a) (lots_after s.first b) (after_alike s.first a b h) in
-    ((λ i e. stays_alike i (lots_after_both s.first s.last a) (lots_after_both s.first s.last b) rest more (k.0 i e)),
-     follow_alike (lots_after_both s.first s.last a) (lots_after_both s.first s.last b) rest more k.1)
+    let more = after_alike s.last (lots_after s.first a) (lots_after s.first b) (after_alike s.first a b h) in (
+      (λ i e. stays_alike i (lots_after_both s.first s.last a) (lots_after_both s.first s.last b) rest more (k.0 i e)),
+      follow_alike (lots_after_both s.first s.last a) (lots_after_both s.first s.last b) rest more k.1,
+    )
 
 -- ---- quiet steps
 
@@ -87,15 +84,17 @@ still s lots first last = ap (λ (t : Turn). lots_after_both t s.last lots) firs
 pub follow_join : (lots : List Lot) (xs ys : List Step) → All (IsQuiet IsStay) xs → TokensFollow lots ys → TokensFollow lots (xs ++ ys)
 follow_join lots [] ys all h = h
 follow_join lots (s ∷ xs) ys all h =
-    let here = All-head (IsQuiet IsStay) s xs all in
-    ((λ i e. absurd (none_some i (sym here.act.token ∙ e))),
-     subst (λ (ls : List Lot). TokensFollow ls (xs ++ ys)) (sym (still s lots here.first here.last)) (follow_join lots xs ys (All-tail (IsQuiet IsStay) s xs all) h))
+    let here = All-head (IsQuiet IsStay) s xs all in (
+      (λ i e. absurd (none_some i (sym here.act.token ∙ e))),
+      subst (λ (ls : List Lot). TokensFollow ls (xs ++ ys)) (sym (still s lots here.first here.last)) (follow_join lots xs ys (All-tail (IsQuiet IsStay) s xs all) h),
+    )
 
 -- a token of a lot that is lent
 named : (i j : LotId) → ◌≡◌ {A = Option LotId} (Some i) (Some j) → i ≡ j
 named i j e = cc
 
 pub follow_token : (lots : List Lot) (lot : Lot) (ys : List Step) → HasLent lots lot.id → NoEnd lot.id ys → TokensFollow lots ys → TokensFollow lots (token_steps lot ++ ys)
-follow_token lots lot ys has h more =
-    ((λ i e. absurd (none_some i e)),
-    ((λ i e. subst (λ (j : LotId). TokenStays j lots ys) (named lot.id i e) (stays_by lot.id lots ys has h)), more))
+follow_token lots lot ys has h more = (
+  (λ i e. absurd (none_some i e)),
+  ((λ i e. subst (λ (j : LotId). TokenStays j lots ys) (named lot.id i e) (stays_by lot.id lots ys has h)), more),
+)

@@ -1,56 +1,38 @@
 -- Tokens, what is left of plans, and loads after each event.
-use Rattle.std.specs.Prelude.{Option, Some, None, ◌⊎◌, ◌<◌, ◌&&◌, not, is_some, is_none, remove, slice_set, slice_index_or}
-use Rattle.std.specs.List.{list_any}
-use Rattle.std.proofs.Common.{◌≡◌, ◌≢◌, ℕ, Bool, true, false, List, [], ◌∷◌, ◌++◌, length, refl, sym, ap, ◌∙◌, inl, inr, subst, arith}
+use Rattle.std.specs.Prelude.{Option, Some, None, ◌<◌, not, slice_set, slice_index_or}
+use Rattle.std.proofs.Common.{◌≡◌, ◌≢◌, ℕ, Bool, true, false, List, length, refl, sym, ap, ◌∙◌, inl, inr, subst, arith}
 use Rattle.std.proofs.lemmas.Bool.{false≢true, and_parts, cases_eq}
 use Rattle.std.proofs.lemmas.List.{get_or-set_same, get_or-set_other}
 use Rattle.nc_num.specs.declared.names.ChanNo.{ChanNo}
 use Rattle.nc_num.specs.declared.names.HartNo.{HartNo}
 use Rattle.nc_num.specs.declared.names.Label.{Label}
-use Rattle.nc_model.specs.declared.touches.Touch.{Touch}
-use Rattle.nc_queue.specs.Entries.{is_o}
 use Rattle.nc_queue.specs.Rules as queues
 use Rattle.nc_queue.specs.declared.entry.Entry.{Entry}
-use Rattle.nc_queue.specs.declared.entry.Entry.TheVariants as entries
 use Rattle.nc_plan.specs.Plans.{In}
 use Rattle.nc_plan.specs.declared.ops.HartOp.{HartOp}
 use Rattle.nc_hart.specs.HartState.{HartState}
 use Rattle.nc_hart.specs.Issue.{entry_of}
-use Rattle.nc_slots.specs.SlotWords.{holder_of}
-use Rattle.nc_scen.specs.declared.events.Event.{Event}
-use Rattle.nc_scen.specs.declared.events.Event.TheVariants as events
-use Rattle.nc_scen.specs.Events.{IsThere}
 use Rattle.nc_rules.specs.declared.answers.Issued.{Issued}
 use Rattle.nc_rules.specs.declared.answers.Issued.TheVariants as issued
-use Rattle.nc_rules.specs.declared.lots.LotId.{LotId}
-use Rattle.nc_rules.specs.declared.records.Record.{Record}
 use Rattle.nc_rules.specs.declared.steps.Next.{Next}
 use Rattle.nc_rules.specs.declared.steps.Next.TheVariants as nexts
-use Rattle.nc_rules.specs.declared.steps.Seen.{Seen}
 use Rattle.nc_rules.specs.declared.steps.Seen.TheVariants as seen
-use Rattle.nc_rules.specs.Lots.{lot_id}
 use Rattle.nc_rules.specs.Machine.{MachineState, no_hart, hart_of, queue_of, grantee_of}
-use Rattle.nc_rules.specs.Calls.{io_waits, issue_next, issue_answer, leaving, drain_next, claim_next, take_next, control_of}
+use Rattle.nc_rules.specs.Calls.{io_waits, issue_next, issue_answer, claim_next, take_next, control_of}
 use Rattle.nc_rules.specs.Sound.{IsMachine}
-use Rattle.nc_rules.specs.Driver.{DriverState, Went, next_of, searched, searching, waits_for, started, told, done, lent}
+use Rattle.nc_rules.specs.Driver.{DriverState, next_of, waits_for, started, done}
 use Rattle.nc_rules.specs.World.{WorldState, no_driver, driver_of}
-use Rattle.nc_rules.specs.Events.{enabled, is_out, may_go_on}
-use Rattle.nc_rules.specs.Outcomes.{Outcome, outcome, goes, runs, nothing, seen_of, claim_seen, step_outcome, start_outcome, op_outcome, claim_outcome, poll_outcome, take_outcome, at_word, got_word, try_outcome, told_outcome, leaves, drain_outcome}
-use Rattle.nc_rules.specs.Next.{next}
-use Rattle.nc_calls.specs.PlaceLaws.{Drains}
-use Rattle.nc_calls.proofs.DrainPlaces.{drain_is}
+use Rattle.nc_rules.specs.Events.{is_out, may_go_on}
+use Rattle.nc_rules.specs.Outcomes.{seen_of, claim_seen, step_outcome, start_outcome, op_outcome, claim_outcome, poll_outcome, take_outcome}
 use Rattle.nc_scripts.specs.Scripts.{is_act}
-use Rattle.nc_scripts.specs.Drivers.{LoadsFit, IsDriver, IsSeenAt, IsLentAt, loaded_next}
+use Rattle.nc_scripts.specs.Drivers.{IsSeenAt, loaded_next}
 use Rattle.nc_scripts.proofs.LastLoads.{last_loads_follow}
-use Rattle.nc_holds.specs.Tokens.{token_of, TokensAgree}
-use Rattle.nc_holds.specs.Rests.{RestAgrees}
+use Rattle.nc_holds.specs.Tokens.{TokensAgree}
 use Rattle.nc_holds.specs.Holds.{Holds, DriverHolds}
-use Rattle.nc_holds.proofs.ListsC.{in_got}
-use Rattle.nc_holds.proofs.MessageWorlds.{Comes, comes, SameHarts, same_harts, fill_same, evict_same, read_same, write_same, claim_same, take_harts, Issues, issue_is}
-use Rattle.nc_holds.proofs.TokenRests.{stays_has}
+use Rattle.nc_holds.proofs.MessageWorlds.{Comes, claim_same, take_harts, issue_is}
 use Rattle.nc_holds.proofs.TokenDone.{waits_next, token_next}
-use Rattle.nc_holds.proofs.TokenHarts.{HartSo, Queued, so_removed, none_queued, waits_none, entry_token, queued_from}
-use Rattle.nc_holds.proofs.TokenEvents.{TokensAreOut, QueuedThen, so_started, so_told, so_lent, so_done}
+use Rattle.nc_holds.proofs.TokenHarts.{HartSo, none_queued, waits_none, entry_token, queued_from}
+use Rattle.nc_holds.proofs.TokenEvents.{TokensAreOut, QueuedThen, so_started, so_done}
 
 -- of hart g of a world
 abbrev pub WorldSo : WorldState → ℕ → Type 0
