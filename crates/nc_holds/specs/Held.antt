@@ -1,6 +1,6 @@
 -- Who holds what: how the lots of a hart agree with the owners, the grants, the slot words and the pages. It is true at
 -- each moment of every run, with touches or without. This project's own.
-use Rattle.std.specs.Prelude.{ℕ, ◌≡◌, ◌≢◌, ◌*◌, ◌<◌, ◌==◌, Bool, true, false, if◌then◌else◌, List, length, Option, Some, None, All, flat_map, count_by, replicate, slice_get}
+use Rattle.std.specs.Prelude.{ℕ, ◌≡◌, ◌≢◌, ◌*◌, ◌==◌, Bool, true, false, if◌then◌else◌, List, Option, Some, None, All, flat_map, count_by, replicate, slice_get}
 use Rattle.nc_num.specs.Places.{covers}
 use Rattle.nc_num.specs.declared.names.HartNo.{HartNo}
 use Rattle.nc_num.specs.declared.places.Span.{Span}

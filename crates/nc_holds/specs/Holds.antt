@@ -1,10 +1,8 @@
 -- What holds of every world of every run: its drivers are drivers of its machine, and owners, grants, slot words, pages,
 -- messages and tokens agree with them. This project's own.
-use Rattle.std.specs.Prelude.{ℕ, ◌≡◌, ◌*◌, ◌<◌, ◌≤◌, List, [], ◌∷◌, ◌++◌, length, Option, Some, None, All, true, false, replicate, slice_set}
+use Rattle.std.specs.Prelude.{ℕ, ◌≡◌, ◌<◌, ◌≤◌, List, [], ◌∷◌, ◌++◌, length, Option, Some, None, All, true, false, replicate, slice_set}
 use Rattle.nc_num.specs.declared.names.HartNo.{HartNo}
-use Rattle.nc_num.specs.declared.places.Span.{Span}
 use Rattle.nc_model.specs.declared.owners.Grant.{Grant}
-use Rattle.nc_model.specs.declared.owners.Owner.{Owner}
 use Rattle.nc_model.specs.Grants.{CanAdd}
 use Rattle.nc_slots.specs.SlotWords.{holder_of}
 use Rattle.nc_coherent.specs.Pages.{PageMap, IsPages, page_count}
@@ -16,14 +14,12 @@ use Rattle.nc_scen.specs.Accepted.{IsAccepted}
 use Rattle.nc_scen.specs.Events.{IsThere}
 use Rattle.nc_queue.specs.declared.entry.Entry.TheVariants as entries
 use Rattle.nc_num.specs.declared.names.Label.{Label}
-use Rattle.nc_rules.specs.declared.lots.Lot.{Lot}
 use Rattle.nc_rules.specs.declared.steps.PageMove.{PageMove}
 use Rattle.nc_rules.specs.declared.steps.PageMove.TheVariants as pages
 use Rattle.nc_rules.specs.Lots.{Fixed, lot_id}
-use Rattle.nc_rules.specs.Machine.{MachineState, hart_of}
+use Rattle.nc_rules.specs.Machine.{hart_of}
 use Rattle.nc_rules.specs.Calls.{leaving}
 use Rattle.nc_rules.specs.Sound.{IsMachine}
-use Rattle.nc_rules.specs.Driver.{DriverState}
 use Rattle.nc_rules.specs.Turns.{Moved}
 use Rattle.nc_rules.specs.World.{WorldState, driver_of, start}
 use Rattle.nc_rules.specs.Events.{enabled}
@@ -32,8 +28,10 @@ use Rattle.nc_rules.specs.Next.{next}
 use Rattle.nc_scripts.specs.Drivers.{IsDriver, ArePagesOf, LoadsFit, IsLentAt}
 use Rattle.nc_scripts.specs.Scripts.{IsRangeIn}
 use Rattle.nc_holds.specs.Held.{Held, AreRegions, HartAgrees, IsGrantOf}
+use Rattle.nc_holds.specs.Changes.{WaitsUnlent, IsPlanStep}
 use Rattle.nc_holds.specs.Messages.{MessagesAgree}
 use Rattle.nc_holds.specs.Tokens.{TokensAgree}
+use Rattle.nc_holds.specs.Rests.{RestAgrees}
 
 -- ---- the drivers of a machine
 
@@ -64,8 +62,11 @@ pub record DriverHolds (w : WorldState) (h : ℕ) : Type 0 where
   pub setting : IsSetting (driver_of w h).fixed w
   pub regions : AreRegions (driver_of w h).fixed
   pub loads : LoadsFit (length (hart_of w.machine h).last) (driver_of w h).rest
+  pub turns : All (IsPlanStep (driver_of w h).lots) (driver_of w h).rest
+  pub waits : WaitsUnlent (driver_of w h).lots
   pub agrees : HartAgrees (driver_of w h).fixed (held_of w h)
   pub tokens : TokensAgree w h
+  pub rest : RestAgrees (driver_of w h)
 
 -- a grant is that of an entry of its hart
 pub record IsHeldGrant (w : WorldState) (g : Grant) : Type 0 where

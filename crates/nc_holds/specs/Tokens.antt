@@ -85,3 +85,5 @@ TokensFollow lots (s ∷ rest) =
 pub record TokensAgree (w : WorldState) (h : ℕ) : Type 0 where
   pub queued : (e : Entry) (id : LotId) → In e (queue_of w.machine h) → token_of e ≡ Some id → TokenStays id (driver_of w h).lots (driver_of w h).rest
   pub to_queue : TokensFollow (driver_of w h).lots (driver_of w h).rest
+  -- with light fences alone
+  pub light : (e : Entry) (id : LotId) → In e (queue_of w.machine h) → token_of e ≡ Some id → (driver_of w h).fixed.light ≡ true

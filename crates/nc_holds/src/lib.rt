@@ -4,3 +4,7 @@
 //! of every world (`Holds`) holds at the start of an accepted scenario and after each event, touches or not, and so what
 //! an event moves may be moved.
 #![tactic(auto)]
+
+mod laws;
+
+pub use laws::{events_keep_holding, moves_may_be_made, tokens_are_lent, worlds_begin};

@@ -1,0 +1,5 @@
+use Rattle.nc_holds.proofs.TokenGoesOn as tokens
+use Rattle.nc_holds.proofs.laws.tokens_are_lent.Goals as goal
+
+pub returns : goal.returns
+returns c = tokens.tokens_are_lent

@@ -1,0 +1,5 @@
+use Rattle.nc_holds.proofs.StartHolds.{start_holds}
+use Rattle.nc_holds.proofs.laws.worlds_begin.Goals as goal
+
+pub returns : goal.returns
+returns c = start_holds
