@@ -1,8 +1,9 @@
 -- What a call has read.
-use Rattle.std.specs.Prelude.{◌≡◌, ◌≢◌, ◌<◌, ◌⊎◌, ◌↔◌, ℕ, Ok, None, List, Bool, true, [], Option, length}
+use Rattle.std.specs.Prelude.{◌≡◌, ◌≢◌, ◌<◌, ◌≤◌, ◌⊎◌, ◌↔◌, ℕ, Ok, None, List, Bool, true, [], Option, length}
 use Rattle.std.specs.Io.KnownBytes.{Consumes, IsAtEnd, Keeps}
 use Rattle.nc_io.specs.Streams.{GrowsByFront}
-use Rattle.nc_top.specs.Due.{due, command_of}
+use Rattle.nc_migrate.specs.Migrating.{KeepsReading}
+use Rattle.nc_top.specs.Due.{due, due_for, command_of}
 use Rattle.nc_scen.specs.Reading.{most_bytes, reading}
 use Rattle.nc_scen.specs.declared.scenario.Scenario.{Scenario}
 use Rattle.nc_scripts.specs.Covered.{IsCovered}
@@ -30,3 +31,8 @@ IsRunWhereRead status bytes = (status ≢ 3) ↔ ((sc : Scenario) × (reading by
 -- flat memory's bytes are kept.
 abbrev pub IsFlat : ℕ → List ℕ → Type 0
 IsFlat status bytes = status ≢ 3 → (sc : Scenario) × (reading bytes ≡ Ok sc) × (IsCovered sc → IsLatest sc (sched sc) × IsKept sc (sched sc))
+
+-- A text stands for the scenario that some bytes are: its reading is that of the bytes with version 2, and where it is not
+-- too long to be read, what `run` owes for it, report and status, is what it owes for the bytes.
+unfoldable pub KeepsScenario : List ℕ → List ℕ → Type 0
+KeepsScenario bytes text = KeepsReading bytes text × (length text ≤ most_bytes → due_for (reading text) ≡ due_for (reading bytes))

@@ -5,12 +5,12 @@ ghost use Rattle.std.specs.Io.KnownBytes.{Appends, Keeps};
 ghost use Rattle.nc_io.specs.Causes.{Rose};
 ghost use Rattle.nc_io.specs.Streams.{GrowsByFront};
 ghost use Rattle.nc_scen.specs.Reading.{reading};
-ghost use Rattle.nc_migrate.specs.Migrating.{KeepsReading, migrated};
+ghost use Rattle.nc_migrate.specs.Migrating.{migrated};
 ghost use Rattle.nc_pieces.specs.Serving.{pool_answer};
 ghost use Rattle.nc_flat.specs.Laws.{EachRunIsLatest, EachRunIsKept};
 ghost use Rattle.nc_scen.specs.Accepted.{IsAccepted};
 ghost use Rattle.nc_top.specs.Due.{due, due_by, due_for, due_for_migrate, due_for_pool, command_of, is_migrate, is_pool, is_run, IsAnswer};
-ghost use Rattle.nc_top.specs.Inputs.{HasRead, IsFlat, IsRunWhereRead, WroteFront};
+ghost use Rattle.nc_top.specs.Inputs.{HasRead, IsFlat, IsRunWhereRead, KeepsScenario, WroteFront};
 
 use crate::input::{Lost, read_input};
 use crate::run::run_out;
@@ -82,7 +82,7 @@ fn answer_migrate<K: Sink>(alloc: Global, bytes: &[u8], out: &mut K) -> u8
     ensures written { IsAnswer result → (result ≡ (due_for_migrate (migrated bytes.now)).status) × Appends (K.held out.old) (K.held out.new) (due_for_migrate (migrated bytes.now)).text }
     ensures sink { result ≡ 5 → Rose (K.faults out.old) (K.faults out.new) }
     ensures reads { result ≢ 4 }
-    ensures law { result ≡ 0 → KeepsReading bytes.now (due_for_migrate (migrated bytes.now)).text }
+    ensures law { result ≡ 0 → KeepsScenario bytes.now (due_for_migrate (migrated bytes.now)).text }
     ensures front { Keeps (K.held out.old) (K.held out.new) ⊎ GrowsByFront (K.held out.old) (K.held out.new) (due_for_migrate (migrated bytes.now)).text }
 {
     match migrate(alloc, bytes) {
@@ -116,7 +116,7 @@ fn answer_command<K: Sink>(alloc: Global, command: Command, bytes: &[u8], out: &
     ensures reads { result ≢ 4 }
     ensures read { command ≡ Command.Run → IsAnswer result → IsRunWhereRead result bytes.now }
     ensures flat { command ≡ Command.Run → IsAnswer result → IsFlat result bytes.now }
-    ensures moved { command ≡ Command.Migrate → result ≡ 0 → KeepsReading bytes.now (due_by command bytes.now).text }
+    ensures moved { command ≡ Command.Migrate → result ≡ 0 → KeepsScenario bytes.now (due_by command bytes.now).text }
     ensures front { Keeps (K.held out.old) (K.held out.new) ⊎ GrowsByFront (K.held out.old) (K.held out.new) (due_by command bytes.now).text }
 {
     match command {
@@ -155,7 +155,7 @@ pub fn dmasim<S: Source, K: Sink>(
         → (bytes : List ℕ) × HasRead (S.left src.old) (S.left src.new) (S.ended src.new) bytes
         × (result ≡ (due (map string_bytes words.now.items) bytes).status)
         × Appends (K.held out.old) (K.held out.new) (due (map string_bytes words.now.items) bytes).text
-        × (result ≡ 0 → KeepsReading bytes (due (map string_bytes words.now.items) bytes).text) }
+        × (result ≡ 0 → KeepsScenario bytes (due (map string_bytes words.now.items) bytes).text) }
     ensures pool { is_pool (map string_bytes words.now.items) ≡ true → IsAnswer result
         → (bytes : List ℕ) × HasRead (S.left src.old) (S.left src.new) (S.ended src.new) bytes
         × (result ≡ (due (map string_bytes words.now.items) bytes).status)

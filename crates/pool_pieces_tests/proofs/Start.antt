@@ -1,5 +1,5 @@
 -- A pool that has no page may take from any pages.
-use Rattle.std.proofs.Common.{◌≡◌, ℕ, ◌+◌, ◌*◌, ◌%◌, ◌<◌, ◌≤◌, List, [], length, refl, sym, ap, subst, arith, Result, Ok, Err}
+use Rattle.std.proofs.Common.{◌≡◌, [], length, refl, ap, subst, arith, Result, Ok, Err}
 use Rattle.nc_coherent.specs.Pages.{PageMap}
 use Rattle.nc_dmapool.specs.declared.layout.PoolBad.{PoolBad}
 use Rattle.nc_dmapool.specs.Layouts.{Layout}
