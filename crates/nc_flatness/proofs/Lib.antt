@@ -1,3 +1,4 @@
 pub mod Marks
 pub mod FlatBytes
 pub mod Outcomes
+pub mod Loans
