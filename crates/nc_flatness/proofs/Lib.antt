@@ -2,3 +2,4 @@ pub mod Marks
 pub mod FlatBytes
 pub mod Outcomes
 pub mod Loans
+pub mod Owned

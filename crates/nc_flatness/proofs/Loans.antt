@@ -117,7 +117,7 @@ some_by f n (Some lot) l e = let same : loan_by f n lot ≡ l = cc in (lot, refl
 lots_past : (w : WorldState) (h : ℕ) → length w.drivers ≤ h → (driver_of w h).lots ≡ []
 lots_past w h past = ap (λ (d : DriverState). d.lots) (get_or_past w.drivers h no_driver past)
 
-hart_of_lot : (w : WorldState) (h : ℕ) (lot : Lot) → Holds w → In lot (driver_of w h).lots → h < length w.machine.harts
+pub hart_of_lot : (w : WorldState) (h : ℕ) (lot : Lot) → Holds w → In lot (driver_of w h).lots → h < length w.machine.harts
 hart_of_lot w h lot k here = elim (cases_lt h (length w.machine.harts)) [
   | inl lt ↦ lt
   | inr past ↦ elim (subst (λ (lots : List Lot). In lot lots) (lots_past w h (omega (arith, k.drivers, past))) here) [ ]
