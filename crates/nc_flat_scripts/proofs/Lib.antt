@@ -1,2 +1,4 @@
 pub mod AlikeRows
 pub mod EntryRows
+pub mod ScriptSteps
+pub mod ScriptCalls
