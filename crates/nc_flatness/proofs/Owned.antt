@@ -132,9 +132,9 @@ lot_loan sc f w h lot flat here lent =
     let apart : AreApart d.lots = (flat.world.holds.each h lt).driver.apart in
     let alone : (other : Lot) → In other d.lots → is_entry_of (id_of h lot) other ≡ true → other ≡ lot =
     λ other k e.
-      let o = lot_direct sc f w h other flat k in
-      let named = named_by (id_of h lot) other o e in
-      same_named d.lots lot.id other lot apart k here (label_lot other lot.id named.label (o.first ∙ sym is.first)) (its_name lot lot.id refl) in
+    let o = lot_direct sc f w h other flat k in
+    let named = named_by (id_of h lot) other o e in
+    same_named d.lots lot.id other lot apart k here (label_lot other lot.id named.label (o.first ∙ sym is.first)) (its_name lot lot.id refl) in
     ap (option_map (loan_by d.fixed (id_of h lot))) (find_only (is_entry_of (id_of h lot)) d.lots lot here (entry_named h lot is lent) alone)
 
 -- ---- the script of a hart
