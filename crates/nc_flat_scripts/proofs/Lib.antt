@@ -2,3 +2,4 @@ pub mod AlikeRows
 pub mod EntryRows
 pub mod ScriptSteps
 pub mod ScriptCalls
+pub mod OwnPlaces
