@@ -3,3 +3,4 @@ pub mod EntryRows
 pub mod ScriptSteps
 pub mod ScriptCalls
 pub mod OwnPlaces
+pub mod StepFrames
