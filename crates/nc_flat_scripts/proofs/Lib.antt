@@ -4,3 +4,4 @@ pub mod ScriptSteps
 pub mod ScriptCalls
 pub mod OwnPlaces
 pub mod StepFrames
+pub mod ActRows
