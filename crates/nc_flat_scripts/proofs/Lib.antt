@@ -5,3 +5,4 @@ pub mod ScriptCalls
 pub mod OwnPlaces
 pub mod StepFrames
 pub mod ActRows
+pub mod OpActs
