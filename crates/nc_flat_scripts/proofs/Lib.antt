@@ -6,3 +6,4 @@ pub mod OwnPlaces
 pub mod StepFrames
 pub mod ActRows
 pub mod OpActs
+pub mod ScriptEvents
