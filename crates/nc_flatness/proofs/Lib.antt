@@ -4,3 +4,4 @@ pub mod Outcomes
 pub mod Loans
 pub mod Owned
 pub mod Rests
+pub mod Worlds
