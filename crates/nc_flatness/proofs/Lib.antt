@@ -5,3 +5,4 @@ pub mod Loans
 pub mod Owned
 pub mod Rests
 pub mod Worlds
+pub mod BookReads
