@@ -3,6 +3,7 @@ pub mod FlatBytes
 pub mod Outcomes
 pub mod Loans
 pub mod Owned
+pub mod WholeBlocks
 pub mod Rests
 pub mod Worlds
 pub mod BookReads
