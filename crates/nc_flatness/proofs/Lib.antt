@@ -7,3 +7,6 @@ pub mod WholeBlocks
 pub mod Rests
 pub mod Worlds
 pub mod BookReads
+pub mod Regions
+pub mod StartOwners
+pub mod Starts
