@@ -5,3 +5,8 @@ pub mod Loans
 pub mod Owned
 pub mod WholeBlocks
 pub mod Rests
+pub mod Worlds
+pub mod BookReads
+pub mod Regions
+pub mod StartOwners
+pub mod Starts

@@ -1,5 +1,5 @@
 -- A mapping that its device may write has the whole block of each of its places.
-use Rattle.std.specs.Prelude.{Option, Some, ◌&&◌, ◌||◌, ◌==◌, ◌/◌, ◌%◌, nat_lt, not, All}
+use Rattle.std.specs.Prelude.{◌&&◌, ◌||◌, ◌==◌, ◌/◌, ◌%◌, nat_lt, not}
 use Rattle.std.proofs.Common.{◌≡◌, ℕ, ◌+◌, ◌<◌, ◌≤◌, Bool, true, false, List, length, refl, sym, ap, ◌∙◌, inl, subst, arith}
 use Rattle.std.proofs.lemmas.Bool.{and_parts, or_parts, not-false, eqb-true}
 use Rattle.nc_num.specs.Sizes.{IsBlockSize}
@@ -11,24 +11,20 @@ use Rattle.nc_num.specs.declared.places.Span.{Span}
 use Rattle.nc_plan.specs.Plans.{In}
 use Rattle.nc_plan.specs.Parts.{comes_back, is_whole, bounces}
 use Rattle.nc_model.proofs.Faults.{covers-low, covers-high, covers-from}
-use Rattle.nc_model.specs.declared.owners.Owner.{Owner}
 use Rattle.nc_sg.specs.declared.list.Entry.{Entry}
 use Rattle.nc_scen.specs.declared.scenario.Scenario.{Scenario}
 use Rattle.nc_rules.specs.declared.lots.Kind.{Kind}
 use Rattle.nc_rules.specs.declared.lots.Kind.TheVariants.{Single}
 use Rattle.nc_rules.specs.declared.lots.Lot.{Lot}
-use Rattle.nc_rules.specs.Lots.{Fixed, reach_of, owner_of_side}
+use Rattle.nc_rules.specs.Lots.{Fixed, reach_of}
 use Rattle.nc_rules.specs.Turns.{is_area}
-use Rattle.nc_rules.specs.Driver.{DriverState}
 use Rattle.nc_rules.specs.Watched.{owner_of}
 use Rattle.nc_rules.specs.World.{WorldState, driver_of}
 use Rattle.nc_scripts.specs.Drivers.{IsLotIn, BouncesSo}
 use Rattle.nc_holds.proofs.ListsA.{all_at}
-use Rattle.nc_rows.specs.Rows.{Loan}
-use Rattle.nc_flatness.specs.Books.{book_of, mapping_in}
 use Rattle.nc_flatness.specs.Flatness.{Flatness}
-use Rattle.nc_flatness.proofs.Loans.{IsDirectLot, IsLoan, lot_direct, loan_is}
-use Rattle.nc_flatness.proofs.Owned.{IsMapped, mapped, lot_owned, me_is}
+use Rattle.nc_flatness.proofs.Loans.{lot_direct}
+use Rattle.nc_flatness.proofs.Owned.{IsMapped, lot_owned}
 
 -- a range that does not bounce is whole blocks, where its device may write
 whole_by : (f : Fixed) (kind : Kind) (dir : Dir) (chan : ChanNo) (e : Entry) → BouncesSo f kind dir chan e → kind ≡ Single → e.bounced ≡ false → comes_back dir ≡ true → is_whole f.size e.span ≡ true
