@@ -115,7 +115,7 @@ entry_stands sc f g w k h e flat by comes quiet still is long bytes =
       flat_size = long ∙ flat.bytes.flat_size;
       rows = λ x lt.
           subst (λ (v : ℕ). Row a (owner_of w x) v k x) (sym (bytes x))
-          (row_entered a (owner_of w) (byte f x) m k h e x by comes (direct_at sc f w x flat lt) (unlent_at sc f w h x flat still lt) quiet (flat.bytes.rows x lt));
+          (row_entered a (owner_of w) (byte f x) m k h e x by comes (direct_at sc f w x flat lt) (unlent_at sc f w h x flat still lt) (λ j g passing own. quiet (a.buffer x)) (flat.bytes.rows x lt));
       queued = queued_more a (owner_of w) m k h e by is flat.bytes.queued;
       uncached = uncached_by a (owner_of w) m k by.shape (λ x over none. (by.pushes.places x).line ∙ none) flat.bytes.uncached;
     }

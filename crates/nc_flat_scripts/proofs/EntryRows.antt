@@ -25,7 +25,7 @@ use Rattle.nc_rows.specs.Ahead.{is_full, settling}
 use Rattle.nc_rows.specs.Rows.{Loan, Book, device_place, ahead_of, Either, ByDir, Row}
 use Rattle.nc_row_issues.specs.Laws.{Enters, NoByte, NoBlock, Passes, PassesTo, PassesFrom, PassesDevice, PassesOpen, PassesDropping, PassesComing, PassesLent, PassesLoan, PassesBack, IsOwn}
 use Rattle.nc_row_issues.proofs.RowIssues.{rows_issue}
-use Rattle.nc_flat_scripts.specs.Entering.{GivesOwn, IsPlain, IsNoMail, IsDirect, LoanIsDirect, OwnerIsDirect, IsUnlent}
+use Rattle.nc_flat_scripts.specs.Entering.{GivesOwn, IsPlain, IsNotIts, IsDirect, LoanIsDirect, OwnerIsDirect, IsUnlent}
 
 -- ---- a block of which an entry gives no byte
 
@@ -119,9 +119,9 @@ back_passes a owner m h e x n (Some l) c is direct none =
     })
     (record { device = place; buffer = inr none })))
 
-pub passes : (a : Book) (owner : ℕ → Owner) (m : MachineState) (h : ℕ) (e : Entry) (x : ℕ) (o : Owner) → Comes a owner m h e → owner x ≡ o → OwnerIsDirect a owner m.size x o → IsUnlent owner h x → IsNoMail e → NoByte m e x → Passes a o m h e x
+pub passes : (a : Book) (owner : ℕ → Owner) (m : MachineState) (h : ℕ) (e : Entry) (x : ℕ) (o : Owner) → Comes a owner m h e → owner x ≡ o → OwnerIsDirect a owner m.size x o → IsUnlent owner h x → IsNotIts a owner h e x → NoByte m e x → Passes a o m h e x
 passes a owner m h e x (Thread j) c is direct unlent quiet none = none
-passes a owner m h e x (Passing j g) c is direct unlent quiet none = record { place = none; message = λ same. quiet (a.buffer x) }
+passes a owner m h e x (Passing j g) c is direct unlent quiet none = record { place = none; message = λ same. quiet j g is same }
 passes a owner m h e x (Lending n) c is direct unlent quiet none = lent_passes a owner m h e x n (a.loan n) c is (unlent n is) direct none
 passes a owner m h e x (Device n) c is direct unlent quiet none = device_passes a owner m h e x n (a.loan n) c is direct none
 passes a owner m h e x (Returning n) c is direct unlent quiet none = back_passes a owner m h e x n (a.loan n) c is direct none
@@ -129,7 +129,7 @@ passes a owner m h e x (Synced n) c is direct unlent quiet none = none
 passes a owner m h e x Pool c is direct unlent quiet none = none
 
 -- the row behind it: with the entry's byte where it gives one
-pub row_entered : (a : Book) (owner : ℕ → Owner) (v : ℕ) (m k : MachineState) (h : ℕ) (e : Entry) (x : ℕ) → Enters m k h e → Comes a owner m h e → OwnerIsDirect a owner m.size x (owner x) → IsUnlent owner h x → IsNoMail e → Row a (owner x) v m x
+pub row_entered : (a : Book) (owner : ℕ → Owner) (v : ℕ) (m k : MachineState) (h : ℕ) (e : Entry) (x : ℕ) → Enters m k h e → Comes a owner m h e → OwnerIsDirect a owner m.size x (owner x) → IsUnlent owner h x → IsNotIts a owner h e x → Row a (owner x) v m x
     → Row a (owner x) (unwrap_or (entry_gives m.size e x) v) k x
 row_entered a owner v m k h e x by c direct unlent quiet row = elim (c.own x) [
   | inl none ↦

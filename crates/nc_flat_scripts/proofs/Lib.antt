@@ -1,4 +1,3 @@
-pub mod AlikeRows
 pub mod EntryRows
 pub mod ScriptSteps
 pub mod ScriptCalls
@@ -7,3 +6,4 @@ pub mod StepFrames
 pub mod ActRows
 pub mod OpActs
 pub mod ScriptEvents
+pub mod PassingFrames

@@ -64,7 +64,18 @@ still_side : (n : MapId) (lot : Lot) → IsStill lot → Lending n ≡ owner_of_
 still_side n lot (inl is) e = let no : Lending n ≡ Device n = e ∙ ap (owner_of_side n) is in absurd cc
 still_side n lot (inr is) e = let no : Lending n ≡ Synced n = e ∙ ap (owner_of_side n) is in absurd cc
 
--- a hart whose lots are still lends none
+still_taken : (n : MapId) (lot : Lot) → IsStill lot → Returning n ≡ owner_of_side n lot.side → ⊥
+still_taken n lot (inl is) e = let no : Returning n ≡ Device n = e ∙ ap (owner_of_side n) is in absurd cc
+still_taken n lot (inr is) e = let no : Returning n ≡ Synced n = e ∙ ap (owner_of_side n) is in absurd cc
+
+-- a hart whose lots are still takes none back
+pub untaken_at : (sc : Scenario) (f : List ℕ) (w : WorldState) (h x : ℕ) (n : MapId) → Flatness sc f w → All IsStill (driver_of w h).lots → x < sc.ram → owner_of w x ≡ Returning n → n.hart.0 ≡ h → ⊥
+untaken_at sc f w h x n flat still lt e hart =
+    let m = mapped sc f w n x flat lt (ap mapping_in e) in
+    let here : In m.is.lot (driver_of w h).lots = subst (λ (k : ℕ). In m.is.lot (driver_of w k).lots) hart m.is.here in
+    still_taken n m.is.lot (all_at IsStill (driver_of w h).lots m.is.lot still here) (sym e ∙ m.owner)
+
+-- and lends none
 pub unlent_at : (sc : Scenario) (f : List ℕ) (w : WorldState) (h x : ℕ) → Flatness sc f w → All IsStill (driver_of w h).lots → x < sc.ram → IsUnlent (owner_of w) h x
 unlent_at sc f w h x flat still lt = λ n e hart.
     let m = mapped sc f w n x flat lt (ap mapping_in e) in
