@@ -7,3 +7,4 @@ pub mod ActRows
 pub mod OpActs
 pub mod ScriptEvents
 pub mod PassingFrames
+pub mod MailFacts
