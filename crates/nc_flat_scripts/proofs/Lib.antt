@@ -8,3 +8,5 @@ pub mod OpActs
 pub mod ScriptEvents
 pub mod PassingFrames
 pub mod MailFacts
+pub mod HandCalls
+pub mod HandEvents
