@@ -10,3 +10,4 @@ pub mod BookReads
 pub mod Regions
 pub mod StartOwners
 pub mod Starts
+pub mod Runs
