@@ -11,3 +11,4 @@ pub mod Regions
 pub mod StartOwners
 pub mod Starts
 pub mod Runs
+pub mod Dispatch

@@ -20,7 +20,7 @@ use Rattle.nc_scen.specs.Events.{IsThere}
 use Rattle.nc_scen.specs.declared.events.Event.{Event}
 use Rattle.nc_scen.specs.declared.scenario.Scenario.{Scenario}
 use Rattle.nc_rules.specs.Events.{enabled}
-use Rattle.nc_rules.specs.Flat.{all_marks, event_marks, run_marks, is_given, flat_after, AreThere, IsLatest, IsKept, IsKeptAfter}
+use Rattle.nc_rules.specs.Flat.{event_marks, run_marks, is_given, flat_after, AreThere, IsLatest, IsKept, IsKeptAfter}
 use Rattle.nc_rules.specs.Machine.{MachineState, no_hart}
 use Rattle.nc_rules.specs.Next.{next, event_records}
 use Rattle.nc_rules.specs.Run.{after}
@@ -33,13 +33,9 @@ use Rattle.nc_rows.specs.Rows.{Book, Loan, SyncedRow, Row}
 use Rattle.nc_flatness.specs.Books.{book_of}
 use Rattle.nc_flatness.specs.Covered.{IsCoveredNow}
 use Rattle.nc_flatness.specs.Flatness.{Flatness}
-use Rattle.nc_flatness.specs.Steps.{IsTouch, GoesTo, EventGoes, IsNow, Goes}
+use Rattle.nc_flatness.specs.Steps.{IsTouch, GoesTo, Goes, EachGoes}
 use Rattle.nc_flatness.proofs.Starts.{start_flat}
 use Rattle.nc_flatness.proofs.Worlds.{worlds_stay}
-
--- each event that may happen goes
-abbrev pub EachGoes : Type 0
-EachGoes = (sc : Scenario) (f : List ℕ) (w : WorldState) (e : Event) → IsNow sc f w e → Goes sc f w e
 
 -- ---- one event
 
