@@ -1,0 +1,1 @@
+//! The laws of what the machine does at any moment, over the definitions alone.
