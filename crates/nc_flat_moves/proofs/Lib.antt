@@ -1,2 +1,1 @@
-pub mod MappedPlaces
 pub mod LosesRows
