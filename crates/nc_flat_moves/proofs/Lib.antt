@@ -1,1 +1,2 @@
 pub mod LosesRows
+pub mod Pieces
