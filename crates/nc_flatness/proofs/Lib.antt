@@ -3,3 +3,4 @@ pub mod FlatBytes
 pub mod Outcomes
 pub mod Loans
 pub mod Owned
+pub mod Rests
