@@ -1,6 +1,6 @@
 -- A drain in flat memory: a touch of a register, or the bytes stand as they did.
 use Rattle.std.specs.Prelude.{Option, Some, None, is_some, ◌==◌, ◌&&◌}
-use Rattle.std.proofs.Common.{◌≡◌, ℕ, ◌<◌, Bool, true, false, List, [], ◌∷◌, ◌++◌, length, refl, sym, ap, ◌∙◌, inl, inr, subst, arith}
+use Rattle.std.proofs.Common.{◌≡◌, ℕ, ◌<◌, Bool, true, false, List, [], ◌++◌, length, refl, ap, ◌∙◌, arith}
 use Rattle.std.proofs.lemmas.Bool.{false≢true}
 use Rattle.nc_num.specs.Memory.{byte}
 use Rattle.nc_num.specs.declared.names.HartNo.{HartNo}
@@ -19,7 +19,7 @@ use Rattle.nc_rules.specs.Machine.{MachineState, queue_of}
 use Rattle.nc_rules.specs.Calls.{leaving, drain_next, drain_transfers}
 use Rattle.nc_rules.specs.Events.{enabled}
 use Rattle.nc_rules.specs.Flat.{all_marks}
-use Rattle.nc_rules.specs.Outcomes.{Outcome, runs, leaves, drain_outcome, outcome}
+use Rattle.nc_rules.specs.Outcomes.{runs, leaves, drain_outcome, outcome}
 use Rattle.nc_rules.specs.Records.{transfer_records, drain_records}
 use Rattle.nc_rules.specs.Watched.{owner_of, drain_touch}
 use Rattle.nc_rules.specs.World.{WorldState}
@@ -33,7 +33,7 @@ use Rattle.nc_row_moves.proofs.PlaceDrains.{leaves as entry_leaves}
 use Rattle.nc_row_moves.proofs.RowDrains.{rows_drain}
 use Rattle.nc_flatness.specs.Books.{book_of}
 use Rattle.nc_flatness.specs.Flatness.{BytesStand, Flatness}
-use Rattle.nc_flatness.specs.Steps.{GoesTo, IsNow, Goes}
+use Rattle.nc_flatness.specs.Steps.{IsNow, Goes}
 use Rattle.nc_flatness.proofs.Marks.{transfers_silent, entry_silent}
 use Rattle.nc_flatness.proofs.Outcomes.{ran, goes_silent, runs_go}
 use Rattle.nc_flat_moves.proofs.LosesRows.{loses_row}

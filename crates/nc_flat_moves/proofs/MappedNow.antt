@@ -1,8 +1,8 @@
 -- The mappings of a world with flat memory, and what its drivers are still to do.
-use Rattle.std.specs.Prelude.{Option, Some, None, ◌&&◌, ◌||◌, ◌==◌, ◌-◌, ◌/◌, ◌%◌, nat_lt, not, All, slice_get}
+use Rattle.std.specs.Prelude.{Option, Some, None, ◌&&◌, ◌||◌, ◌==◌, ◌/◌, ◌%◌, nat_lt, not}
 use Rattle.std.specs.List.{list_any}
-use Rattle.std.proofs.Common.{◌≡◌, ◌⊎◌, ℕ, ◌+◌, ◌*◌, ◌<◌, ◌≤◌, Bool, true, false, List, [], ◌∷◌, length, refl, sym, ap, ◌∙◌, inl, inr, subst, arith}
-use Rattle.std.proofs.lemmas.Bool.{and_parts, cases_Bool, cases_lt, both_ways, eqb-true, not-false, or_parts}
+use Rattle.std.proofs.Common.{◌≡◌, ℕ, ◌+◌, ◌<◌, ◌≤◌, Bool, true, false, List, [], ◌∷◌, length, refl, sym, ap, ◌∙◌, inl, inr, subst, arith}
+use Rattle.std.proofs.lemmas.Bool.{and_parts, cases_lt, both_ways, eqb-true, not-false, or_parts}
 use Rattle.std.proofs.lemmas.List.{get_or_past}
 use Rattle.nc_num.specs.Places.{covers}
 use Rattle.nc_num.specs.Sizes.{IsBlockSize}
@@ -25,20 +25,19 @@ use Rattle.nc_rules.specs.declared.lots.Kind.TheVariants.{Single}
 use Rattle.nc_rules.specs.declared.lots.Lot.{Lot}
 use Rattle.nc_rules.specs.declared.lots.LotId.{LotId}
 use Rattle.nc_rules.specs.declared.steps.Step.{Step}
-use Rattle.nc_rules.specs.Calls.{is_pooled}
 use Rattle.nc_rules.specs.Lots.{Fixed, is_lot, reach_of, owner_of_side}
-use Rattle.nc_rules.specs.Machine.{MachineState, queue_of}
+use Rattle.nc_rules.specs.Machine.{queue_of}
 use Rattle.nc_rules.specs.Turns.{is_area}
 use Rattle.nc_rules.specs.Watched.{owner_of}
 use Rattle.nc_rules.specs.World.{WorldState, driver_of}
-use Rattle.nc_scripts.specs.Drivers.{IsLotIn, BouncesSo, IsFixed}
+use Rattle.nc_scripts.specs.Drivers.{IsLotIn, BouncesSo}
 use Rattle.nc_scripts.specs.Scripts.{IsDriven}
-use Rattle.nc_holds.specs.Holds.{DriverHolds, IsSetting}
+use Rattle.nc_holds.specs.Holds.{DriverHolds}
 use Rattle.nc_holds.specs.Tokens.{HasLent, TokenStays, token_of}
 use Rattle.nc_holds.proofs.ListsA.{all_at, none_of}
 use Rattle.nc_calls.proofs.StepPlaces.{pool_block}
-use Rattle.nc_rows.specs.Rows.{Loan, Book, device_place, ahead_of}
-use Rattle.nc_row_moves.specs.Laws.{PiecesOf, HasPieces, InBlock}
+use Rattle.nc_rows.specs.Rows.{Loan, device_place}
+use Rattle.nc_row_moves.specs.Laws.{PiecesOf, HasPieces}
 use Rattle.nc_row_moves.specs.Parts.{WholePool}
 use Rattle.nc_flatness.specs.Books.{book_of, mapping_in}
 use Rattle.nc_flatness.specs.Flatness.{IsDirect, Flatness}

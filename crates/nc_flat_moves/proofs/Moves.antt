@@ -1,23 +1,21 @@
 -- A fill and an eviction in flat memory: the bytes stand as they did.
-use Rattle.std.specs.Prelude.{Option, Some, None, ◌/◌}
-use Rattle.std.proofs.Common.{◌≡◌, ℕ, ◌+◌, ◌*◌, ◌<◌, ◌≤◌, Bool, true, false, List, [], length, refl, sym, ap, ◌∙◌, inl, inr, subst, arith}
+use Rattle.std.specs.Prelude.{None}
+use Rattle.std.proofs.Common.{◌≡◌, ℕ, ◌+◌, ◌*◌, ◌<◌, ◌≤◌, false, List, length, refl, sym, ap, ◌∙◌, arith}
 use Rattle.std.proofs.lemmas.Bool.{false≢true}
 use Rattle.nc_num.specs.Memory.{byte}
 use Rattle.nc_num.specs.declared.names.HartNo.{HartNo}
-use Rattle.nc_num.specs.declared.names.MapId.{MapId}
 use Rattle.nc_num.specs.declared.places.Block.{Block}
 use Rattle.nc_model.specs.declared.owners.Owner.{Owner}
 use Rattle.nc_model.specs.declared.owners.Owner.TheVariants.{Thread, Passing, Lending, Device, Returning, Synced, Pool}
 use Rattle.nc_scen.specs.declared.events.Event.TheVariants as events
 use Rattle.nc_scen.specs.declared.scenario.Scenario.{Scenario}
-use Rattle.nc_rules.specs.Machine.{MachineState}
 use Rattle.nc_rules.specs.Calls.{fill_next, fill_answer, evict_next, evict_answer}
 use Rattle.nc_rules.specs.Outcomes.{outcome}
 use Rattle.nc_rules.specs.Records.{answer_records}
 use Rattle.nc_rules.specs.Watched.{owner_of}
 use Rattle.nc_rules.specs.World.{WorldState}
 use Rattle.nc_calls.specs.MachineLaws.{IsMove}
-use Rattle.nc_rows.specs.Rows.{Loan, Book}
+use Rattle.nc_rows.specs.Rows.{Book}
 use Rattle.nc_rows.specs.Laws.{area_of, is_lent_area}
 use Rattle.nc_row_moves.proofs.PartMoves.{parts_stay}
 use Rattle.nc_row_moves.proofs.RowMoves.{rows_move}
@@ -26,7 +24,7 @@ use Rattle.nc_flatness.specs.Flatness.{BytesStand, Flatness}
 use Rattle.nc_flatness.specs.Steps.{IsNow, Goes}
 use Rattle.nc_flatness.proofs.Marks.{answer_silent}
 use Rattle.nc_flatness.proofs.Outcomes.{ran, goes_silent, runs_go}
-use Rattle.nc_flat_moves.specs.Mapped.{HasPlace, Mapped}
+use Rattle.nc_flat_moves.specs.Mapped.{Mapped}
 use Rattle.nc_flat_moves.proofs.MappedNow.{mapped_now, whole_pool}
 
 -- ---- no area is lent

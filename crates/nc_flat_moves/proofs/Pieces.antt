@@ -1,12 +1,11 @@
 -- What comes of a plan lies in one block, piece by piece.
-use Rattle.std.specs.Prelude.{Option, Some, None, ◌/◌, ◌%◌, ◌==◌, ◌||◌, ◌&&◌, All, flat_map, slice_set, replicate, if◌then◌else◌}
+use Rattle.std.specs.Prelude.{◌/◌, ◌==◌, All, flat_map, replicate, if◌then◌else◌}
 use Rattle.std.specs.List.{list_any}
-use Rattle.std.proofs.Common.{◌≡◌, ◌⊎◌, ℕ, ◌+◌, ◌<◌, ◌≤◌, Bool, true, false, List, [], ◌∷◌, ◌++◌, length, refl, sym, ap, ◌∙◌, inl, inr, subst, arith}
-use Rattle.std.proofs.lemmas.Bool.{cases_Bool, eqb-true, eq-eqb}
+use Rattle.std.proofs.Common.{◌≡◌, ℕ, ◌<◌, Bool, true, false, List, [], ◌∷◌, length, refl, sym, ap, ◌∙◌}
+use Rattle.std.proofs.lemmas.Bool.{eqb-true, eq-eqb}
 use Rattle.std.proofs.lemmas.List.{get_or-set_same, length-set, length-replicate}
 use Rattle.std.proofs.lemmas.List.Elements.{All-nil, All-cons, All-head, All-tail, All-append}
-use Rattle.nc_num.specs.Memory.{byte}
-use Rattle.nc_num.specs.Places.{block_at, covers}
+use Rattle.nc_num.specs.Places.{covers}
 use Rattle.nc_num.specs.Sizes.{IsBlockSize}
 use Rattle.nc_num.specs.declared.names.MapId.{MapId}
 use Rattle.nc_num.specs.declared.names.MemType.{MemType}
@@ -33,11 +32,10 @@ use Rattle.nc_rules.specs.declared.steps.Step.{Step}
 use Rattle.nc_rules.specs.Lots.{Fixed}
 use Rattle.nc_rules.specs.Machine.{MachineState, hart_of, no_hart, with_hart}
 use Rattle.nc_rules.specs.Calls.{has_loaded}
-use Rattle.nc_rules.specs.Sound.{IsPieceIn, OpIsThere}
+use Rattle.nc_rules.specs.Sound.{IsPieceIn}
 use Rattle.nc_scripts.specs.Scripts.{IsDriven}
 use Rattle.nc_scripts.specs.Drivers.{FitsLast, HartOpIsThere, ActIsThere, StepIsThere}
 use Rattle.nc_rows.specs.Ahead.{ends, upto, op_coming, act_coming, token, gives_lot, step_coming, coming}
-use Rattle.nc_rows.specs.Rows.{gives_here, gives_block}
 use Rattle.nc_row_moves.specs.Laws.{InBlock}
 
 -- ---- an operation, in a machine whose last load is as long as it wants
@@ -66,7 +64,6 @@ store_piece ram harts f m span kind bytes is some there =
     (there (loaded m span.len) 0 (loaded_driven ram harts f m span.len is) (fits_last (length (hart_of (loaded m span.len) 0).last) span kind bytes (loaded_long m span.len some))).piece
 
 -- ---- entries
-
 
 store_in : (m : MachineState) (y : ℕ) (span : Span) (kind : MemType) → IsBlockSize m.size → IsPieceIn (length m.cache.ram) span → (b : Bool) → covers span y ≡ b → InBlock m y (entries.Store span [] kind)
 store_in m y span kind size piece true over = λ here.

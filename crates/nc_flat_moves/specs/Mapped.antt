@@ -1,5 +1,5 @@
 -- How mappings agree with the owners of places, where each mapping is direct.
-use Rattle.std.specs.Prelude.{ℕ, ◌≡◌, ◌/◌, true, false, Option, Some}
+use Rattle.std.specs.Prelude.{ℕ, ◌≡◌, ◌/◌, true, false, Some}
 use Rattle.nc_num.specs.declared.names.MapId.{MapId}
 use Rattle.nc_plan.specs.Parts.{comes_back}
 use Rattle.nc_model.specs.declared.owners.Owner.{Owner}
