@@ -1,9 +1,9 @@
 -- What the rest of a plan has and has not: no store of a last load's bytes, and so no last load is to be kept.
-use Rattle.std.proofs.Common.{◌≡◌, ℕ, ◌<◌, ◌≤◌, cond, Bool, true, false, List, [], ◌∷◌, ◌++◌, map, flat_map, length, refl, sym, ap, ◌∙◌, inl, inr, subst, arith, Option, Some, None}
+use Rattle.std.proofs.Common.{◌≡◌, ℕ, ◌<◌, ◌≤◌, cond, Bool, true, false, List, [], ◌∷◌, ◌++◌, flat_map, length, refl, sym, ap, ◌∙◌, inl, inr, arith, Option, Some, None}
 use Rattle.std.specs.Prelude.{All}
 use Rattle.std.proofs.lemmas.Bool.{cases_lt}
 use Rattle.std.proofs.lemmas.List.{get_or_past}
-use Rattle.std.proofs.lemmas.List.Elements.{All-head, All-tail}
+use Rattle.std.proofs.lemmas.List.Elements.{All-head}
 use Rattle.nc_num.specs.declared.names.HartNo.{HartNo}
 use Rattle.nc_num.specs.declared.names.Label.{Label}
 use Rattle.nc_num.specs.declared.places.Block.{Block}
@@ -19,14 +19,13 @@ use Rattle.nc_ops.specs.declared.ops.Op.{Op}
 use Rattle.nc_ops.specs.declared.ops.Op.TheVariants as ops
 use Rattle.nc_rules.specs.declared.steps.Phase.{Phase}
 use Rattle.nc_rules.specs.declared.steps.Phase.TheVariants.{Steps, Search, Work}
-use Rattle.nc_rules.specs.declared.steps.Step.{Step}
 use Rattle.nc_rules.specs.declared.lots.LotId.{LotId}
 use Rattle.nc_rules.specs.declared.lots.Side.{Side}
 use Rattle.nc_rules.specs.declared.lots.Side.TheVariants as sides
 use Rattle.nc_rules.specs.declared.steps.Turn.{Turn}
 use Rattle.nc_rules.specs.declared.steps.Turn.TheVariants as turns
 use Rattle.nc_rules.specs.Driver.{DriverState, in_hand}
-use Rattle.nc_rules.specs.Lots.{Fixed, parts}
+use Rattle.nc_rules.specs.Lots.{parts}
 use Rattle.nc_rules.specs.Plans.{hart_step, op_steps, turning}
 use Rattle.nc_rules.specs.World.{WorldState, no_driver, driver_of}
 use Rattle.nc_scripts.proofs.Lists.{all_to}
@@ -36,7 +35,7 @@ use Rattle.nc_rows.specs.Rows.{Book}
 use Rattle.nc_rows.specs.Parts.{op_last, rest_last, LastIs, Lasts}
 use Rattle.nc_rules.specs.Machine.{MachineState, hart_of}
 use Rattle.nc_flatness.specs.Books.{book_of}
-use Rattle.nc_flatness.specs.Flatness.{mail_step, IsHanding, IsPlanOf, PlanIs, PlanOf, StandsAt, Drives}
+use Rattle.nc_flatness.specs.Flatness.{IsHanding, IsPlanOf, PlanIs, PlanOf, StandsAt, Drives}
 
 -- ---- the operations of a plan
 
