@@ -1,15 +1,12 @@
 -- Each scenario of a number is accepted.
-use Rattle.std.proofs.Common.{◌≡◌, ◌≢◌, ◌<◌, ◌≤◌, ◌+◌, ◌-◌, ◌*◌, ◌/◌, ◌%◌, ◌^◌, ◌⊎◌, ℕ, List, [], ◌∷◌, ◌++◌, map, length, get_or, inl, inr, refl, subst, arith, sym}
+use Rattle.std.proofs.Common.{◌≡◌, ◌<◌, ◌≤◌, ◌+◌, ◌*◌, ◌/◌, ◌%◌, ◌^◌, ℕ, [], ◌∷◌, ◌++◌, map, length, get_or, inl, inr, refl, subst, arith, sym}
 use Rattle.std.specs.Prelude.{All}
 use Rattle.std.specs.List.{range_with_len}
 use Rattle.std.proofs.lemmas.Nat.{mod_below}
 use Rattle.std.proofs.lemmas.List.Elements.{All-nil, All-append, All-map, All-from_get_or, All-from_recursion}
 use Rattle.std.proofs.lemmas.List.FromFn.{length-range_with_len, get_or-range_with_len, length-map-range_with_len, get_or-map-range_with_len}
-use Rattle.nc_num.specs.Sizes.{IsBlockSize}
-use Rattle.nc_ops.specs.declared.ops.Op.{Op}
 use Rattle.nc_ops.specs.Fits.{FitsOp}
 use Rattle.nc_scen.specs.declared.scenario.BufferSpec.{BufferSpec}
-use Rattle.nc_scen.specs.declared.scenario.HartSpec.{HartSpec}
 use Rattle.nc_scen.specs.Accepted.{FitsBuffer, FitsHart, IsAccepted}
 use Rattle.nc_scen.specs.Regions.{AreApart, HasBuffersApart, slots_span, pool_span}
 use Rattle.nc_gen.specs.Generator.{harts, buffer, buffers, copied, before, round, script, hart, hart_list, scenario}
@@ -46,12 +43,19 @@ round_fits m h r some few there =
     let P = FitsOp m (4 * m) in
     let held : before m h r < m = mod_below _ m some in
     let comes : before m h (r + 1) < m = mod_below _ m some in
-    All-from_recursion P (round m h r)
-      (copied_fits m h (4 * h) (4 * h + 1) (omega (arith, few, there)) (omega (arith, there)) (omega (arith, there)),
-      (copied_fits m h (4 * h + 2) (4 * before m h r + 3) (omega (arith, few, there)) (omega (arith, there)) (omega (arith, held)),
-      ((omega (arith, there), omega arith, omega arith),
-      ((omega (arith, held), mod_below (h + 1) m some),
-      (omega (arith, comes), tt)))))
+    All-from_recursion P (round m h r) (
+      copied_fits m h (4 * h) (4 * h + 1) (omega (arith, few, there)) (omega (arith, there)) (omega (arith, there)),
+      (
+        copied_fits m h (4 * h + 2) (4 * before m h r + 3) (omega (arith, few, there)) (omega (arith, there)) (omega (arith, held)),
+        (
+          (omega (arith, there), omega arith, omega arith),
+          (
+            (omega (arith, held), mod_below (h + 1) m some),
+            (omega (arith, comes), tt),
+          ),
+        ),
+      ),
+    )
 
 script_fits : (m h : ℕ) → 0 < m → m ≤ 4 → h < m → All (FitsOp m (4 * m)) (script m h)
 script_fits m h some few there =
@@ -75,8 +79,10 @@ buffers_apart : (n m : ℕ) → HasBuffersApart (buffers n m)
 buffers_apart n m i j d e lt in_list =
     let f : ℕ → BufferSpec = λ i. buffer n (i / 4) (i % 4) in
     let count : length (buffers n m) ≡ 4 * m = length-map-range_with_len f 0 (4 * m) in
-    rw (get_or-map-range_with_len f 0 (4 * m) i i d (omega (arith, lt, in_list, count)) (omega arith),
-        get_or-map-range_with_len f 0 (4 * m) j j e (omega (arith, in_list, count)) (omega arith)) (apart_at n i j lt)
+    rw (
+      get_or-map-range_with_len f 0 (4 * m) i i d (omega (arith, lt, in_list, count)) (omega arith),
+      get_or-map-range_with_len f 0 (4 * m) j j e (omega (arith, in_list, count)) (omega arith),
+    ) (apart_at n i j lt)
 
 module _ (n m : ℕ) (some : 2 ≤ m) (few : m ≤ 4) where
   buffers_fit : All (FitsBuffer 262144 m) (buffers n m)
@@ -138,3 +144,7 @@ accepted n seed =
       plan = (seed, omega arith);
       limit = omega arith;
     }
+
+pub count_harts : (n : ℕ) → length (scenario n).harts ≡ harts n
+unfolding scenario
+count_harts n = length-map-range_with_len (hart (harts n)) 0 (harts n)

@@ -2,8 +2,6 @@
 -- a ring. All of it is this project's own.
 use Rattle.std.specs.Prelude.{ℕ, ◌+◌, ◌-◌, ◌*◌, ◌/◌, ◌%◌, true, false, List, [], ◌∷◌, ◌++◌, map}
 use Rattle.std.specs.List.{range_with_len}
-use Rattle.nc_num.specs.declared.names.ChanNo.{ChanNo}
-use Rattle.nc_num.specs.declared.names.HartNo.{HartNo}
 use Rattle.nc_env.specs.declared.Mode.TheVariants.{S}
 use Rattle.nc_ops.specs.declared.ops.Op.{Op}
 use Rattle.nc_ops.specs.declared.ops.Op.TheVariants.{Ld, Hand, Take, Copy}

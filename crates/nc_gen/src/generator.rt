@@ -44,7 +44,11 @@ fn buffers(alloc: Global, n: u64, harts: u8) -> Result<Vec<BufferSpec>, NoMemory
     requires { harts ≤ 4 }
     ensures { IfOk result (λ v. v.items ≡ buffers n harts) }
 {
-    Ok((0..4 * harts).map(|i| buffer(n, i / 4, i % 4)).collect(alloc)?)
+    Ok(
+        (0..4 * harts)
+            .map(|i| buffer(n, i / 4, i % 4))
+            .collect(alloc)?,
+    )
 }
 
 /// A copy of 512 bytes on a channel, from the start of a buffer to the start of another.

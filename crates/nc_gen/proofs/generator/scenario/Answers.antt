@@ -1,5 +1,3 @@
-use Rattle.std.proofs.Common.{subst, sym}
-use Rattle.nc_scen.specs.Accepted.{IsAccepted}
 use Rattle.nc_gen.specs.Generator.{scenario}
 use Rattle.nc_gen.proofs.Accepting.{accepted}
 use Rattle.nc_gen.proofs.generator.scenario.Goals as goal
