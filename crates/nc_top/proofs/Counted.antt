@@ -1,5 +1,5 @@
 -- A run of which only counts are kept: what was counted, and what is still to come.
-use Rattle.std.proofs.Common.{◌≡◌, ◌<◌, ◌≤◌, ◌+◌, ◌-◌, ◌^◌, ℕ, List, [], ◌∷◌, ◌++◌, length, Option, Some, None, Bool, true, false, refl, sym, ap, subst, ◌∙◌, arith}
+use Rattle.std.proofs.Common.{◌≡◌, ◌<◌, ◌≤◌, ◌+◌, ℕ, List, [], ◌∷◌, ◌++◌, length, Option, Some, None, Bool, true, false, refl, sym, ap, subst, ◌∙◌, arith}
 use Rattle.std.specs.Prelude.{if◌then◌else◌, cond}
 use Rattle.std.specs.List.{count_by}
 use Rattle.std.proofs.lemmas.List.Sums.{sum_by-append}
@@ -109,7 +109,7 @@ count_on sc w v s u last a e t n here stepped none same answered tally fewer c =
     let done : is_done (Some a) ≡ enabled w.at e = ap (λ b. is_done (Some b)) answered ∙ done_is (enabled w.at e) in
     let gone : IsCounted (start sc) (next w.at e) (sched sc) (to_come sc u (next w.at e) (enabled w.at e)) n =
     subst (λ m. IsCounted (start sc) (next w.at e) (sched sc) (to_come sc u (next w.at e) (enabled w.at e)) m) (sym tally)
-        (one_more (start sc) w.at (sched sc) (to_come sc s w.at (is_done last)) (to_come sc u (next w.at e) (enabled w.at e)) e t here c.so_far) in
+    (one_more (start sc) w.at (sched sc) (to_come sc s w.at (is_done last)) (to_come sc u (next w.at e) (enabled w.at e)) e t here c.so_far) in
     record {
       so_far = subst (λ (x : WorldState). IsCounted (start sc) x (sched sc) (to_come sc u x (is_done (Some a))) n) (sym stepped)
           (subst (λ b. IsCounted (start sc) (next w.at e) (sched sc) (to_come sc u (next w.at e) b) n) (sym done) gone);

@@ -191,7 +191,7 @@ pub fn dmasim<S: Source, K: Sink>(
     ensures generated { (n : ℕ) → command_of (map string_bytes words.now.items) ≡ Some (Command.Gen n)
         → (src.new ≡ src.old) × (result ≢ 3) × (result ≢ 4)
         × (IsAnswer result → (result ≡ (due (map string_bytes words.now.items) []).status)
-            × Appends (K.held out.old) (K.held out.new) (due (map string_bytes words.now.items) []).text) }
+        × Appends (K.held out.old) (K.held out.new) (due (map string_bytes words.now.items) []).text) }
 
     // A failure has its cause.
     ensures source { result ≡ 4 → Rose (S.faults src.old) (S.faults src.new) × Keeps (K.held out.old) (K.held out.new) }
