@@ -7,7 +7,6 @@ ghost use Rattle.nc_gen.specs.Summary.{is_copydone, is_noslot, summary as line_o
 ghost use Rattle.nc_scen.specs.Accepted.{IsAccepted};
 ghost use Rattle.nc_scen.specs.Events.{IsThere};
 ghost use Rattle.nc_calls.specs.MachineLaws.{SameShape};
-ghost use Rattle.nc_rules.specs.Built.{IsBuilt};
 ghost use Rattle.nc_rules.specs.Lines.{status};
 ghost use Rattle.nc_rules.specs.Next.{next, event_records};
 ghost use Rattle.nc_rules.specs.Run.{after, records};
@@ -66,7 +65,6 @@ fn step_counted(w: &mut World, e: Event, tally: Tally) -> Result<(Stepped, Tally
 /// Makes the events of a scenario's schedule, and keeps no records of them.
 fn run_counted(alloc: Global, sc: &Scenario) -> Result<(World, Tally), NoMemory>
     requires accepted { IsAccepted sc.now }
-    requires built { IsBuilt sc.now }
     ensures at { IfOk result (λ r. r.0.at ≡ after (start sc.now) (sched sc.now)) }
     ensures tally { IfOk result (λ r. r.1 ≡ tally_of (records (start sc.now) (sched sc.now))) }
 {
@@ -97,7 +95,6 @@ pub struct Generated {
 ///
 /// `NoMemory` where memory runs out.
 pub fn run_generated(alloc: Global, n: u64) -> Result<Generated, NoMemory>
-    requires built { IsBuilt (scenario_of n) }
     ensures status { IfOk result (λ g. g.status ≡ status (scenario_of n) (sched (scenario_of n))) }
     ensures kind { IfOk result (λ g. IsAnswer g.status) }
     ensures run { IfOk result (λ g. g.status ≢ 3) }

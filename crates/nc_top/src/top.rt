@@ -9,7 +9,6 @@ ghost use Rattle.nc_migrate.specs.Migrating.{KeepsReading, migrated};
 ghost use Rattle.nc_pieces.specs.Serving.{pool_answer};
 ghost use Rattle.nc_rules.specs.Flat.{EachRunIsLatest, EachRunIsKept};
 ghost use Rattle.nc_scen.specs.Accepted.{IsAccepted};
-ghost use Rattle.nc_gen.specs.Generator.{scenario as scenario_of};
 ghost use Rattle.nc_rules.specs.Built.{IsBuilt};
 ghost use Rattle.nc_top.specs.Due.{due, due_by, due_for, due_for_gen, due_for_migrate, due_for_pool, command_of, is_migrate, is_pool, is_run, IsAnswer};
 ghost use Rattle.nc_top.specs.Inputs.{HasRead, IsFlat, IsRunWhereBuilt, WroteFront};
@@ -119,7 +118,6 @@ fn answer_pool<K: Sink>(alloc: Global, bytes: &[u8], out: &mut K) -> u8
 
 /// Answers the command `gen`: the line that sums up the run of a number's scenario.
 fn answer_gen<K: Sink>(alloc: Global, n: u64, out: &mut K) -> u8
-    requires built { IsBuilt (scenario_of n) }
     ensures written { IsAnswer result → (result ≡ (due_for_gen n).status) × Appends (K.held out.old) (K.held out.new) (due_for_gen n).text }
     ensures sink { result ≡ 5 → Rose (K.faults out.old) (K.faults out.new) }
     ensures reads { result ≢ 4 }
@@ -134,7 +132,6 @@ fn answer_gen<K: Sink>(alloc: Global, n: u64, out: &mut K) -> u8
 
 /// Answers an input for a command.
 fn answer_command<K: Sink>(alloc: Global, command: Command, bytes: &[u8], out: &mut K) -> u8
-    requires all_built { (n : ℕ) → IsBuilt (scenario_of n) }
     ensures written { IsAnswer result → (result ≡ (due_by command bytes.now).status) × Appends (K.held out.old) (K.held out.new) (due_by command bytes.now).text }
     ensures sink { result ≡ 5 → Rose (K.faults out.old) (K.faults out.new) }
     ensures reads { result ≢ 4 }
@@ -166,8 +163,7 @@ pub fn dmasim<S: Source, K: Sink>(
     src: &mut S,
     out: &mut K,
 ) -> u8
-    requires given { S.ended src.old ≡ false }
-    requires all_built { (n : ℕ) → IsBuilt (scenario_of n) }
+    requires { S.ended src.old ≡ false }
 
     // What is due for the words and the whole input is answered and written.
     ensures unknown { command_of (map string_bytes words.now.items) ≡ None → IsAnswer result
