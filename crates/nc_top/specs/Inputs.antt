@@ -1,5 +1,5 @@
 -- What a call has read.
-use Rattle.std.specs.Prelude.{◌≡◌, ◌≢◌, ◌<◌, ◌≤◌, ◌⊎◌, ◌↔◌, ℕ, Ok, List, Bool, true, false, [], Option, length}
+use Rattle.std.specs.Prelude.{◌≡◌, ◌≢◌, ◌+◌, ◌<◌, ◌≤◌, ◌⊎◌, ◌↔◌, ℕ, Ok, List, Bool, true, false, [], Option, length}
 use Rattle.std.specs.Io.KnownBytes.{Consumes, IsAtEnd, Keeps}
 use Rattle.nc_io.specs.Streams.{GrowsByFront}
 use Rattle.nc_migrate.specs.Migrating.{KeepsReading}
@@ -14,6 +14,12 @@ use Rattle.nc_rules.specs.Schedule.{sched}
 pub record HasRead (before now : Option (List ℕ)) (ended : Bool) (bytes : List ℕ) : Type 0 where
   pub taken : Consumes before now bytes
   pub whole : ((ended ≡ true) × IsAtEnd now) ⊎ (most_bytes < length bytes)
+
+-- Of the source at most one byte more was taken than a scenario may have, whatever came of it.
+pub record TakesFew (before now : Option (List ℕ)) : Type 0 where
+  pub bytes : List ℕ
+  pub taken : Consumes before now bytes
+  pub few : length bytes ≤ most_bytes + 1
 
 -- Nothing was written, or a front of what is due: for words that ask for no input by the words alone, else for all bytes
 -- that were read.

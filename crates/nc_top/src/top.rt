@@ -10,7 +10,7 @@ ghost use Rattle.nc_pieces.specs.Serving.{pool_answer};
 ghost use Rattle.nc_flat.specs.Laws.{EachRunIsLatest, EachRunIsKept};
 ghost use Rattle.nc_scen.specs.Accepted.{IsAccepted};
 ghost use Rattle.nc_top.specs.Due.{due, due_by, due_for, due_for_gen, due_for_migrate, due_for_pool, command_of, is_migrate, is_pool, is_run, IsAnswer};
-ghost use Rattle.nc_top.specs.Inputs.{HasRead, IsFlat, IsRunWhereRead, KeepsScenario, WroteFront};
+ghost use Rattle.nc_top.specs.Inputs.{HasRead, IsFlat, IsRunWhereRead, KeepsScenario, TakesFew, WroteFront};
 
 use crate::generated::run_generated;
 use crate::input::{Lost, input_of};
@@ -183,6 +183,11 @@ pub fn dmasim<S: Source, K: Sink>(
         → (src.new ≡ src.old) × (result ≢ 3) × (result ≢ 4)
         × (IsAnswer result → (result ≡ (due (map string_bytes words.now.items) []).status)
         × Appends (K.held out.old) (K.held out.new) (due (map string_bytes words.now.items) []).text) }
+
+    // Words that are no command are refused before anything is read, and of the source never more is taken than one byte
+    // beyond the most that a scenario may have.
+    ensures words { command_of (map string_bytes words.now.items) ≡ None → (src.new ≡ src.old) × (result ≢ 4) }
+    ensures stops { TakesFew (S.left src.old) (S.left src.new) }
 
     // A failure has its cause.
     ensures source { result ≡ 4 → Rose (S.faults src.old) (S.faults src.new) × Keeps (K.held out.old) (K.held out.new) }
