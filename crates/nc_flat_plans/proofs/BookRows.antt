@@ -12,7 +12,8 @@ use Rattle.nc_model.specs.declared.owners.Owner.TheVariants.{Thread, Passing, Le
 use Rattle.nc_rules.specs.declared.steps.Step.{Step}
 use Rattle.nc_rules.specs.Machine.{MachineState, queue_of}
 use Rattle.nc_rows.specs.Ahead.{is_full, is_mail, settling, sending}
-use Rattle.nc_rows.specs.Rows.{Loan, Book, device_place, gives_here, PassingRow, LendingTo, LendingFrom, AllocatingRow, GivingRow, DeviceTo, DroppingRow, ComingRow, ThreadRow, Either, ByDir, ahead_of, LentRow, DeviceRow, BackRow, SyncedRow, Row}
+use Rattle.nc_rows.specs.Places.{ThreadRow}
+use Rattle.nc_rows.specs.Rows.{Loan, Book, device_place, gives_here, PassingRow, LendingTo, LendingFrom, AllocatingRow, GivingRow, DeviceTo, DroppingRow, ComingRow, Either, ByDir, ahead_of, LentRow, DeviceRow, BackRow, SyncedRow, Row}
 use Rattle.nc_flat_plans.specs.Books.{SameComing, SameLoan, ReadsAlike, BooksCarry}
 
 passing_same : (h v b d : ℕ) (rest left : List Step) (m : MachineState) (x : ℕ) → d ≡ b → sending b left ≡ sending b rest → PassingRow h v b rest m x → PassingRow h v d left m x

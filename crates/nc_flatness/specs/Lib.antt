@@ -1,0 +1,4 @@
+pub mod Covered
+pub mod Books
+pub mod Flatness
+pub mod Steps

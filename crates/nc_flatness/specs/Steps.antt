@@ -1,0 +1,54 @@
+-- What one event does to flat memory, as statements.
+use Rattle.std.specs.Prelude.{ℕ, ◌≡◌, ◌⊎◌, true, List, ◌∷◌, length}
+use Rattle.nc_model.specs.Flat.{Mark, Touched, Latest, Untouched, flat, deeds}
+use Rattle.nc_scen.specs.Accepted.{IsAccepted}
+use Rattle.nc_scen.specs.Events.{IsThere}
+use Rattle.nc_scen.specs.declared.events.Event.{Event}
+use Rattle.nc_scen.specs.declared.scenario.Scenario.{Scenario}
+use Rattle.nc_rules.specs.Events.{enabled}
+use Rattle.nc_rules.specs.Flat.{event_marks}
+use Rattle.nc_rules.specs.Next.{next}
+use Rattle.nc_rules.specs.Start.{memory}
+use Rattle.nc_rules.specs.World.{WorldState, start}
+use Rattle.nc_flatness.specs.Covered.{IsCoveredNow}
+use Rattle.nc_flatness.specs.Flatness.{IsWorldOf, BytesStand, Flatness}
+
+-- a touch comes before all else
+pub record IsTouch (ms : List Mark) : Type 0 where
+  pub rest : List Mark
+  pub first : ms ≡ Touched ∷ rest
+
+-- no touch: the reads show flat memory, and its bytes, with the writes made, stand in the world behind them
+pub record GoesTo (sc : Scenario) (f : List ℕ) (ms : List Mark) (w : WorldState) : Type 0 where
+  pub untouched : Untouched ms
+  pub latest : Latest f ms
+  pub bytes : BytesStand sc (flat f (deeds ms)) w
+
+abbrev pub EventGoes : Scenario → List ℕ → List Mark → WorldState → Type 0
+EventGoes sc f ms w = IsTouch ms ⊎ GoesTo sc f ms w
+
+-- an event that may happen, in a world with flat memory f of a scenario that is covered
+pub record IsNow (sc : Scenario) (f : List ℕ) (w : WorldState) (e : Event) : Type 0 where
+  pub accepted : IsAccepted sc
+  pub covered : IsCoveredNow sc
+  pub flat : Flatness sc f w
+  pub there : IsThere (length sc.harts) sc.block_size sc.ram e
+  pub may : enabled w e ≡ true
+
+-- it begins with a touch, or flat memory's bytes stand behind it
+abbrev pub Goes : Scenario → List ℕ → WorldState → Event → Type 0
+Goes sc f w e = EventGoes sc f (event_marks w e) (next w e)
+
+-- ---- the laws
+
+-- the start of each scenario
+abbrev pub WorldsStart : Type 0
+WorldsStart = (sc : Scenario) → IsAccepted sc → IsWorldOf sc (start sc)
+
+abbrev pub StartIsFlat : Type 0
+StartIsFlat = (sc : Scenario) → IsAccepted sc → IsCoveredNow sc → Flatness sc (memory sc) (start sc)
+
+-- a world of a scenario stays one
+abbrev pub WorldsStay : Type 0
+WorldsStay =
+    (sc : Scenario) (w : WorldState) (e : Event) → IsWorldOf sc w → IsThere (length sc.harts) sc.block_size sc.ram e → IsWorldOf sc (next w e)

@@ -1,0 +1,5 @@
+//! Flatness: where the bytes of flat memory stand in a world, before the first touch.
+//!
+//! The crate has no code. Each law is a public function with an empty body. The contract for the layers above: what holds
+//! of a world of a scenario (`IsWorldOf`) and of its bytes (`BytesStand`), at the start and, of the world, after each event.
+#![tactic(auto)]
