@@ -1,10 +1,17 @@
 -- What holds of every world before the first touch: where the bytes of flat memory stand, and where its drivers do. This
 -- project's own.
-use Rattle.std.specs.Prelude.{ℕ, ◌≡◌, ◌⊎◌, ◌<◌, ◌==◌, ◌++◌, Bool, true, false, List, length, All, Option, Some, None}
+use Rattle.std.specs.Prelude.{ℕ, ◌≡◌, ◌⊎◌, ◌<◌, ◌++◌, true, false, List, [], ◌∷◌, length, flat_map, All, Option, Some, None}
 use Rattle.nc_num.specs.Memory.{byte}
 use Rattle.nc_num.specs.Places.{covers}
+use Rattle.nc_num.specs.declared.names.HartNo.{HartNo}
 use Rattle.nc_num.specs.declared.names.Label.{Label}
 use Rattle.nc_num.specs.declared.names.MapId.{MapId}
+use Rattle.nc_plan.specs.Plans.{In, full, written_back, dropped}
+use Rattle.nc_plan.specs.declared.effects.Effects.{Effects}
+use Rattle.nc_plan.specs.declared.ops.HartOp.{HartOp}
+use Rattle.nc_plan.specs.declared.ops.HartOp.TheVariants as hart_ops
+use Rattle.nc_plan.specs.declared.ops.IoTarget.TheVariants as io
+use Rattle.nc_plan.specs.declared.parts.Part.{Part}
 use Rattle.nc_model.specs.declared.owners.Owner.TheVariants.{Pool}
 use Rattle.nc_ops.specs.declared.ops.Op.{Op}
 use Rattle.nc_ops.specs.declared.ops.Op.TheVariants as ops
@@ -12,16 +19,18 @@ use Rattle.nc_scen.specs.Regions.{pool_of}
 use Rattle.nc_scen.specs.declared.scenario.Scenario.{Scenario}
 use Rattle.nc_rules.specs.declared.lots.Kind.TheVariants.{Single}
 use Rattle.nc_rules.specs.declared.lots.Lot.{Lot}
+use Rattle.nc_rules.specs.declared.lots.LotId.{LotId}
 use Rattle.nc_rules.specs.declared.lots.Side.{Side}
 use Rattle.nc_rules.specs.declared.lots.Side.TheVariants as sides
 use Rattle.nc_rules.specs.declared.steps.Phase.{Phase}
 use Rattle.nc_rules.specs.declared.steps.Phase.TheVariants.{Steps, Search, Work}
 use Rattle.nc_rules.specs.declared.steps.Step.{Step}
+use Rattle.nc_rules.specs.declared.steps.Turn.{Turn}
 use Rattle.nc_rules.specs.declared.steps.Turn.TheVariants as turns
 use Rattle.nc_rules.specs.Machine.{MachineState}
-use Rattle.nc_rules.specs.Lots.{Fixed, lot_named}
+use Rattle.nc_rules.specs.Lots.{Fixed, is_lot, is_named, parts}
 use Rattle.nc_rules.specs.Handing.{hand_steps}
-use Rattle.nc_rules.specs.Plans.{lend_steps, return_steps, ending}
+use Rattle.nc_rules.specs.Plans.{hart_step, op_steps, turning}
 use Rattle.nc_rules.specs.Driver.{DriverState, in_hand}
 use Rattle.nc_rules.specs.Sound.{IsMachine}
 use Rattle.nc_rules.specs.Start.{fixed_of, hart_spec}
@@ -62,30 +71,32 @@ pub record IsDirect (f : Fixed) (lot : Lot) : Type 0 where
 abbrev pub IsStill : Lot → Type 0
 IsStill lot = (lot.side ≡ sides.Device) ⊎ (lot.side ≡ sides.Synced)
 
--- these steps are the last of the plan
-pub record IsLeftOf (plan rest : List Step) : Type 0 where
-  pub front : List Step
-  pub all : plan ≡ front ++ rest
+abbrev pub mail_step : ℕ → HartNo → Step
+mail_step buf to = hart_step (hart_ops.IoStore (io.Mail buf to))
 
--- they are the last of the plan of the lot of this label, which has this side, and each other lot is still
-pub record IsPlanOf (lots : List Lot) (label : Label) (side : Side) (plan : Lot → List Step) (rest : List Step) : Type 0 where
+-- the marker and the message of a buffer are left, or the message alone, while each lot is still
+pub record IsHanding (d : DriverState) (buf : ℕ) (to : HartNo) : Type 0 where
+  pub left : (d.rest ≡ hand_steps buf to) ⊎ (d.rest ≡ mail_step buf to ∷ [])
+  pub still : All IsStill d.lots
+
+-- The plan of the lot of this label is in hand, which has this side, and each other lot is still. Some of its cache
+-- operations are left, and then a full fence with its turn
+pub record IsPlanOf (d : DriverState) (label : Label) (side : Side) (each : Effects → ℕ → Part → List HartOp) (turn : LotId → Turn) : Type 0 where
   pub lot : Lot
-  pub named : lot_named lots label Single ≡ Some lot
+  pub here : In lot d.lots
+  pub named : is_named label Single lot ≡ true
   pub side_is : lot.side ≡ side
-  pub left : IsLeftOf (plan lot) rest
-  pub others : All (λ other. (other.id.label.0 ≡ label.0) ⊎ IsStill other) lots
-
--- the buffer's marker and message, while each lot is still
-pub record IsHanding (lots : List Lot) (plan rest : List Step) : Type 0 where
-  pub left : IsLeftOf plan rest
-  pub still : All IsStill lots
+  pub others : All (λ other. is_lot lot.id other ≡ false → IsStill other) d.lots
+  pub ops : List HartOp
+  pub left : d.rest ≡ op_steps ops ++ turning (turn lot.id) (hart_step full) ∷ []
+  pub each_is : All (λ op. In op (flat_map (each d.fixed.effects d.fixed.size) (parts d.fixed lot))) ops
 
 abbrev pub PlanIs : DriverState → Op → Type 0
-PlanIs d (ops.Hand buf to) = IsHanding d.lots (hand_steps buf to) d.rest
-PlanIs d (ops.Map label buf off len dir chan) = IsPlanOf d.lots label sides.Lending (lend_steps d.fixed) d.rest
-PlanIs d (ops.ToDev label) = IsPlanOf d.lots label sides.Lending (lend_steps d.fixed) d.rest
-PlanIs d (ops.Unmap label) = IsPlanOf d.lots label sides.Returning (λ lot. ending (turns.End lot.id) (return_steps d.fixed lot)) d.rest
-PlanIs d (ops.ToCpu label) = IsPlanOf d.lots label sides.Returning (λ lot. ending (turns.Sync lot.id) (return_steps d.fixed lot)) d.rest
+PlanIs d (ops.Hand buf to) = IsHanding d buf to
+PlanIs d (ops.Map label buf off len dir chan) = IsPlanOf d label sides.Lending written_back turns.Give
+PlanIs d (ops.ToDev label) = IsPlanOf d label sides.Lending written_back turns.Give
+PlanIs d (ops.Unmap label) = IsPlanOf d label sides.Returning dropped turns.End
+PlanIs d (ops.ToCpu label) = IsPlanOf d label sides.Returning dropped turns.Sync
 PlanIs d (ops.Ld spot off len) = ⊥
 PlanIs d (ops.St spot off bytes) = ⊥
 PlanIs d (ops.Cbo op buf off) = ⊥
