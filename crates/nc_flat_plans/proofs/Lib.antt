@@ -1,2 +1,5 @@
 pub mod BookRows
 pub mod Turning
+pub mod Elements
+pub mod Lots
+pub mod Frames
