@@ -1,3 +1,5 @@
 pub mod Marks
 pub mod FlatBytes
 pub mod Outcomes
+pub mod Loans
+pub mod Owned

@@ -1,7 +1,7 @@
 pub mod WordLists
 pub mod WordMoves
-mod ListsA
-mod OwnerFacts
+pub mod ListsA
+pub mod OwnerFacts
 pub mod CallPlans
 pub mod CallNew
 pub mod CallNumbers
@@ -25,30 +25,30 @@ pub mod TokenKeeps
 pub mod TokenCalls
 pub mod TokenDone
 pub mod MessageWorlds
-mod OwnerMoves
-mod OwnerLots
-mod OwnerSides
-mod GrantMoves
-mod GrantSides
-mod PageMaps
-mod OwnerPages
-mod OwnerEnds
-mod OwnerTurns
-mod OwnerBegins
-mod OwnerMade
-mod OwnerSlots
-mod OwnerLaws
-mod OwnerAreas
-mod GrantWords
-mod GrantAdds
-mod GrantLists
-mod OwnerWaits
+pub mod OwnerMoves
+pub mod OwnerLots
+pub mod OwnerSides
+pub mod GrantMoves
+pub mod GrantSides
+pub mod PageMaps
+pub mod OwnerPages
+pub mod OwnerEnds
+pub mod OwnerTurns
+pub mod OwnerBegins
+pub mod OwnerMade
+pub mod OwnerSlots
+pub mod OwnerLaws
+pub mod OwnerAreas
+pub mod GrantWords
+pub mod GrantAdds
+pub mod GrantLists
+pub mod OwnerWaits
 pub mod EventFrom
 pub mod EventSteps
 pub mod EventHolds
 pub mod StartRegions
 pub mod StartHolds
-mod OwnerGiven
+pub mod OwnerGiven
 pub mod TokenHarts
 pub mod TokenEvents
 pub mod TokenWorlds
