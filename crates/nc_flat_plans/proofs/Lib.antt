@@ -3,3 +3,4 @@ pub mod Turning
 pub mod Elements
 pub mod Lots
 pub mod Frames
+pub mod LotTurns
