@@ -4,3 +4,5 @@ pub mod Elements
 pub mod Lots
 pub mod Frames
 pub mod LotTurns
+pub mod PlanLists
+pub mod Effects
