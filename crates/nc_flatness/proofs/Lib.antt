@@ -3,3 +3,10 @@ pub mod FlatBytes
 pub mod Outcomes
 pub mod Loans
 pub mod Owned
+pub mod WholeBlocks
+pub mod Rests
+pub mod Worlds
+pub mod BookReads
+pub mod Regions
+pub mod StartOwners
+pub mod Starts

@@ -1,17 +1,14 @@
 -- What a mapping of a book is: the one entry of a lot of its hart, which does not bounce.
-use Rattle.std.proofs.Common.{◌≡◌, ℕ, ◌+◌, ◌<◌, ◌≤◌, Bool, true, false, List, [], ◌∷◌, length, refl, sym, ap, ◌∙◌, inl, inr, subst, arith, cond, Option, Some, None}
-use Rattle.std.specs.Prelude.{◌-◌, ◌==◌, ◌&&◌, nat_le, nat_lt, not, All, find, option_map, slice_index_or, slice_get}
+use Rattle.std.proofs.Common.{◌≡◌, ℕ, ◌+◌, ◌<◌, ◌≤◌, Bool, true, false, List, [], ◌∷◌, length, refl, sym, ap, ◌∙◌, inl, inr, subst, arith, Option, Some, None}
+use Rattle.std.specs.Prelude.{◌-◌, ◌==◌, ◌&&◌, nat_le, nat_lt, not, All, find, option_map, slice_index_or}
 use Rattle.std.proofs.lemmas.Bool.{and_parts, cases_lt, false≢true}
 use Rattle.std.proofs.lemmas.Bool.Decides.{nat_tests}
 use Rattle.std.proofs.lemmas.List.{get_or_past}
 use Rattle.std.proofs.lemmas.List.Elements.{All-head}
 use Rattle.nc_num.specs.Places.{covers}
-use Rattle.nc_num.specs.declared.names.HartNo.{HartNo}
 use Rattle.nc_num.specs.declared.names.MapId.{MapId}
 use Rattle.nc_num.specs.declared.places.Span.{Span}
 use Rattle.nc_plan.specs.Plans.{In}
-use Rattle.nc_model.specs.declared.owners.Grant.{Grant}
-use Rattle.nc_model.specs.declared.owners.Owner.{Owner}
 use Rattle.nc_model.proofs.Faults.{covers-low}
 use Rattle.nc_sg.specs.Lists as sg
 use Rattle.nc_sg.specs.declared.list.Entry.{Entry}
@@ -20,18 +17,16 @@ use Rattle.nc_rules.specs.declared.lots.Kind.{Kind}
 use Rattle.nc_rules.specs.declared.lots.Kind.TheVariants.{Single}
 use Rattle.nc_rules.specs.declared.lots.Lot.{Lot}
 use Rattle.nc_rules.specs.Driver.{DriverState}
-use Rattle.nc_rules.specs.Lots.{Fixed, is_wanted, map_id, grant_of, no_entry, owner_of_side}
+use Rattle.nc_rules.specs.Lots.{Fixed, is_wanted, no_entry}
 use Rattle.nc_rules.specs.Turns.{is_area}
-use Rattle.nc_rules.specs.Watched.{owner_of}
 use Rattle.nc_rules.specs.World.{WorldState, no_driver, driver_of}
 use Rattle.nc_scripts.specs.Drivers.{FitsKind, IsNamed, IsLotIn}
-use Rattle.nc_scripts.proofs.Lists.{Found, found, all_in}
-use Rattle.nc_holds.specs.Held.{IsEntryOf}
-use Rattle.nc_holds.specs.Holds.{DriverHolds, Holds}
+use Rattle.nc_scripts.proofs.Lists.{found, all_in}
+use Rattle.nc_holds.specs.Holds.{Holds}
 use Rattle.nc_holds.proofs.ListsA.{all_at}
 use Rattle.nc_rows.specs.Rows.{Loan, device_place}
-use Rattle.nc_flatness.specs.Books.{is_entry_of, loan_by, loan_of, book_of, mapping_in, LiesIn}
-use Rattle.nc_flatness.specs.Flatness.{IsDirect, IsWorldOf, BytesStand, Flatness}
+use Rattle.nc_flatness.specs.Books.{is_entry_of, loan_by, book_of}
+use Rattle.nc_flatness.specs.Flatness.{IsDirect, Flatness}
 
 -- ---- a lot that is direct
 

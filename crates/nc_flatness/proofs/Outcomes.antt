@@ -4,7 +4,7 @@ use Rattle.std.proofs.Common.{◌≡◌, ℕ, Bool, true, false, List, [], ◌�
 use Rattle.std.specs.Prelude.{if◌then◌else◌, slice_set}
 use Rattle.std.proofs.lemmas.Bool.{false≢true}
 use Rattle.nc_num.specs.declared.names.HartNo.{HartNo}
-use Rattle.nc_model.specs.Flat.{Mark, Latest, Untouched, flat, deeds}
+use Rattle.nc_model.specs.Flat.{Mark, flat, deeds}
 use Rattle.nc_model.specs.declared.touches.Touch.{Touch}
 use Rattle.nc_scen.specs.declared.events.Event.{Event}
 use Rattle.nc_scen.specs.declared.scenario.Scenario.{Scenario}
@@ -14,12 +14,12 @@ use Rattle.nc_rules.specs.Machine.{MachineState}
 use Rattle.nc_rules.specs.Driver.{Went}
 use Rattle.nc_rules.specs.Events.{enabled}
 use Rattle.nc_rules.specs.Flat.{all_marks, event_marks}
-use Rattle.nc_rules.specs.Next.{touched_by, after_outcome, performed, counted, next, event_records}
+use Rattle.nc_rules.specs.Next.{after_outcome, performed, counted, next, event_records}
 use Rattle.nc_rules.specs.Outcomes.{Outcome, goes, runs, outcome}
-use Rattle.nc_rules.specs.Records.{touch_records, moves_records}
-use Rattle.nc_rules.specs.World.{WorldState, driver_of, owners_moved, with_moves, one_more}
+use Rattle.nc_rules.specs.Records.{moves_records}
+use Rattle.nc_rules.specs.World.{WorldState, driver_of, owners_moved}
 use Rattle.nc_flatness.specs.Flatness.{BytesStand}
-use Rattle.nc_flatness.specs.Steps.{IsTouch, GoesTo, EventGoes, Goes}
+use Rattle.nc_flatness.specs.Steps.{GoesTo, EventGoes, Goes}
 use Rattle.nc_flatness.proofs.Marks.{append_none, marks-append, moves_silent}
 
 -- the world behind a machine that goes on alone

@@ -1,7 +1,7 @@
 -- The places of mappings: each is of the entry of its lot, whose side says its owner.
-use Rattle.std.proofs.Common.{◌≡◌, ℕ, zero, suc, ◌+◌, ◌<◌, ◌≤◌, Bool, true, false, List, [], ◌∷◌, length, refl, sym, ap, ◌∙◌, inl, inr, subst, arith, cond, Option, Some, None}
-use Rattle.std.specs.Prelude.{◌≢◌, ◌==◌, ◌&&◌, nat_le, nat_lt, not, All, find, option_map, slice_index_or, slice_get}
-use Rattle.std.proofs.lemmas.Bool.{and_from, cases_Bool, cases_eq, false≢true}
+use Rattle.std.proofs.Common.{◌≡◌, ℕ, zero, suc, ◌+◌, ◌<◌, Bool, true, false, List, [], ◌∷◌, length, refl, sym, ap, ◌∙◌, inl, inr, arith, cond, Option, Some, None}
+use Rattle.std.specs.Prelude.{◌==◌, ◌&&◌, nat_le, nat_lt, not, All, find, option_map, slice_index_or, slice_get}
+use Rattle.std.proofs.lemmas.Bool.{and_from, false≢true}
 use Rattle.std.proofs.lemmas.Bool.Decides.{nat_tests}
 use Rattle.std.proofs.lemmas.List.Elements.{All-head, All-tail}
 use Rattle.nc_num.specs.Places.{covers}
@@ -9,29 +9,28 @@ use Rattle.nc_num.specs.declared.names.HartNo.{HartNo}
 use Rattle.nc_num.specs.declared.names.MapId.{MapId}
 use Rattle.nc_num.specs.declared.places.Span.{Span}
 use Rattle.nc_plan.specs.Plans.{In}
-use Rattle.nc_model.specs.declared.owners.Owner.{Owner}
 use Rattle.nc_sg.specs.declared.list.Entry.{Entry}
 use Rattle.nc_ops.specs.declared.ops.Op.{Op}
 use Rattle.nc_scen.specs.declared.scenario.HartSpec.{HartSpec}
 use Rattle.nc_scen.specs.declared.scenario.Scenario.{Scenario}
 use Rattle.nc_rules.specs.declared.lots.Lot.{Lot}
 use Rattle.nc_rules.specs.declared.lots.LotId.{LotId}
-use Rattle.nc_rules.specs.Driver.{DriverState, in_hand}
+use Rattle.nc_rules.specs.Driver.{in_hand}
 use Rattle.nc_rules.specs.Lots.{Fixed, is_lot, is_wanted, map_id, owner_of_side}
-use Rattle.nc_rules.specs.Start.{fixed_of, hart_spec, no_hart_spec}
+use Rattle.nc_rules.specs.Start.{hart_spec, no_hart_spec}
 use Rattle.nc_rules.specs.Watched.{owner_of}
 use Rattle.nc_rules.specs.World.{WorldState, driver_of, hart}
 use Rattle.nc_scripts.specs.Drivers.{AreApart}
-use Rattle.nc_scripts.proofs.LotLaws.{named_so, its_name}
+use Rattle.nc_scripts.proofs.LotLaws.{its_name}
 use Rattle.nc_holds.specs.Held.{IsEntryOf}
-use Rattle.nc_holds.specs.Holds.{DriverHolds, Holds}
+use Rattle.nc_holds.specs.Holds.{Holds}
 use Rattle.nc_holds.proofs.ListsA.{all_at, at_get}
 use Rattle.nc_holds.proofs.OwnerLots.{same_named}
 use Rattle.nc_rows.specs.Rows.{Loan, device_place}
 use Rattle.nc_flatness.specs.Covered.{is_direct, is_covered_op, IsCoveredNow, IsCoveredScript}
-use Rattle.nc_flatness.specs.Books.{is_entry_of, loan_by, loan_of, book_of, mapping_in, LiesIn}
-use Rattle.nc_flatness.specs.Flatness.{IsWorldOf, BytesStand, Flatness}
-use Rattle.nc_flatness.proofs.Loans.{IsDirectLot, IsLoan, IsNamedSo, named_by, hart_of_lot, lot_direct, loan_is, device_same}
+use Rattle.nc_flatness.specs.Books.{is_entry_of, loan_by, book_of, mapping_in, LiesIn}
+use Rattle.nc_flatness.specs.Flatness.{IsWorldOf, Flatness}
+use Rattle.nc_flatness.proofs.Loans.{IsDirectLot, IsLoan, named_by, hart_of_lot, lot_direct, loan_is, device_same}
 
 -- ---- the one entry of a lot
 
@@ -132,9 +131,9 @@ lot_loan sc f w h lot flat here lent =
     let apart : AreApart d.lots = (flat.world.holds.each h lt).driver.apart in
     let alone : (other : Lot) → In other d.lots → is_entry_of (id_of h lot) other ≡ true → other ≡ lot =
     λ other k e.
-      let o = lot_direct sc f w h other flat k in
-      let named = named_by (id_of h lot) other o e in
-      same_named d.lots lot.id other lot apart k here (label_lot other lot.id named.label (o.first ∙ sym is.first)) (its_name lot lot.id refl) in
+    let o = lot_direct sc f w h other flat k in
+    let named = named_by (id_of h lot) other o e in
+    same_named d.lots lot.id other lot apart k here (label_lot other lot.id named.label (o.first ∙ sym is.first)) (its_name lot lot.id refl) in
     ap (option_map (loan_by d.fixed (id_of h lot))) (find_only (is_entry_of (id_of h lot)) d.lots lot here (entry_named h lot is lent) alone)
 
 -- ---- the script of a hart

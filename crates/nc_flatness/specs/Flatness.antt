@@ -36,6 +36,7 @@ use Rattle.nc_rules.specs.Sound.{IsMachine}
 use Rattle.nc_rules.specs.Start.{fixed_of, hart_spec}
 use Rattle.nc_rules.specs.Watched.{owner_of}
 use Rattle.nc_rules.specs.World.{WorldState, driver_of, hart}
+use Rattle.nc_holds.specs.Rests.{RestAt}
 use Rattle.nc_holds.specs.Holds.{Holds}
 use Rattle.nc_rows.specs.Rows.{Row}
 use Rattle.nc_rows.specs.Parts.{Queued, Uncached, Lasts}
@@ -130,6 +131,7 @@ StandsAt d Work = PlanOf d (in_hand d)
 pub record Drives (d : DriverState) : Type 0 where
   pub direct : All (IsDirect d.fixed) d.lots
   pub stands : StandsAt d d.phase
+  pub idle : RestAt d.phase d.rest
 
 -- ---- the bytes
 

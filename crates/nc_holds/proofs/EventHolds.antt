@@ -86,7 +86,7 @@ next_if : (w : WorldState) (x : WorldState) (t : Bool) → t ≡ true → (if t 
 next_if w x true e = refl
 next_if w x false e = absurd (false≢true e)
 
-next_is : (w : WorldState) (e : Event) → enabled w e ≡ true → next w e ≡ counted (after_outcome w (outcome w e))
+pub next_is : (w : WorldState) (e : Event) → enabled w e ≡ true → next w e ≡ counted (after_outcome w (outcome w e))
 unfolding next performed
 next_is w e may = next_if w (counted (after_outcome w (outcome w e))) (enabled w e) may
 
@@ -94,7 +94,7 @@ same_if : (w : WorldState) (x : WorldState) (t : Bool) → t ≡ false → (if t
 same_if w x true e = absurd (false≢true (sym e))
 same_if w x false e = refl
 
-next_same : (w : WorldState) (e : Event) → enabled w e ≡ false → next w e ≡ w
+pub next_same : (w : WorldState) (e : Event) → enabled w e ≡ false → next w e ≡ w
 unfolding next
 next_same w e off = same_if w (counted (performed w e)) (enabled w e) off
 

@@ -1,0 +1,139 @@
+-- Each row, after a script's entry came into its hart's queue.
+use Rattle.std.specs.Prelude.{Option, Some, None, ◌/◌, ◌==◌, if◌then◌else◌, unwrap_or}
+use Rattle.std.specs.List.{list_any}
+use Rattle.std.proofs.Common.{◌≡◌, ◌⊎◌, ℕ, ◌*◌, ◌<◌, Bool, true, false, List, refl, sym, ap, ◌∙◌, inl, inr, subst, arith}
+use Rattle.std.proofs.lemmas.Bool.{cases_Bool, both_ways, or_from, or_parts, and_parts, eqb-true, eq-eqb, ne_eqb, cond-true}
+use Rattle.nc_num.specs.Sizes.{IsBlockSize}
+use Rattle.nc_num.specs.Memory.{byte}
+use Rattle.nc_num.specs.Places.{covers, block_at}
+use Rattle.nc_num.specs.declared.names.Dir.{Dir}
+use Rattle.nc_num.specs.declared.names.Dir.TheVariants.{Both, ToDev, FromDev}
+use Rattle.nc_num.specs.declared.names.MapId.{MapId}
+use Rattle.nc_num.specs.declared.places.Block.{Block}
+use Rattle.nc_num.proofs.Blocks.{start_of_block}
+use Rattle.nc_env.specs.declared.CboOp.{CboOp}
+use Rattle.nc_env.specs.declared.CboOp.TheVariants as cbos
+use Rattle.nc_queue.specs.Entries.{entry_gives, gives_in, is_zero, Fits}
+use Rattle.nc_queue.specs.declared.entry.Entry.{Entry}
+use Rattle.nc_queue.specs.declared.entry.Entry.TheVariants.{Store, Cbo, Reg, Mail, Lend, Mark}
+use Rattle.nc_plan.specs.Parts.{comes_back}
+use Rattle.nc_model.proofs.Faults.{covers-from}
+use Rattle.nc_model.specs.declared.owners.Owner.{Owner}
+use Rattle.nc_model.specs.declared.owners.Owner.TheVariants.{Thread, Passing, Lending, Device, Returning, Synced, Pool}
+use Rattle.nc_rules.specs.Machine.{MachineState}
+use Rattle.nc_rows.specs.Ahead.{is_full, settling}
+use Rattle.nc_rows.specs.Rows.{Loan, Book, device_place, ahead_of, Either, ByDir, Row}
+use Rattle.nc_row_issues.specs.Laws.{Enters, NoByte, NoBlock, Passes, PassesTo, PassesFrom, PassesDevice, PassesOpen, PassesDropping, PassesComing, PassesLent, PassesLoan, PassesBack, IsOwn}
+use Rattle.nc_row_issues.proofs.RowIssues.{rows_issue}
+use Rattle.nc_flat_scripts.specs.Entering.{GivesOwn, IsPlain, IsNoMail, IsDirect, LoanIsDirect, OwnerIsDirect, IsUnlent}
+
+-- ---- a block of which an entry gives no byte
+
+some_given : (o : Option ℕ) (v : ℕ) → o ≡ Some v → o ≡ None → ⊥
+some_given o v is none = absurd cc
+
+op_block : {s : ℕ} (op : CboOp) (b : ℕ) (block : Block) → IsBlockSize s → ((y : ℕ) → y / s ≡ b → entry_gives s (Cbo block op) y ≡ None) → gives_in s b (Cbo block op) ≡ false
+op_block {s = s} cbos.Zero b block size none = elim (cases_Bool (block.0 == b)) [
+  | inl is ↦
+      let same : block.0 ≡ b = eqb-true block.0 b is in
+      let at : (s * b) / s ≡ b = (start_of_block {s = s} b size).0 in
+      absurd (some_given _ 0 (cond-true ((s * b) / s == block.0) (Some 0) None (eq-eqb ((s * b) / s) block.0 (at ∙ sym same))) (none (s * b) at))
+  | inr not ↦ not
+]
+op_block cbos.Clean b block size none = refl
+op_block cbos.Flush b block size none = refl
+op_block cbos.Inval b block size none = refl
+
+pub none_block : {s : ℕ} (e : Entry) (b : ℕ) → IsBlockSize s → Fits s e → ((y : ℕ) → y / s ≡ b → entry_gives s e y ≡ None) → gives_in s b e ≡ false
+none_block {s = s} (Store span bytes kind) b size fits none = elim (cases_Bool (block_at span.at s == b)) [
+  | inl is ↦
+      let over : covers span span.at ≡ true = covers-from span span.at (omega arith) (omega (arith, fits.some)) in
+      absurd (some_given _ _ (cond-true (covers span span.at) _ None over) (none span.at (eqb-true (span.at / s) b is)))
+  | inr not ↦ rw not refl
+]
+none_block {s = s} (Cbo block op) b size fits none = op_block {s = s} op b block size none
+none_block (Reg chan off width value) b size fits none = refl
+none_block (Mail buf to) b size fits none = refl
+none_block (Lend label first count) b size fits none = refl
+none_block (Mark pred succ) b size fits none = refl
+
+-- ---- rows that let it pass
+
+by_dir : (d : Dir) (P Q : Type 0) → P → (comes_back d ≡ true → Q) → ByDir d P Q
+by_dir ToDev P Q p q = p
+by_dir Both P Q p q = q refl
+by_dir FromDev P Q p q = q refl
+
+by_either : (t : Bool) (P Q : Type 0) → t ≡ false → Q → Either t P Q
+by_either true P Q is q = absurd cc
+by_either false P Q is q = q
+
+each_either : (t : Bool) (P Q : Type 0) → P → Q → Either t P Q
+each_either true P Q p q = p
+each_either false P Q p q = q
+
+-- what is known of the entry, in hart h's queue of machine m
+pub record Comes (a : Book) (owner : ℕ → Owner) (m : MachineState) (h : ℕ) (e : Entry) : Type 0 where
+  pub size : IsBlockSize m.size
+  pub fits : Fits m.size e
+  pub plain : IsPlain e
+  pub own : GivesOwn a owner m.size h e
+
+-- a mapping's whole block
+in_mapping : (a : Book) (owner : ℕ → Owner) (m : MachineState) (h : ℕ) (e : Entry) (x : ℕ) (o : Owner) → Comes a owner m h e → owner x ≡ o → (IsOwn a h o → ⊥) → ((y : ℕ) → y / m.size ≡ x / m.size → owner y ≡ owner x) → NoBlock m e x
+in_mapping a owner m h e x o c is other same =
+    none_block {s = m.size} e (x / m.size) c.size c.fits
+    (λ y here. elim (c.own y) [ inl none ↦ none | inr own ↦ absurd (other (subst (IsOwn a h) (same y here ∙ is) own)) ])
+
+at_place : (m : MachineState) (e : Entry) (l : Loan) (x : ℕ) → device_place l x ≡ x → NoByte m e x → NoByte m e (device_place l x)
+at_place m e l x same none = subst (λ (y : ℕ). NoByte m e y) (sym same) none
+
+at_block : (m : MachineState) (e : Entry) (l : Loan) (x : ℕ) → device_place l x ≡ x → NoBlock m e x → NoBlock m e (device_place l x)
+at_block m e l x same none = subst (λ (y : ℕ). NoBlock m e y) (sym same) none
+
+lent_passes : (a : Book) (owner : ℕ → Owner) (m : MachineState) (h : ℕ) (e : Entry) (x : ℕ) (n : MapId) (o : Option Loan) → Comes a owner m h e → owner x ≡ Lending n → (n.hart.0 ≡ h → ⊥) → LoanIsDirect o owner m.size x → NoByte m e x
+    → PassesLent a n o m h e x
+lent_passes a owner m h e x n None c is ne direct none = tt
+lent_passes a owner m h e x n (Some l) c is ne direct none =
+    let y = device_place l x in
+    let to : PassesTo n m h e x y = record { buffer = none; device = at_place m e l x direct.place none; token = λ same. c.plain.token n; back = λ same. absurd (ne same) } in
+    by_either l.area _ _ direct.area (by_dir l.grant.dir _ _ to (λ back. record { to = to; block = at_block m e l x direct.place (in_mapping a owner m h e x (Lending n) c is (λ own. own) (direct.block back)) }))
+
+device_passes : (a : Book) (owner : ℕ → Owner) (m : MachineState) (h : ℕ) (e : Entry) (x : ℕ) (n : MapId) (o : Option Loan) → Comes a owner m h e → owner x ≡ Device n → LoanIsDirect o owner m.size x → NoByte m e x → PassesLoan n o m h e x
+device_passes a owner m h e x n None c is direct none = tt
+device_passes a owner m h e x n (Some l) c is direct none =
+    by_either l.area _ _ direct.area
+    (by_dir l.grant.dir _ _ (record { device = at_place m e l x direct.place none; buffer = none })
+    (λ back. record { device = at_block m e l x direct.place (in_mapping a owner m h e x (Device n) c is (λ own. own) (direct.block back)); buffer = inr none }))
+
+back_passes : (a : Book) (owner : ℕ → Owner) (m : MachineState) (h : ℕ) (e : Entry) (x : ℕ) (n : MapId) (o : Option Loan) → Comes a owner m h e → owner x ≡ Returning n → LoanIsDirect o owner m.size x → NoByte m e x → PassesBack a n o m h e x
+back_passes a owner m h e x n None c is direct none = tt
+back_passes a owner m h e x n (Some l) c is direct none =
+    let place = at_place m e l x direct.place none in
+    by_either l.area _ _ direct.area
+    (by_dir l.grant.dir _ _ (record { device = place; buffer = none })
+    (λ back. each_either (list_any is_full (ahead_of a n l)) _ _
+    (record {
+      opened = record { device = at_block m e l x direct.place (in_mapping a owner m h e x (Returning n) c is (λ own. own) (direct.block back)); buffer = inr none };
+      fence = λ same. c.plain.fence;
+    })
+    (record { device = place; buffer = inr none })))
+
+pub passes : (a : Book) (owner : ℕ → Owner) (m : MachineState) (h : ℕ) (e : Entry) (x : ℕ) (o : Owner) → Comes a owner m h e → owner x ≡ o → OwnerIsDirect a owner m.size x o → IsUnlent owner h x → IsNoMail e → NoByte m e x → Passes a o m h e x
+passes a owner m h e x (Thread j) c is direct unlent quiet none = none
+passes a owner m h e x (Passing j g) c is direct unlent quiet none = record { place = none; message = λ same. quiet (a.buffer x) }
+passes a owner m h e x (Lending n) c is direct unlent quiet none = lent_passes a owner m h e x n (a.loan n) c is (unlent n is) direct none
+passes a owner m h e x (Device n) c is direct unlent quiet none = device_passes a owner m h e x n (a.loan n) c is direct none
+passes a owner m h e x (Returning n) c is direct unlent quiet none = back_passes a owner m h e x n (a.loan n) c is direct none
+passes a owner m h e x (Synced n) c is direct unlent quiet none = none
+passes a owner m h e x Pool c is direct unlent quiet none = none
+
+-- the row behind it: with the entry's byte where it gives one
+pub row_entered : (a : Book) (owner : ℕ → Owner) (v : ℕ) (m k : MachineState) (h : ℕ) (e : Entry) (x : ℕ) → Enters m k h e → Comes a owner m h e → OwnerIsDirect a owner m.size x (owner x) → IsUnlent owner h x → IsNoMail e → Row a (owner x) v m x
+    → Row a (owner x) (unwrap_or (entry_gives m.size e x) v) k x
+row_entered a owner v m k h e x by c direct unlent quiet row = elim (c.own x) [
+  | inl none ↦
+      subst (λ (o : Option ℕ). Row a (owner x) (unwrap_or o v) k x) (sym none)
+      (rows_issue.passed a (owner x) v m k h e x by (passes a owner m h e x (owner x) c refl direct unlent quiet none) row)
+  | inr own ↦ rows_issue.stored a (owner x) v m k h e x by own row
+]

@@ -1,0 +1,150 @@
+-- What an access of a script that is no touch may use: places of its hart alone, in main memory.
+use Rattle.std.specs.Prelude.{Option, Some, None, Bool, true, false, ◌-◌, ◌==◌, ◌/◌, All}
+use Rattle.std.proofs.Common.{◌≡◌, ◌⊎◌, ℕ, ◌+◌, ◌*◌, ◌<◌, ◌≤◌, List, length, refl, sym, ap, ◌∙◌, inl, inr, subst, arith}
+use Rattle.std.proofs.lemmas.Bool.{cases_eq, cases_Bool, cond-false, ne_eqb}
+use Rattle.nc_num.specs.Memory.{byte}
+use Rattle.nc_num.specs.Places.{covers}
+use Rattle.nc_num.specs.declared.names.HartNo.{HartNo}
+use Rattle.nc_num.specs.declared.names.MapId.{MapId}
+use Rattle.nc_num.specs.declared.names.MemType.{MemType}
+use Rattle.nc_num.specs.declared.names.MemType.TheVariants.{Pma, Nc, Io}
+use Rattle.nc_num.specs.declared.places.Block.{Block}
+use Rattle.nc_num.specs.declared.places.Span.{Span}
+use Rattle.nc_num.proofs.Blocks.{inside}
+use Rattle.nc_env.specs.declared.CboOp.TheVariants as cbos
+use Rattle.nc_queue.specs.Entries.{entry_gives}
+use Rattle.nc_queue.specs.declared.entry.Entry.TheVariants as entries
+use Rattle.nc_model.proofs.Faults.{covers-from, covers-high}
+use Rattle.nc_model.proofs.TouchLaws.{piece_passed, rights_passed, type_passed, hart_uses}
+use Rattle.nc_model.specs.Laws.{HartUses}
+use Rattle.nc_model.specs.Touches.{rights_touch, piece_touch, zero_touch, is_its_type, is_pma, is_nc}
+use Rattle.nc_model.specs.declared.owners.Access.{Access}
+use Rattle.nc_model.specs.declared.owners.Access.TheVariants.{Write}
+use Rattle.nc_model.specs.declared.owners.Grant.{Grant}
+use Rattle.nc_model.specs.declared.owners.Owner.{Owner}
+use Rattle.nc_model.specs.declared.owners.Owner.TheVariants.{Thread, Passing, Lending, Device, Returning, Synced, Pool}
+use Rattle.nc_plan.specs.Plans.{In}
+use Rattle.nc_scen.specs.Regions.{pool_of}
+use Rattle.nc_scen.specs.declared.scenario.Scenario.{Scenario}
+use Rattle.nc_rules.specs.declared.lots.Lot.{Lot}
+use Rattle.nc_rules.specs.declared.lots.Side.{Side}
+use Rattle.nc_rules.specs.Lots.{owner_of_side}
+use Rattle.nc_rules.specs.Sound.{IsPieceIn, IsBlockIn}
+use Rattle.nc_rules.specs.Watched.{owner_of}
+use Rattle.nc_rules.specs.World.{WorldState, driver_of}
+use Rattle.nc_holds.proofs.ListsA.{all_at}
+use Rattle.nc_rows.specs.Rows.{Loan, Book}
+use Rattle.nc_row_issues.specs.Laws.{IsOwn, IsSyncedOf}
+use Rattle.nc_flatness.specs.Books.{book_of, mapping_in}
+use Rattle.nc_flatness.specs.Flatness.{IsStill, Flatness}
+use Rattle.nc_flatness.proofs.Owned.{IsMapped, mapped}
+use Rattle.nc_flatness.proofs.WholeBlocks.{mapped_block}
+use Rattle.nc_flat_scripts.specs.Entering.{GivesOwn, IsDirect, LoanIsDirect, OwnerIsDirect, IsUnlent}
+
+-- ---- the mapping that has a place
+
+loan_direct : (sc : Scenario) (f : List ℕ) (w : WorldState) (n : MapId) (x : ℕ) → Flatness sc f w → IsMapped w n x → LoanIsDirect ((book_of w).loan n) (owner_of w) w.machine.size x
+loan_direct sc f w n x flat m =
+    subst (λ (o : Option Loan). LoanIsDirect o (owner_of w) w.machine.size x) (sym m.known)
+    (record { area = m.is.area; place = m.here; block = λ back y same. (mapped_block sc f w n x y flat m back same).1 })
+
+direct_by : (sc : Scenario) (f : List ℕ) (w : WorldState) (x : ℕ) (o : Owner) → Flatness sc f w → x < sc.ram → owner_of w x ≡ o → OwnerIsDirect (book_of w) (owner_of w) w.machine.size x o
+direct_by sc f w x (Lending n) flat lt is = loan_direct sc f w n x flat (mapped sc f w n x flat lt (ap mapping_in is))
+direct_by sc f w x (Device n) flat lt is = loan_direct sc f w n x flat (mapped sc f w n x flat lt (ap mapping_in is))
+direct_by sc f w x (Returning n) flat lt is = loan_direct sc f w n x flat (mapped sc f w n x flat lt (ap mapping_in is))
+direct_by sc f w x (Synced n) flat lt is = loan_direct sc f w n x flat (mapped sc f w n x flat lt (ap mapping_in is))
+direct_by sc f w x (Thread h) flat lt is = tt
+direct_by sc f w x (Passing h g) flat lt is = tt
+direct_by sc f w x Pool flat lt is = tt
+
+pub direct_at : (sc : Scenario) (f : List ℕ) (w : WorldState) (x : ℕ) → Flatness sc f w → x < sc.ram → OwnerIsDirect (book_of w) (owner_of w) w.machine.size x (owner_of w x)
+direct_at sc f w x flat lt = direct_by sc f w x (owner_of w x) flat lt refl
+
+still_side : (n : MapId) (lot : Lot) → IsStill lot → Lending n ≡ owner_of_side n lot.side → ⊥
+still_side n lot (inl is) e = let no : Lending n ≡ Device n = e ∙ ap (owner_of_side n) is in absurd cc
+still_side n lot (inr is) e = let no : Lending n ≡ Synced n = e ∙ ap (owner_of_side n) is in absurd cc
+
+-- a hart whose lots are still lends none
+pub unlent_at : (sc : Scenario) (f : List ℕ) (w : WorldState) (h x : ℕ) → Flatness sc f w → All IsStill (driver_of w h).lots → x < sc.ram → IsUnlent (owner_of w) h x
+unlent_at sc f w h x flat still lt = λ n e hart.
+    let m = mapped sc f w n x flat lt (ap mapping_in e) in
+    let here : In m.is.lot (driver_of w h).lots = subst (λ (k : ℕ). In m.is.lot (driver_of w k).lots) hart m.is.here in
+    still_side n m.is.lot (all_at IsStill (driver_of w h).lots m.is.lot still here) (sym e ∙ m.owner)
+
+-- ---- places of the hart
+
+own_by : (sc : Scenario) (f : List ℕ) (w : WorldState) (h : HartNo) (access : Access) (x : ℕ) (o : Owner) → Flatness sc f w → x < sc.ram → owner_of w x ≡ o → HartUses w.grants h access o → IsOwn (book_of w) h.0 o
+own_by sc f w h access x o flat lt is (inl own) = subst (IsOwn (book_of w) h.0) (sym own) refl
+own_by sc f w h access x o flat lt is (inr uses) =
+    let n = uses.0 in
+    let m = mapped sc f w n x flat lt (ap mapping_in (is ∙ uses.1)) in
+    subst (IsOwn (book_of w) h.0) (sym uses.1) (subst (IsSyncedOf h.0 n) (sym m.known) uses.2)
+
+pub own_place : (sc : Scenario) (f : List ℕ) (w : WorldState) (h : HartNo) (access : Access) (s : Span) (x : ℕ) → Flatness sc f w → rights_touch (owner_of w) w.grants h access s ≡ None → covers s x ≡ true → x < sc.ram
+    → IsOwn (book_of w) h.0 (owner_of w x)
+own_place sc f w h access s x flat none over lt =
+    own_by sc f w h access x (owner_of w x) flat lt refl (hart_uses w.grants h access (owner_of w x) (rights_passed (owner_of w) w.grants h access s x none over))
+
+pub own_unpooled : (sc : Scenario) (f : List ℕ) (w : WorldState) (h x : ℕ) → Flatness sc f w → IsOwn (book_of w) h (owner_of w x) → covers w.machine.pool x ≡ false
+own_unpooled sc f w h x flat own = elim (cases_Bool (covers w.machine.pool x)) [
+  | inl over ↦ absurd (subst (IsOwn (book_of w) h) (flat.bytes.pooled x (subst (λ (p : Span). covers p x ≡ true) flat.world.of_scenario.pool over)) own)
+  | inr off ↦ off
+]
+
+-- ---- pieces
+
+piece_starts : (size : ℕ) (s : Span) → IsPieceIn size s → covers s s.at ≡ true
+piece_starts size s is = covers-from s s.at (omega arith) (elim is.len [
+  | inl e ↦ omega (arith, e)
+  | inr r ↦ elim r [ inl e ↦ omega (arith, e) | inr t ↦ elim t [ inl e ↦ omega (arith, e) | inr e ↦ omega (arith, e) ] ]
+])
+
+pma_is : (kind : MemType) → is_pma kind ≡ true → kind ≡ Pma
+pma_is Pma is = refl
+pma_is Nc is = absurd cc
+pma_is Io is = absurd cc
+
+-- each byte is the hart's own, and no byte is of the coherent pool
+pub record OwnPiece (w : WorldState) (h : ℕ) (s : Span) (kind : MemType) : Type 0 where
+  pub own : (x : ℕ) → covers s x ≡ true → IsOwn (book_of w) h (owner_of w x)
+  pub off : (x : ℕ) → covers s x ≡ true → covers w.machine.pool x ≡ false
+  pub main : kind ≡ Pma
+
+pub own_piece : (sc : Scenario) (f : List ℕ) (w : WorldState) (h : HartNo) (access : Access) (s : Span) (kind : MemType) → Flatness sc f w → piece_touch (owner_of w) w.grants w.machine.pool h access s kind ≡ None
+    → IsPieceIn (length w.machine.cache.ram) s → OwnPiece w h.0 s kind
+own_piece sc f w h access s kind flat none piece =
+    let pool = w.machine.pool in
+    let passed = piece_passed (owner_of w) w.grants pool h access s kind none in
+    let start = piece_starts (length w.machine.cache.ram) s piece in
+    let own : (x : ℕ) → covers s x ≡ true → IsOwn (book_of w) h.0 (owner_of w x) =
+    λ x over. own_place sc f w h access s x flat passed.0 over (omega (arith, covers-high s x over, piece.inside, flat.world.of_scenario.ram)) in
+    let off : (x : ℕ) → covers s x ≡ true → covers pool x ≡ false = λ x over. own_unpooled sc f w h.0 x flat (own x over) in
+    record {
+      own = own;
+      off = off;
+      main = pma_is kind (sym (cond-false (covers pool s.at) (is_nc kind) (is_pma kind) (off s.at start)) ∙ type_passed (owner_of w) pool h s kind s.at passed.1 start);
+    }
+
+-- ---- entries
+
+-- a store gives bytes of its hart alone
+pub store_own : (w : WorldState) (h : ℕ) (span : Span) (bytes : List ℕ) (kind : MemType) → OwnPiece w h span kind → GivesOwn (book_of w) (owner_of w) w.machine.size h (entries.Store span bytes kind)
+store_own w h span bytes kind own = λ x. elim (cases_Bool (covers span x)) [
+  | inl over ↦ inr (own.own x over)
+  | inr off ↦ inl (cond-false (covers span x) (Some (byte bytes (x - span.at))) None off)
+]
+
+-- so does a zero, and no place of its block is of the pool
+pub zero_block : (sc : Scenario) (f : List ℕ) (w : WorldState) (h : HartNo) (block : Block) (x : ℕ) → Flatness sc f w → zero_touch (owner_of w) w.grants h (record { at = w.machine.size * block.0; len = w.machine.size }) ≡ None
+    → IsBlockIn w.machine.size (length w.machine.cache.ram) block.0 → x / w.machine.size ≡ block.0 → IsOwn (book_of w) h.0 (owner_of w x)
+zero_block sc f w h block x flat none there is =
+    let at = inside {s = w.machine.size} x block.0 flat.world.machine.block_size is in
+    let span : Span = record { at = w.machine.size * block.0; len = w.machine.size } in
+    own_place sc f w h Write span x flat none (covers-from span x at.low at.high) (omega (arith, at.high, there, flat.world.of_scenario.ram))
+
+pub zero_own : (sc : Scenario) (f : List ℕ) (w : WorldState) (h : HartNo) (block : Block) → Flatness sc f w → zero_touch (owner_of w) w.grants h (record { at = w.machine.size * block.0; len = w.machine.size }) ≡ None
+    → IsBlockIn w.machine.size (length w.machine.cache.ram) block.0 → GivesOwn (book_of w) (owner_of w) w.machine.size h.0 (entries.Cbo block cbos.Zero)
+zero_own sc f w h block flat none there = λ x. elim (cases_eq (x / w.machine.size) block.0) [
+  | inl e ↦ inr (zero_block sc f w h block x flat none there e)
+  | inr ne ↦ inl (cond-false (x / w.machine.size == block.0) (Some 0) None (ne_eqb (x / w.machine.size) block.0 ne))
+]

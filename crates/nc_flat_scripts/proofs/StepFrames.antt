@@ -1,0 +1,120 @@
+-- The bytes of flat memory behind a step of a driver that has no plan before it, nor behind it.
+use Rattle.std.specs.Prelude.{Option, Some, None, All, slice_set, slice_index_or}
+use Rattle.std.proofs.Common.{◌≡◌, ◌≢◌, ℕ, ◌<◌, List, [], length, refl, sym, ap, ◌∙◌, inl, inr, subst, arith}
+use Rattle.std.proofs.lemmas.Bool.{cases_eq}
+use Rattle.std.proofs.lemmas.List.{get_or-set_same, get_or-set_other, length-set}
+use Rattle.nc_num.specs.Memory.{byte}
+use Rattle.nc_num.specs.declared.names.HartNo.{HartNo}
+use Rattle.nc_num.specs.declared.names.MapId.{MapId}
+use Rattle.nc_num.specs.declared.places.Span.{Span}
+use Rattle.nc_model.specs.declared.owners.Owner.{Owner}
+use Rattle.nc_scen.specs.declared.scenario.Scenario.{Scenario}
+use Rattle.nc_rules.specs.declared.lots.Lot.{Lot}
+use Rattle.nc_rules.specs.declared.steps.Phase.{Phase}
+use Rattle.nc_rules.specs.declared.steps.Phase.TheVariants.{Steps}
+use Rattle.nc_rules.specs.declared.steps.Step.{Step}
+use Rattle.nc_rules.specs.Machine.{MachineState}
+use Rattle.nc_rules.specs.Lots.{Fixed}
+use Rattle.nc_rules.specs.Driver.{DriverState, Went}
+use Rattle.nc_rules.specs.Watched.{owner_of}
+use Rattle.nc_rules.specs.World.{WorldState, driver_of, no_driver, owners_moved}
+use Rattle.nc_holds.specs.Rests.{RestAt}
+use Rattle.nc_rows.specs.Rows.{Loan, Book, Row}
+use Rattle.nc_rows.specs.Parts.{Queued, Uncached, Lasts}
+use Rattle.nc_flatness.specs.Books.{loan_of, number_in, book_of}
+use Rattle.nc_flatness.specs.Flatness.{IsDirect, IsStill, StandsAt, Drives, BytesStand, Flatness}
+use Rattle.nc_flatness.proofs.Outcomes.{gone}
+use Rattle.nc_flatness.proofs.Rests.{lasts_of}
+use Rattle.nc_flat_scripts.proofs.ScriptCalls.{Idles, GoesIdle, IsIdle}
+
+-- ---- the drivers behind
+
+pub driver_here : (w : WorldState) (h : HartNo) (n : MachineState) (went : Went) (g : ℕ) → h.0 < length w.drivers → g ≡ h.0 → driver_of (gone w h n went) g ≡ went.driver
+driver_here w h n went g lt e = ap (driver_of (gone w h n went)) e ∙ get_or-set_same w.drivers h.0 went.driver no_driver lt
+
+pub driver_away : (w : WorldState) (h : HartNo) (n : MachineState) (went : Went) (g : ℕ) → g ≢ h.0 → driver_of (gone w h n went) g ≡ driver_of w g
+driver_away w h n went g ne = get_or-set_other w.drivers h.0 g went.driver no_driver ne
+
+-- what books read of a driver is the same
+pub record ReadsSame (d e : DriverState) : Type 0 where
+  pub fixed : e.fixed ≡ d.fixed
+  pub lots : e.lots ≡ d.lots
+  pub rest : e.rest ≡ d.rest
+
+same_reads : (d e : DriverState) → e ≡ d → ReadsSame d e
+same_reads d e is = record { fixed = ap (λ (k : DriverState). k.fixed) is; lots = ap (λ (k : DriverState). k.lots) is; rest = ap (λ (k : DriverState). k.rest) is }
+
+pub book_same : (w v : WorldState) → ((k : ℕ) → ReadsSame (driver_of w k) (driver_of v k)) → book_of v ≡ book_of w
+book_same w v same =
+    let loans : (n : MapId) → loan_of (driver_of v n.hart.0) n ≡ loan_of (driver_of w n.hart.0) n = λ n.
+    let s = same n.hart.0 in
+    ap (λ (f : Fixed). loan_of (record (driver_of v n.hart.0) { fixed = f }) n) s.fixed ∙ ap (λ (lots : List Lot). loan_of (record (driver_of w n.hart.0) { lots = lots }) n) s.lots in
+    let rests : (k : ℕ) → (driver_of v k).rest ≡ (driver_of w k).rest = λ k. (same k).rest in
+    let fixed : (driver_of v 0).fixed ≡ (driver_of w 0).fixed = (same 0).fixed in
+    λ i. record { loan = λ n. loans n i; rest = λ k. rests k i; buffer = number_in (fixed i).buffers }
+
+-- ---- a driver without a plan
+
+pub idle_drives : (d e : DriverState) → Drives d → All IsStill d.lots → Idles d e → Drives e
+idle_drives d e is still idle = record {
+  direct = rw (idle.fixed, idle.lots) is.direct;
+  stands = subst (λ (p : Phase). StandsAt e p) (sym idle.phase) (rw idle.lots still);
+  idle = subst (λ (p : Phase). RestAt p e.rest) (sym idle.phase) idle.rest;
+}
+
+pub drives_set : (sc : Scenario) (f : List ℕ) (w : WorldState) (h : HartNo) (n : MachineState) (went : Went) → Flatness sc f w → h.0 < length sc.harts → Drives went.driver → (k : ℕ) → k < length sc.harts → Drives (driver_of (gone w h n went) k)
+drives_set sc f w h n went flat lt is k short = elim (cases_eq k h.0) [
+  | inl e ↦ subst Drives (sym (driver_here w h n went k (omega (arith, flat.world.holds.drivers, flat.world.of_scenario.harts, lt)) e)) is
+  | inr ne ↦ subst Drives (sym (driver_away w h n went k ne)) (flat.bytes.drives k short)
+]
+
+pub drivers_count : (sc : Scenario) (f : List ℕ) (w : WorldState) (h : HartNo) (n : MachineState) (went : Went) → Flatness sc f w → length (gone w h n went).drivers ≡ length sc.harts
+drivers_count sc f w h n went flat = length-set w.drivers h.0 went.driver ∙ flat.world.holds.drivers ∙ flat.world.of_scenario.harts
+
+idle_reads : (sc : Scenario) (f : List ℕ) (w : WorldState) (h : HartNo) (n : MachineState) (went : Went) → Flatness sc f w → h.0 < length sc.harts → IsIdle (driver_of w h.0) → Idles (driver_of w h.0) went.driver
+    → (k : ℕ) → ReadsSame (driver_of w k) (driver_of (gone w h n went) k)
+idle_reads sc f w h n went flat lt was idle k = elim (cases_eq k h.0) [
+  | inl e ↦
+      let here = driver_here w h n went k (omega (arith, flat.world.holds.drivers, flat.world.of_scenario.harts, lt)) e in
+      let before : driver_of w k ≡ driver_of w h.0 = ap (driver_of w) e in
+      record {
+        fixed = ap (λ (d : DriverState). d.fixed) here ∙ idle.fixed ∙ ap (λ (d : DriverState). d.fixed) (sym before);
+        lots = ap (λ (d : DriverState). d.lots) here ∙ idle.lots ∙ ap (λ (d : DriverState). d.lots) (sym before);
+        rest = ap (λ (d : DriverState). d.rest) here ∙ idle.rest ∙ sym was.rest ∙ ap (λ (d : DriverState). d.rest) (sym before);
+      }
+  | inr ne ↦ same_reads (driver_of w k) (driver_of (gone w h n went) k) (driver_away w h n went k ne)
+]
+
+pub idle_book : (sc : Scenario) (f : List ℕ) (w : WorldState) (h : HartNo) (n : MachineState) (went : Went) → Flatness sc f w → h.0 < length sc.harts → IsIdle (driver_of w h.0) → Idles (driver_of w h.0) went.driver → book_of (gone w h n went) ≡ book_of w
+idle_book sc f w h n went flat lt was idle = book_same w (gone w h n went) (idle_reads sc f w h n went flat lt was idle)
+
+-- ---- owners stay
+
+-- flat memory g stands in machine n, where the drivers and the owners are those of w
+pub record StandsIn (sc : Scenario) (g : List ℕ) (w : WorldState) (n : MachineState) : Type 0 where
+  pub flat_size : length g ≡ sc.ram
+  pub rows : (x : ℕ) → x < sc.ram → Row (book_of w) (owner_of w x) (byte g x) n x
+  pub queued : Queued (book_of w) (owner_of w) n
+  pub uncached : Uncached (book_of w) (owner_of w) n
+
+abbrev pub put : WorldState → List Owner → WorldState
+put w os = record w { owners = os }
+
+pub idle_stands : (sc : Scenario) (f g : List ℕ) (w : WorldState) (h : HartNo) (n : MachineState) (went : Went) → Flatness sc f w → h.0 < length sc.harts → IsIdle (driver_of w h.0) → GoesIdle (driver_of w h.0) went [] → StandsIn sc g w n
+    → BytesStand sc g (gone w h n went)
+idle_stands sc f g w h n went flat lt was idle is =
+    let v = gone w h n went in
+    let book : book_of v ≡ book_of w = idle_book sc f w h n went flat lt was idle.driver in
+    let owners : v.owners ≡ w.owners = ap (λ (ts : List (Span × Owner)). owners_moved w.owners ts) idle.transfers in
+    let same : owner_of v ≡ owner_of w = ap (λ (os : List Owner). owner_of (put w os)) owners in
+    let drives = drives_set sc f w h n went flat lt (idle_drives (driver_of w h.0) went.driver (flat.bytes.drives h.0 lt) was.still idle.driver) in
+    record {
+      flat_size = is.flat_size;
+      drives = drives;
+      placed = rw (same, book) flat.bytes.placed;
+      pooled = rw same flat.bytes.pooled;
+      rows = rw (same, book) is.rows;
+      queued = rw (same, book) is.queued;
+      uncached = rw (same, book) is.uncached;
+      lasts = lasts_of g v n (length sc.harts) (drivers_count sc f w h n went flat) drives;
+    }
