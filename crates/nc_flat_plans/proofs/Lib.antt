@@ -6,3 +6,4 @@ pub mod Frames
 pub mod LotTurns
 pub mod PlanLists
 pub mod Effects
+pub mod Starts
