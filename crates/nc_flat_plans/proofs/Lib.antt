@@ -7,3 +7,5 @@ pub mod LotTurns
 pub mod PlanLists
 pub mod Effects
 pub mod Starts
+pub mod Blocks
+pub mod Bases
