@@ -229,6 +229,7 @@ turn_bytes sc f w h went span now i lt plain t =
               | inr beside ↦ t.off x beside ∙ was
             ]) is)
       ];
+      unfenced = s.unfenced;
       uncached = λ x over. inl (free_pool sc f w x s over (subst (λ (p : Span). covers p x ≡ true) i.world.of_scenario.pool over));
       lasts = λ g. elim (cases_eq g h.0) [
         | inl own ↦ last_here w h m went f g (hart_of m g).last lt own t.lasting

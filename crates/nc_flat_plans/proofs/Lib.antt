@@ -9,3 +9,4 @@ pub mod Effects
 pub mod Starts
 pub mod Blocks
 pub mod Bases
+pub mod Harts
