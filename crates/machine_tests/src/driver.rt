@@ -4,7 +4,7 @@ ghost use Rattle.std.specs.Prelude.{◌≡◌, ◌≤◌, length, IfOk};
 ghost use Rattle.std.specs.List.{AllByRecursion};
 ghost use Rattle.nc_env.specs.Enables.{IsEnvcfg};
 ghost use Rattle.nc_ops.specs.declared.ops.Op.TheVariants as ops;
-ghost use Rattle.nc_scripts.specs.Scripts.{IsScriptOp};
+ghost use Rattle.nc_ops.specs.Fits.{FitsOp};
 
 use crate::driver_bench::{Bench, FIRST, SECOND, hart, scenario};
 use nc_driver::{Answer, Next, Refusal, Seen};
@@ -119,7 +119,7 @@ fn message(buf: u8, to: HartNo) -> Next {
 fn alone(alloc: Global, mode: Mode, menvcfg: u64, script: Vec<Op>) -> Result<Bench, NoMemory>
     requires known { IsEnvcfg menvcfg }
     requires short { length script.items ≤ 4096 }
-    requires fits { AllByRecursion (IsScriptOp 1 2) script.items }
+    requires fits { AllByRecursion (FitsOp 1 2) script.items }
 {
     let harts = Vec::from_array(alloc, [hart(1, mode, menvcfg, script)])?;
     let sc = scenario(alloc, harts)?;

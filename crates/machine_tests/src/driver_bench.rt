@@ -1,11 +1,16 @@
 //! Scenarios of one page table and two buffers, and a driver of one with the book that it asks.
 
-ghost use Rattle.std.specs.Prelude.{◌≡◌, ◌+◌, ◌≤◌, ◌<◌, length, All, IfOk};
+ghost use Rattle.std.specs.Prelude.{◌≡◌, ◌+◌, ◌≤◌, ◌<◌, true, length, All, IfOk};
 ghost use Rattle.std.specs.List.{AllByRecursion};
 ghost use Rattle.nc_env.specs.Enables.{IsEnvcfg};
+ghost use Rattle.nc_ops.specs.Fits.{FitsOp};
 ghost use Rattle.nc_scen.specs.Accepted.{FitsHart, IsAccepted};
-ghost use Rattle.nc_rules.specs.Built.{IsBuilt, IsBuiltScript};
-ghost use Rattle.nc_scripts.specs.Scripts.{IsScriptOp};
+ghost use Rattle.nc_scen.specs.Regions.{pool_of};
+ghost use Rattle.nc_rules.specs.declared.steps.Next.{Next};
+ghost use Rattle.nc_rules.specs.declared.steps.Next.TheVariants as nexts;
+ghost use Rattle.nc_rules.specs.Driver.{next_of};
+ghost use Rattle.nc_scripts.specs.Scripts.{is_act};
+ghost use Rattle.nc_scripts.specs.Drivers.{IsSeenAt};
 
 use nc_coherent::PagePool;
 use nc_driver::{Answer, Driver, Moves, Next, PageMove, Seen};
@@ -16,6 +21,7 @@ use nc_scen::{
     BufferSpec, BufferSpecs, Events, HartSpec, HartSpecs, Op, Ops, Plan, Scenario, Words,
 };
 use std::alloc::Global;
+use std::marker::Model;
 
 /// The bytes of RAM.
 const RAM: u32 = 8192;
@@ -33,9 +39,8 @@ pub const SECOND: Span = Span { at: 128, len: 128 };
 pub fn hart(harts: u8, mode: Mode, menvcfg: u64, script: Vec<Op>) -> HartSpec
     requires known { IsEnvcfg menvcfg }
     requires short { length script.items ≤ 4096 }
-    requires fits { AllByRecursion (IsScriptOp harts 2) script.items }
-    ensures fits { FitsHart harts 2 result }
-    ensures built { IsBuiltScript result }
+    requires fits { AllByRecursion (FitsOp harts 2) script.items }
+    ensures { FitsHart harts 2 result }
 {
     HartSpec {
         mode,
@@ -61,10 +66,9 @@ pub fn scenario(alloc: Global, harts: Vec<HartSpec>) -> Result<Scenario, NoMemor
     requires some { 1 ≤ length harts.items }
     requires few { length harts.items ≤ 4 }
     requires fits { All (FitsHart (length harts.items) 2) harts.items }
-    requires built { All IsBuiltScript harts.items }
     ensures accepted { IfOk result IsAccepted }
-    ensures built { IfOk result IsBuilt }
     ensures ram { IfOk result (λ s. s.ram ≡ 8192) }
+    ensures pool { IfOk result (λ s. pool_of s ≡ record { at = 0; len = 0 }) }
     ensures harts { IfOk result (λ s. s.harts ≡ harts.items) }
 {
     let ptes = Words::new(Vec::from_array(alloc, TABLE)?);
@@ -89,14 +93,23 @@ pub fn scenario(alloc: Global, harts: Vec<HartSpec>) -> Result<Scenario, NoMemor
     })
 }
 
-/// A driver, and the book and the pages that it asks.
+/// A driver, and the book and the pages that it asks. Clauses see the driver.
 #[derive(Drop)]
 pub struct Bench {
     driver: Driver,
     book: Book,
     pages: PagePool,
-    ghost ram: { length book.owners ≡ 8192 },
-    ghost there: { All (λ b. b.at + b.len ≤ length book.owners) driver.fixed.buffers },
+}
+
+impl Model for Bench {
+    ghost use Rattle.nc_rules.specs.Driver.{DriverState};
+    ghost use Rattle.machine_tests.specs.Benched.{IsBench};
+
+    ghost Value = { DriverState };
+
+    ghost view = { λ b. b.driver };
+
+    ghost invariant = { λ b. IsBench b.driver b.book.owners b.pages };
 }
 
 impl Bench {
@@ -104,8 +117,8 @@ impl Bench {
     pub fn new(alloc: Global, me: HartNo, sc: &Scenario) -> Result<Bench, NoMemory>
         requires hart { me.0 < length sc.now.harts }
         requires accepted { IsAccepted sc.now }
-        requires built { IsBuilt sc.now }
         requires ram { sc.now.ram ≡ 8192 }
+        requires pool { pool_of sc.now ≡ record { at = 0; len = 0 } }
     {
         Ok(Bench {
             driver: Driver::new(alloc, me, sc)?,
@@ -128,24 +141,52 @@ impl Bench {
         &self.driver
     }
 
-    pub fn next(&self) -> Next {
+    pub fn next(&self) -> Next
+        ensures { result ≡ next_of self.now }
+    {
         self.driver.next(&self.book)
     }
 
     /// Makes the next step, which saw so much, and tells what it moved and answered; nothing at the script's end.
     pub fn step(&mut self, seen: Seen) -> Result<Told, NoMemory> {
-        match self.driver.next(&self.book) {
+        match self.next() {
             Next::End | Next::Search(_) => Ok((None, None)),
-            Next::Start => Ok(told(&self.driver.start(&self.book, &self.pages)?)),
-            Next::Op(_) | Next::Claim(_) | Next::Poll(_) | Next::Take(_) => {
-                Ok(told(&self.driver.done(seen)?))
-            }
+            Next::Start => Ok(told(&self.start()?)),
+            Next::Claim(_) => Ok(told(&self.done(seen)?)),
+            Next::Op(_) | Next::Poll(_) | Next::Take(_) => Ok(told(&self.done(free(seen))?)),
         }
+    }
+
+    fn start(&mut self) -> Result<Moves, NoMemory>
+        requires { next_of self.old ≡ nexts.Start }
+    {
+        self.driver.start(&self.book, &self.pages)
+    }
+
+    fn done(&mut self, seen: Seen) -> Result<Moves, NoMemory>
+        requires next { is_act (next_of self.old) ≡ true }
+        requires seen { IsSeenAt (next_of self.old) seen }
+    {
+        self.driver.done(seen)
     }
 
     /// Tells a slot's answer, and what it moved and answered.
     pub fn told(&mut self, got: bool) -> Result<Told, NoMemory> {
-        Ok(told(&self.driver.told(got)?))
+        Ok(told(&self.hear(got)?))
+    }
+
+    fn hear(&mut self, got: bool) -> Result<Moves, NoMemory> {
+        self.driver.told(got)
+    }
+}
+
+/// What was seen, where it was no channel that was busy: only a claim sees one.
+fn free(seen: Seen) -> Seen
+    ensures { (next : Next) → IsSeenAt next result }
+{
+    match seen {
+        Seen::Busy(_) => Seen::Nothing,
+        Seen::Nothing | Seen::Control(_) | Seen::Claimed | Seen::Value(_) => seen,
     }
 }
 

@@ -1,6 +1,5 @@
 -- What a driver knows from the start is fit for the code.
 use Rattle.std.proofs.Common.{ℕ, ◌≤◌, arith, length}
-use Rattle.std.specs.Prelude.{All}
 use Rattle.nc_num.specs.declared.places.Span.{Span}
 use Rattle.nc_pte.specs.Words.{IsPteWord}
 use Rattle.nc_ops.specs.Fits.{FitsOp}

@@ -1,6 +1,6 @@
 -- What nc_rules says of a driver's calls, case by case.
-use Rattle.std.proofs.Common.{arith, ◌≡◌, ℕ, zero, suc, ◌<◌, ◌≤◌, ◌+◌, true, false, List, [], ◌∷◌, ◌++◌, length, refl, sym, ap, subst, ◌∙◌, Option, Some, None, Ok, Err, Result}
-use Rattle.std.specs.Prelude.{drop, if◌then◌else◌, Bool, All, slice_index_or, slice_get, nat_lt}
+use Rattle.std.proofs.Common.{arith, ◌≡◌, ℕ, zero, suc, ◌<◌, ◌+◌, true, false, List, [], ◌∷◌, ◌++◌, length, refl, sym, ap, subst, ◌∙◌, Option, Some, None, Ok, Err, Result}
+use Rattle.std.specs.Prelude.{drop, if◌then◌else◌, Bool, slice_index_or, slice_get, nat_lt}
 use Rattle.std.proofs.lemmas.Option.{slice_get_within}
 use Rattle.nc_model.specs.declared.owners.Owner.{Owner}
 use Rattle.nc_coherent.specs.Pages.{PageMap}
@@ -10,7 +10,6 @@ use Rattle.nc_rules.specs.declared.answers.Refusal.TheVariants as refusals
 use Rattle.nc_rules.specs.declared.lots.Lot.{Lot}
 use Rattle.nc_rules.specs.declared.steps.Act.{Act}
 use Rattle.nc_rules.specs.declared.steps.Act.TheVariants as acts
-use Rattle.nc_rules.specs.declared.steps.Next.{Next}
 use Rattle.nc_rules.specs.declared.steps.Next.TheVariants as nexts
 use Rattle.nc_rules.specs.declared.steps.Phase.{Phase}
 use Rattle.nc_rules.specs.declared.steps.Phase.TheVariants.{Steps, Search, Work}
@@ -26,11 +25,10 @@ use Rattle.nc_rules.specs.Driver.{DriverState, Went, in_hand, next_of, next_of_o
 use Rattle.nc_scripts.specs.Scripts.{is_act}
 use Rattle.nc_scripts.specs.Drivers.{AreThere, IsAtWork, IsPhase}
 use Rattle.nc_scripts.proofs.DriverLaws.{next_step_is, both_stay, stepped_to_fixed, went_fixed}
-use Rattle.nc_scripts.proofs.DriverSteps.{IsStep}
-use Rattle.nc_scripts.proofs.EveryDriver.{IsInHand, in_hand_is, step_of as step_of_script}
+use Rattle.nc_scripts.proofs.EveryDriver.{in_hand_is, step_of as step_of_script}
 use Rattle.nc_checks.specs.Due.{step_of, step_due}
 use Rattle.nc_driver.specs.Kept.{IsKept, IsDue, IsDueIn, IsSound, due_of}
-use Rattle.nc_driver.specs.Rests.{is_more, is_nil, made_first, made_last}
+use Rattle.nc_driver.specs.Rests.{is_more, made_first, made_last}
 
 -- ---- the operation in hand
 

@@ -1,5 +1,5 @@
 -- What a driver's calls leave is a driver, and what they move is there.
-use Rattle.std.proofs.Common.{arith, ◌≡◌, ℕ, ◌+◌, ◌<◌, ◌≤◌, true, false, List, [], ◌∷◌, ◌++◌, length, refl, sym, ap, subst, ◌∙◌, Option, Some, None, Ok, Err, Result}
+use Rattle.std.proofs.Common.{arith, ◌≡◌, ℕ, ◌<◌, true, List, [], ◌∷◌, ◌++◌, length, refl, sym, ap, subst, ◌∙◌, Option, Some, Ok, Err, Result}
 use Rattle.std.specs.Prelude.{All, Bool, IfOk, OnErr}
 use Rattle.std.proofs.lemmas.List.Elements.{All-append}
 use Rattle.nc_num.specs.declared.names.HartNo.{HartNo}
@@ -29,7 +29,7 @@ use Rattle.nc_scripts.specs.Scripts.{is_act}
 use Rattle.nc_scripts.specs.Drivers.{IsDriver, ArePagesOf, AreThere, IsSettled, IsPhase, IsSearching, IsLotIn, FitsKind, IsSeenAt, IsLentAt, Keeps}
 use Rattle.nc_scripts.proofs.Lists.{all_to}
 use Rattle.nc_scripts.proofs.LotLaws.{IsPlaced}
-use Rattle.nc_scripts.proofs.NewLots.{AreNew, new_is}
+use Rattle.nc_scripts.proofs.NewLots.{new_is}
 use Rattle.nc_scripts.proofs.SlotLaws.{lots_given}
 use Rattle.nc_scripts.proofs.EveryDriver.{in_hand_is, first_drivers, started_is, told_is, done_is, lent_is}
 use Rattle.nc_driver.specs.Kept.{IsKept, IsSound, IsDue, IsReady, IsFit, ArePlaced, AreNamed}

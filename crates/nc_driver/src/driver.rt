@@ -60,7 +60,7 @@ impl Driver {
         self.course.next()
     }
 
-    /// Is there to be called in proofs: every driver is one of an accepted scenario.
+    /// Does nothing: its clause says that every driver is one of an accepted scenario.
     pub fn sound(&self)
         ensures { IsKept self.now }
     {

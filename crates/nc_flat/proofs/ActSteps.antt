@@ -27,7 +27,7 @@ use Rattle.nc_rules.specs.Machine.{MachineState, hart_of, grantee_of, with_box}
 use Rattle.nc_rules.specs.Calls.{issue_next, io_waits, claimed_by, claim_next, may_take, take_next}
 use Rattle.nc_rules.specs.Operations.{step_at}
 use Rattle.nc_rules.specs.Handing.{take_step}
-use Rattle.nc_rules.specs.Driver.{DriverState, Went, in_hand, next_of, next_act, is_script, done}
+use Rattle.nc_rules.specs.Driver.{in_hand, next_of, next_act, is_script, done}
 use Rattle.nc_rules.specs.Events.{may_go_on}
 use Rattle.nc_rules.specs.Flat.{all_marks}
 use Rattle.nc_calls.specs.MachineLaws.{SameShape}
@@ -47,7 +47,7 @@ use Rattle.nc_flat.proofs.Pushes.{pushes_issued}
 use Rattle.nc_flat.specs.Invariant.{Flatness}
 use Rattle.nc_flat.proofs.OpEvents.{Goes, goes_same, goes_silent, goes_op}
 use Rattle.nc_flat.proofs.ScriptSteps.{IsOwn, IsNoTake}
-use Rattle.nc_flat.proofs.Situations.{Situation, AtEnd, AtStart, AtStep, AtTake, AtMark, AtMail, Idles, done_idles, done_stays, done_takes, done_goes_on, done_ends}
+use Rattle.nc_flat.proofs.Situations.{Situation, AtEnd, AtStart, AtStep, AtTake, AtMark, AtMail, done_idles, done_stays, done_takes, done_goes_on, done_ends}
 use Rattle.nc_flat.proofs.Shifts.{shifts}
 use Rattle.nc_flat.proofs.HandEvents.{take_there, buffer_is, me_is, work_drives, flat_mark, flat_mail}
 use Rattle.nc_flat.proofs.OwnerEvents.{take_is, flat_take}

@@ -1,6 +1,6 @@
 -- A hart passes a buffer on: its start, its marker and its message keep flatness.
 use Rattle.std.specs.Prelude.{Option, Some, None, Bool, false, if◌then◌else◌, ◌==◌, slice_set}
-use Rattle.std.proofs.Common.{◌≡◌, ◌≢◌, ◌⊎◌, ℕ, ◌<◌, List, [], ◌∷◌, length, refl, sym, ap, ◌∙◌, inl, inr, arith, subst}
+use Rattle.std.proofs.Common.{◌≡◌, ◌≢◌, ◌⊎◌, ℕ, ◌<◌, List, [], ◌∷◌, length, refl, sym, ap, ◌∙◌, inl, inr, arith}
 use Rattle.std.proofs.lemmas.Bool.{cases_eq, eq-eqb, ne_eqb}
 use Rattle.std.proofs.lemmas.List.{length-set, length-map}
 use Rattle.nc_num.specs.Memory.{byte}
@@ -31,7 +31,7 @@ use Rattle.nc_rules.specs.World as worlds
 use Rattle.nc_scripts.proofs.DriverLaws.{in_hand_is}
 use Rattle.nc_calls.proofs.SoundWith.{shape_hart}
 use Rattle.nc_flat.specs.Messages.{is_mail, is_marked, pending, pending_in}
-use Rattle.nc_flat.specs.Invariant.{IsPlain, Flatness, Drives, PlanIs, mark_step, mail_step, buffer_at, driver_at, StatusOf}
+use Rattle.nc_flat.specs.Invariant.{IsPlain, Flatness, Drives, mark_step, mail_step, buffer_at, driver_at, StatusOf}
 use Rattle.nc_flat.proofs.Views.{row_carried}
 use Rattle.nc_flat.proofs.Machines.{queue_away}
 use Rattle.nc_flat.proofs.Pushes.{Pushes, queue_pushed, carries_push, plain_push}

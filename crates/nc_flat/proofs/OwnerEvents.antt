@@ -14,7 +14,7 @@ use Rattle.nc_scen.specs.Accepted.{IsAccepted}
 use Rattle.nc_scen.specs.Regions.{IsIn}
 use Rattle.nc_ops.specs.declared.ops.Op.TheVariants as ops
 use Rattle.nc_scen.specs.declared.scenario.Scenario.{Scenario}
-use Rattle.nc_rules.specs.declared.steps.Phase.TheVariants.{Steps, Work}
+use Rattle.nc_rules.specs.declared.steps.Phase.TheVariants.{Steps}
 use Rattle.nc_rules.specs.Machine.{MachineState, queue_of, box_of, with_box}
 use Rattle.nc_rules.specs.Calls.{is_for, may_take, take_next}
 use Rattle.nc_rules.specs.Driver.{DriverState, in_hand}

@@ -19,15 +19,14 @@ use Rattle.nc_rules.specs.declared.steps.Seen.TheVariants as seen
 use Rattle.nc_rules.specs.declared.steps.Step.{Step}
 use Rattle.nc_rules.specs.declared.steps.Turn.TheVariants as turns
 use Rattle.nc_rules.specs.declared.lots.Lot.{Lot}
-use Rattle.nc_rules.specs.Lots.{Fixed}
 use Rattle.nc_rules.specs.Refusals.{◌>>=◌, buffer_of, owned}
-use Rattle.nc_rules.specs.Turns.{lots_after_both, turned, turned_by, given_up, without_wanted}
+use Rattle.nc_rules.specs.Turns.{lots_after_both, turned, turned_by, without_wanted}
 use Rattle.nc_rules.specs.Handing.{take_step}
 use Rattle.nc_rules.specs.Handing as handing
 use Rattle.nc_rules.specs.Operations.{meaning, step_at, has_start, begin, opening, plan_of}
 use Rattle.nc_scripts.specs.Covered.{is_covered_op}
 use Rattle.nc_coherent.specs.Pages.{PageMap}
-use Rattle.nc_rules.specs.Driver.{DriverState, Went, in_hand, next_of, next_of_op, next_in, next_step, next_rest, next_act, over, stands, stays, kept, give_up, went_to, opened, placed, with_lots, begun, refused_step, started, started_of, started_op, busy, stepped_to, stepped, worked, done, done_of, done_unless, done_in}
+use Rattle.nc_rules.specs.Driver.{DriverState, Went, in_hand, next_of, next_of_op, next_in, next_step, next_rest, next_act, over, stands, kept, give_up, opened, placed, with_lots, begun, refused_step, started, started_of, started_op, busy, stepped_to, stepped, worked, done, done_of, done_unless, done_in}
 use Rattle.nc_flat.specs.Invariant.{mark_step, mail_step, RestOf, PlanIs}
 use Rattle.nc_flat.specs.Messages.{pending, pending_in}
 use Rattle.nc_flat.proofs.ScriptSteps.{IsOwn, Takes, script_step}

@@ -10,3 +10,5 @@ pub mod BookReads
 pub mod Regions
 pub mod StartOwners
 pub mod Starts
+pub mod Runs
+pub mod Dispatch

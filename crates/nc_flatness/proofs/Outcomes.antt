@@ -39,6 +39,7 @@ stand_as sc f w v s = record {
   pooled = s.pooled;
   rows = s.rows;
   queued = s.queued;
+  unfenced = s.unfenced;
   uncached = s.uncached;
   lasts = s.lasts;
 }

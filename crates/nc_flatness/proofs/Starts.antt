@@ -1,5 +1,6 @@
 -- The bytes of flat memory at the start.
-use Rattle.std.specs.Prelude.{Some, None, true, replicate, All}
+use Rattle.std.specs.List.{list_any}
+use Rattle.std.specs.Prelude.{Some, None, true, false, replicate, All}
 use Rattle.std.proofs.Common.{◌≡◌, ℕ, ◌/◌, ◌<◌, List, length, refl, sym, ap, ◌∙◌, arith, subst}
 use Rattle.std.specs.FinMap.{get-empty}
 use Rattle.std.specs.Ordering.{nat_cmp}
@@ -19,13 +20,14 @@ use Rattle.nc_scen.specs.Accepted.{IsAccepted}
 use Rattle.nc_scen.specs.Regions.{pool_of}
 use Rattle.nc_scen.specs.declared.scenario.Scenario.{Scenario}
 use Rattle.nc_rules.specs.Driver.{DriverState}
-use Rattle.nc_rules.specs.Machine.{MachineState}
+use Rattle.nc_rules.specs.Machine.{MachineState, queue_of}
 use Rattle.nc_rules.specs.Start.{memory, first_machine, first_driver}
 use Rattle.nc_rules.specs.World.{driver_of, first_owners, hart, start}
 use Rattle.nc_rules.specs.Watched.{owner_of}
 use Rattle.nc_calls.specs.PlaceLaws.{BothAt, NotHeld}
 use Rattle.nc_calls.proofs.StartPlaces.{start_is_empty}
 use Rattle.nc_rows.specs.Places.{given, ThreadRow}
+use Rattle.nc_rows.specs.Ahead.{is_full}
 use Rattle.nc_rows.specs.Rows.{Book, Row}
 use Rattle.nc_rows.specs.Parts.{IsQueued, Queued}
 use Rattle.nc_flatness.specs.Books.{book_of, mapping_in}
@@ -115,6 +117,7 @@ bytes_start sc a =
       pooled = λ x over. ap (λ (os : List Owner). owner_in os x) (owners_are sc) ∙ pooled_first sc x a over;
       rows = λ x lt. subst (λ (k : MachineState). Row (book_of (start sc)) (owner_of (start sc) x) (byte (memory sc) x) k x) m (row_by (book_of (start sc)) sc (owner_of (start sc) x) x (plain_here sc x lt));
       queued = subst (λ (k : MachineState). Queued (book_of (start sc)) (owner_of (start sc)) k) m (queued_start sc (book_of (start sc)) (owner_of (start sc)));
+      unfenced = λ h. subst (λ (k : MachineState). list_any is_full (queue_of k h) ≡ false) m (ap (list_any is_full) (start_is_empty.queues sc h));
       uncached = uncached_of (book_of (start sc)) (owner_of (start sc)) (start sc).machine (λ x on. subst (λ (k : MachineState). NotHeld k x) m (start_is_empty.not_held sc x));
       lasts = lasts_of (memory sc) (start sc) (start sc).machine (length sc.harts) (count_start sc a) (drives_start sc);
     }

@@ -1,6 +1,7 @@
 -- What holds of every world before the first touch: where the bytes of flat memory stand, and where its drivers do. This
 -- project's own.
 use Rattle.std.specs.Prelude.{ℕ, ◌≡◌, ◌⊎◌, ◌<◌, ◌++◌, true, false, List, [], ◌∷◌, length, flat_map, All, Option, Some, None}
+use Rattle.std.specs.List.{list_any}
 use Rattle.nc_num.specs.Memory.{byte}
 use Rattle.nc_num.specs.Places.{covers}
 use Rattle.nc_num.specs.declared.names.HartNo.{HartNo}
@@ -27,7 +28,7 @@ use Rattle.nc_rules.specs.declared.steps.Phase.TheVariants.{Steps, Search, Work}
 use Rattle.nc_rules.specs.declared.steps.Step.{Step}
 use Rattle.nc_rules.specs.declared.steps.Turn.{Turn}
 use Rattle.nc_rules.specs.declared.steps.Turn.TheVariants as turns
-use Rattle.nc_rules.specs.Machine.{MachineState}
+use Rattle.nc_rules.specs.Machine.{MachineState, queue_of}
 use Rattle.nc_rules.specs.Lots.{Fixed, is_lot, is_named, parts}
 use Rattle.nc_rules.specs.Handing.{hand_steps}
 use Rattle.nc_rules.specs.Plans.{hart_step, op_steps, turning}
@@ -38,6 +39,7 @@ use Rattle.nc_rules.specs.Watched.{owner_of}
 use Rattle.nc_rules.specs.World.{WorldState, driver_of, hart}
 use Rattle.nc_holds.specs.Rests.{RestAt}
 use Rattle.nc_holds.specs.Holds.{Holds}
+use Rattle.nc_rows.specs.Ahead.{is_full}
 use Rattle.nc_rows.specs.Rows.{Row}
 use Rattle.nc_rows.specs.Parts.{Queued, Uncached, Lasts}
 use Rattle.nc_flatness.specs.Books.{book_of, mapping_in, LiesIn}
@@ -145,6 +147,8 @@ pub record BytesStand (sc : Scenario) (f : List ℕ) (w : WorldState) : Type 0 w
   pub pooled : (x : ℕ) → covers (pool_of sc) x ≡ true → owner_of w x ≡ Pool
   pub rows : (x : ℕ) → x < sc.ram → Row (book_of w) (owner_of w x) (byte f x) w.machine x
   pub queued : Queued (book_of w) (owner_of w) w.machine
+  -- a full fence waits, and is never queued
+  pub unfenced : (h : ℕ) → list_any is_full (queue_of w.machine h) ≡ false
   pub uncached : Uncached (book_of w) (owner_of w) w.machine
   pub lasts : Lasts (book_of w) f w.machine
 

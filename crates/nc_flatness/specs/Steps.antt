@@ -1,16 +1,22 @@
 -- What one event does to flat memory, as statements.
-use Rattle.std.specs.Prelude.{ℕ, ◌≡◌, ◌⊎◌, true, List, ◌∷◌, length}
+use Rattle.std.specs.Prelude.{ℕ, ◌≡◌, ◌⊎◌, Bool, true, List, ◌∷◌, length, Some}
+use Rattle.nc_num.specs.declared.names.ChanNo.{ChanNo}
+use Rattle.nc_num.specs.declared.names.HartNo.{HartNo}
+use Rattle.nc_num.specs.declared.places.Block.{Block}
 use Rattle.nc_model.specs.Flat.{Mark, Touched, Latest, Untouched, flat, deeds}
 use Rattle.nc_scen.specs.Accepted.{IsAccepted}
 use Rattle.nc_scen.specs.Events.{IsThere}
 use Rattle.nc_scen.specs.declared.events.Event.{Event}
+use Rattle.nc_scen.specs.declared.events.Event.TheVariants as events
 use Rattle.nc_scen.specs.declared.scenario.Scenario.{Scenario}
 use Rattle.nc_rules.specs.Events.{enabled}
 use Rattle.nc_rules.specs.Flat.{event_marks}
 use Rattle.nc_rules.specs.Next.{next}
 use Rattle.nc_rules.specs.Start.{memory}
-use Rattle.nc_rules.specs.World.{WorldState, start}
-use Rattle.nc_flatness.specs.Covered.{IsCoveredNow}
+use Rattle.nc_ops.specs.declared.ops.Op.{Op}
+use Rattle.nc_rules.specs.Driver.{in_hand}
+use Rattle.nc_rules.specs.World.{WorldState, driver_of, start}
+use Rattle.nc_flatness.specs.Covered.{IsCoveredNow, is_lending}
 use Rattle.nc_flatness.specs.Flatness.{IsWorldOf, BytesStand, Flatness}
 
 -- a touch comes before all else
@@ -52,3 +58,21 @@ StartIsFlat = (sc : Scenario) → IsAccepted sc → IsCoveredNow sc → Flatness
 abbrev pub WorldsStay : Type 0
 WorldsStay =
     (sc : Scenario) (w : WorldState) (e : Event) → IsWorldOf sc w → IsThere (length sc.harts) sc.block_size sc.ram e → IsWorldOf sc (next w e)
+
+-- drains, caches and channels
+pub record MovesAreFlat : Type 0 where
+  pub drain : (sc : Scenario) (f : List ℕ) (w : WorldState) (h : HartNo) (i : ℕ) → IsNow sc f w (events.Drain h i) → Goes sc f w (events.Drain h i)
+  pub fill : (sc : Scenario) (f : List ℕ) (w : WorldState) (h : HartNo) (b : Block) → IsNow sc f w (events.Fill h b) → Goes sc f w (events.Fill h b)
+  pub evict : (sc : Scenario) (f : List ℕ) (w : WorldState) (h : HartNo) (b : Block) → IsNow sc f w (events.Evict h b) → Goes sc f w (events.Evict h b)
+  pub read : (sc : Scenario) (f : List ℕ) (w : WorldState) (chan : ChanNo) → IsNow sc f w (events.ChanRead chan) → Goes sc f w (events.ChanRead chan)
+  pub write : (sc : Scenario) (f : List ℕ) (w : WorldState) (chan : ChanNo) → IsNow sc f w (events.ChanWrite chan) → Goes sc f w (events.ChanWrite chan)
+
+-- a step of a driver whose operation neither lends nor takes back, and of one whose does
+abbrev pub StepsAreFlat : Bool → Type 0
+StepsAreFlat lends =
+    (sc : Scenario) (f : List ℕ) (w : WorldState) (h : HartNo) (o : Op) → IsNow sc f w (events.Issue h) → in_hand (driver_of w h.0) ≡ Some o → is_lending o ≡ lends
+    → Goes sc f w (events.Issue h)
+
+-- every event
+abbrev pub EachGoes : Type 0
+EachGoes = (sc : Scenario) (f : List ℕ) (w : WorldState) (e : Event) → IsNow sc f w e → Goes sc f w e

@@ -2,7 +2,7 @@
 
 ghost use Rattle.nc_scripts.specs.Scripts.{EachStaysDriver, FirstDrivers};
 
-/// The driver of each hart of an accepted scenario that is run knows what fits that scenario.
+/// The driver of each hart of an accepted scenario that is covered knows what fits that scenario.
 #[tactic(auto, using(crate::proofs::DriverLaws::first_drivers))]
 pub fn first_drivers()
     ensures { FirstDrivers }

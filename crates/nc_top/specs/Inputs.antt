@@ -1,9 +1,9 @@
 -- What a call has read.
-use Rattle.std.specs.Prelude.{◌≡◌, ◌≢◌, ◌<◌, ◌≤◌, ◌⊎◌, ◌↔◌, ℕ, Ok, None, List, Bool, true, [], Option, length}
+use Rattle.std.specs.Prelude.{◌≡◌, ◌≢◌, ◌+◌, ◌<◌, ◌≤◌, ◌⊎◌, ◌↔◌, ℕ, Ok, List, Bool, true, false, [], Option, length}
 use Rattle.std.specs.Io.KnownBytes.{Consumes, IsAtEnd, Keeps}
 use Rattle.nc_io.specs.Streams.{GrowsByFront}
 use Rattle.nc_migrate.specs.Migrating.{KeepsReading}
-use Rattle.nc_top.specs.Due.{due, due_for, command_of}
+use Rattle.nc_top.specs.Due.{due, due_for, command_of, asks_input}
 use Rattle.nc_scen.specs.Reading.{most_bytes, reading}
 use Rattle.nc_scen.specs.declared.scenario.Scenario.{Scenario}
 use Rattle.nc_scripts.specs.Covered.{IsCovered}
@@ -15,11 +15,17 @@ pub record HasRead (before now : Option (List ℕ)) (ended : Bool) (bytes : List
   pub taken : Consumes before now bytes
   pub whole : ((ended ≡ true) × IsAtEnd now) ⊎ (most_bytes < length bytes)
 
--- Nothing was written, or a front of what is due: for words that are no command by the words alone, else for all bytes
+-- Of the source at most one byte more was taken than a scenario may have, whatever came of it.
+pub record TakesFew (before now : Option (List ℕ)) : Type 0 where
+  pub bytes : List ℕ
+  pub taken : Consumes before now bytes
+  pub few : length bytes ≤ most_bytes + 1
+
+-- Nothing was written, or a front of what is due: for words that ask for no input by the words alone, else for all bytes
 -- that were read.
 abbrev pub WroteFront : List (List ℕ) → Option (List ℕ) → Option (List ℕ) → Bool → Option (List ℕ) → Option (List ℕ) → Type 0
 WroteFront words before now ended held_before held_now = Keeps held_before held_now
-    ⊎ ((command_of words ≡ None) × GrowsByFront held_before held_now (due words []).text)
+    ⊎ ((asks_input (command_of words) ≡ false) × GrowsByFront held_before held_now (due words []).text)
     ⊎ ((bytes : List ℕ) × HasRead before now ended bytes × GrowsByFront held_before held_now (due words bytes).text)
 
 -- The status is a refusal's exactly where the bytes are no scenario.

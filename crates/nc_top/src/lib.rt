@@ -4,6 +4,7 @@
 //! what is due for them, or a failure that has its cause; and up to the first touch the run that is reported is flat.
 #![tactic(auto)]
 
+mod generated;
 mod input;
 mod run;
 mod top;

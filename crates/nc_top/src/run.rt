@@ -30,7 +30,7 @@ fn at_end(w: &World) -> bool
 }
 
 /// 1 where there is a touch, else 7 where a script is not at its end, else 0.
-fn status_of(w: &World) -> u8
+pub fn status_of(w: &World) -> u8
     ensures value { result ≡ status_at w.now.at }
     ensures kind { IsAnswer result }
     ensures run { result ≢ 3 }

@@ -9,15 +9,17 @@ ghost use Rattle.nc_migrate.specs.Migrating.{migrated};
 ghost use Rattle.nc_pieces.specs.Serving.{pool_answer};
 ghost use Rattle.nc_flat.specs.Laws.{EachRunIsLatest, EachRunIsKept};
 ghost use Rattle.nc_scen.specs.Accepted.{IsAccepted};
-ghost use Rattle.nc_top.specs.Due.{due, due_by, due_for, due_for_migrate, due_for_pool, command_of, is_migrate, is_pool, is_run, IsAnswer};
-ghost use Rattle.nc_top.specs.Inputs.{HasRead, IsFlat, IsRunWhereRead, KeepsScenario, WroteFront};
+ghost use Rattle.nc_top.specs.Due.{due, due_by, due_for, due_for_gen, due_for_migrate, due_for_pool, command_of, is_migrate, is_pool, is_run, IsAnswer};
+ghost use Rattle.nc_top.specs.Inputs.{HasRead, IsFlat, IsRunWhereRead, KeepsScenario, TakesFew, WroteFront};
 
-use crate::input::{Lost, read_input};
+use crate::generated::run_generated;
+use crate::input::{Lost, input_of};
 use crate::run::run_out;
 use crate::words::{Command, command_of};
 use nc_flat::{kept_law, latest_law};
 use nc_io::{Sink, Source, Stop, write_all};
 use nc_migrate::migrate;
+use nc_num::NoMemory;
 use nc_pieces::{PoolFault, pool_answer, pool_refused};
 use nc_report::refused;
 use nc_scen::{ScenFault, Scenario, read};
@@ -109,6 +111,20 @@ fn answer_pool<K: Sink>(alloc: Global, bytes: &[u8], out: &mut K) -> u8
     }
 }
 
+/// Answers the command `gen`: the line that sums up the run of a number's scenario.
+fn answer_gen<K: Sink>(alloc: Global, n: u64, out: &mut K) -> u8
+    ensures written { IsAnswer result → (result ≡ (due_for_gen n).status) × Appends (K.held out.old) (K.held out.new) (due_for_gen n).text }
+    ensures sink { result ≡ 5 → Rose (K.faults out.old) (K.faults out.new) }
+    ensures reads { result ≢ 4 }
+    ensures runs { result ≢ 3 }
+    ensures front { Keeps (K.held out.old) (K.held out.new) ⊎ GrowsByFront (K.held out.old) (K.held out.new) (due_for_gen n).text }
+{
+    match run_generated(alloc, n) {
+        Ok(generated) => put(out, generated.status, &generated.line),
+        Err(NoMemory) => 6,
+    }
+}
+
 /// Answers an input for a command.
 fn answer_command<K: Sink>(alloc: Global, command: Command, bytes: &[u8], out: &mut K) -> u8
     ensures written { IsAnswer result → (result ≡ (due_by command bytes.now).status) × Appends (K.held out.old) (K.held out.new) (due_by command bytes.now).text }
@@ -116,6 +132,7 @@ fn answer_command<K: Sink>(alloc: Global, command: Command, bytes: &[u8], out: &
     ensures reads { result ≢ 4 }
     ensures read { command ≡ Command.Run → IsAnswer result → IsRunWhereRead result bytes.now }
     ensures flat { command ≡ Command.Run → IsAnswer result → IsFlat result bytes.now }
+    ensures generated { (n : ℕ) → command ≡ Command.Gen n → result ≢ 3 }
     ensures moved { command ≡ Command.Migrate → result ≡ 0 → KeepsScenario bytes.now (due_by command bytes.now).text }
     ensures front { Keeps (K.held out.old) (K.held out.new) ⊎ GrowsByFront (K.held out.old) (K.held out.new) (due_by command bytes.now).text }
 {
@@ -123,11 +140,13 @@ fn answer_command<K: Sink>(alloc: Global, command: Command, bytes: &[u8], out: &
         Command::Run => answer_to(alloc, bytes, out),
         Command::Migrate => answer_migrate(alloc, bytes, out),
         Command::Pool => answer_pool(alloc, bytes, out),
+        Command::Gen(n) => answer_gen(alloc, n, out),
     }
 }
 
 /// Reads a scenario and writes its report, for the words `run`; for `migrate` writes the scenario moved to version 2; for
-/// `pool` reads operations on a pool of small pieces, and writes their lines. Other words are refused.
+/// `pool` reads operations on a pool of small pieces, and writes their lines; for `gen N` reads nothing, runs the scenario
+/// of the number N, and writes the line that sums the run up. Other words are refused.
 ///
 /// Statuses: 0 the run ended with no touch and every script at its end, or all was written; 1 a touch
 /// was reported; 2 unknown words; 3 the input is refused; 4 a read failed; 5 a write failed; 6 memory
@@ -160,6 +179,15 @@ pub fn dmasim<S: Source, K: Sink>(
         → (bytes : List ℕ) × HasRead (S.left src.old) (S.left src.new) (S.ended src.new) bytes
         × (result ≡ (due (map string_bytes words.now.items) bytes).status)
         × Appends (K.held out.old) (K.held out.new) (due (map string_bytes words.now.items) bytes).text }
+    ensures generated { (n : ℕ) → command_of (map string_bytes words.now.items) ≡ Some (Command.Gen n)
+        → (src.new ≡ src.old) × (result ≢ 3) × (result ≢ 4)
+        × (IsAnswer result → (result ≡ (due (map string_bytes words.now.items) []).status)
+        × Appends (K.held out.old) (K.held out.new) (due (map string_bytes words.now.items) []).text) }
+
+    // Words that are no command are refused before anything is read, and of the source never more is taken than one byte
+    // beyond the most that a scenario may have.
+    ensures words { command_of (map string_bytes words.now.items) ≡ None → (src.new ≡ src.old) × (result ≢ 4) }
+    ensures stops { TakesFew (S.left src.old) (S.left src.new) }
 
     // A failure has its cause.
     ensures source { result ≡ 4 → Rose (S.faults src.old) (S.faults src.new) × Keeps (K.held out.old) (K.held out.new) }
@@ -179,7 +207,7 @@ pub fn dmasim<S: Source, K: Sink>(
     let Some(command) = command_of(words) else {
         return put(out, 2, b"refused words\n");
     };
-    match read_input(alloc, src) {
+    match input_of(alloc, command, src) {
         Ok(bytes) => answer_command(alloc, command, &bytes, out),
         Err(Lost::Failed) => 4,
         Err(Lost::NoMemory) => 6,

@@ -1,7 +1,9 @@
 //! The words of the command line.
 
 ghost use Rattle.std.specs.Prelude.{◌≡◌, map, string_bytes};
-ghost use Rattle.nc_top.specs.Due.{command_of, is_migrate, is_pool, is_run};
+ghost use Rattle.nc_top.specs.Due.{command_of, is_migrate, is_pool, is_run, seed_in};
+
+use nc_values::number_in;
 
 /// What is asked for.
 #[derive(Clone, Copy, Debug, PartialEq, Eq)]
@@ -12,6 +14,8 @@ pub enum Command {
     Migrate,
     /// The lines of a pool of pieces.
     Pool,
+    /// The line that sums up the run of a number's scenario.
+    Gen(u64),
 }
 
 /// The command that the words are, None where they are none.
@@ -27,7 +31,10 @@ pub fn command_of(words: &Vec<String>) -> Option<Command>
     if is_pool(words) {
         return Some(Command::Pool);
     }
-    None
+    match seed_in(words) {
+        Some(n) => Some(Command::Gen(n)),
+        None => None,
+    }
 }
 
 /// Whether the words are `run`.
@@ -49,4 +56,14 @@ fn is_pool(words: &Vec<String>) -> bool
     ensures { result ≡ is_pool (map string_bytes words.now.items) }
 {
     words.len() == 1 && words[0].as_str() == "pool"
+}
+
+/// The number of the words `gen N`: in decimal digits without leading zeros, below 2^64.
+fn seed_in(words: &Vec<String>) -> Option<u64>
+    ensures { result ≡ seed_in (map string_bytes words.now.items) }
+{
+    if words.len() == 2 && words[0].as_str() == "gen" {
+        return number_in(words[1].as_bytes());
+    }
+    None
 }

@@ -1,6 +1,6 @@
 -- A call of the machine that answers nothing has changed nothing, and an event that may not happen changes nothing.
-use Rattle.std.proofs.Common.{◌≡◌, ◌⊎◌, inl, inr, ℕ, Bool, true, false, List, [], ◌∷◌, refl, sym, ap, ◌∙◌, subst, ◌<◌, length}
-use Rattle.std.specs.Prelude.{Option, Some, None, Result, Ok, Err, if◌then◌else◌, slice_index_or, slice_set, is_some}
+use Rattle.std.proofs.Common.{◌≡◌, ℕ, Bool, true, false, List, [], ◌∷◌, refl, sym, ap, ◌∙◌}
+use Rattle.std.specs.Prelude.{Option, Some, None, if◌then◌else◌, slice_index_or, slice_set, is_some}
 use Rattle.std.proofs.lemmas.List.{set-get_or}
 use Rattle.nc_cache.specs.declared.line.Line.{Line}
 use Rattle.nc_cache.specs.declared.line.BusRec.{BusRec}
@@ -11,7 +11,6 @@ use Rattle.nc_pdma.specs.declared.channel.ChanStep.{ChanStep}
 use Rattle.nc_pdma.specs.declared.channel.ChanStep.TheVariants.{Idle}
 use Rattle.nc_pdma.specs.Channel.{ChannelState, new_channel}
 use Rattle.nc_pdma.specs.Steps.{read_next, write_next, ram_after}
-use Rattle.nc_ops.specs.declared.ops.Op.{Op}
 use Rattle.nc_rules.specs.Calls.{leaving, drain_next, left_with, may_fill, fill_next, fill_answer, evict_next, evict_answer, chan_read_told, chan_read_next, chan_write_told, chan_write_next}
 use Rattle.nc_rules.specs.Driver.{searching}
 use Rattle.nc_rules.specs.Outcomes.{outcome}

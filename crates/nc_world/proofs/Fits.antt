@@ -1,42 +1,20 @@
 -- What a driver does next fits its world.
-use Rattle.std.proofs.Common.{◌≡◌, ℕ, ◌+◌, ◌<◌, ◌≤◌, true, List, [], length, refl, sym, ap, ◌∙◌, arith, subst, map}
-use Rattle.std.specs.Prelude.{Option, Some, None, All}
-use Rattle.std.specs.List.{range_with_len}
+use Rattle.std.proofs.Common.{◌≡◌, ℕ, ◌<◌, length, refl, arith, subst}
+use Rattle.std.specs.Prelude.{Option, Some, None}
 use Rattle.nc_num.specs.declared.names.HartNo.{HartNo}
-use Rattle.nc_num.specs.declared.names.Label.{Label}
-use Rattle.nc_num.specs.declared.places.Span.{Span}
-use Rattle.nc_queue.specs.declared.entry.Entry.TheVariants as entries
-use Rattle.nc_model.specs.declared.owners.Owner.{Owner}
-use Rattle.nc_plan.specs.declared.ops.HartOp.{HartOp}
-use Rattle.nc_coherent.specs.Pages.{PageMap}
-use Rattle.nc_scen.specs.declared.events.Event.{Event}
-use Rattle.nc_scen.specs.declared.events.Event.TheVariants as events
-use Rattle.nc_scen.specs.declared.scenario.Scenario.{Scenario}
-use Rattle.nc_scen.specs.Accepted.{IsAccepted}
-use Rattle.nc_scen.specs.Events.{IsThere}
-use Rattle.nc_scen.specs.Regions.{pool_of}
 use Rattle.nc_rules.specs.declared.steps.Next.{Next}
 use Rattle.nc_rules.specs.declared.steps.Next.TheVariants as nexts
-use Rattle.nc_rules.specs.declared.steps.Seen.{Seen}
-use Rattle.nc_rules.specs.declared.steps.Seen.TheVariants as seen
-use Rattle.nc_rules.specs.Driver.{DriverState, next_of, searching, searched}
-use Rattle.nc_rules.specs.Events.{enabled}
-use Rattle.nc_rules.specs.Lots.{Fixed, lot_id}
+use Rattle.nc_rules.specs.Driver.{next_of, searching, searched}
+use Rattle.nc_rules.specs.Lots.{Fixed}
 use Rattle.nc_rules.specs.Machine.{MachineState, hart_of, grantee_of}
-use Rattle.nc_rules.specs.Next.{next}
-use Rattle.nc_rules.specs.Outcomes.{Outcome, outcome, claim_seen, seen_of}
-use Rattle.nc_rules.specs.Calls.{leaving, issue_answer}
+use Rattle.nc_rules.specs.Outcomes.{claim_seen, seen_of}
+use Rattle.nc_rules.specs.Calls.{issue_answer}
 use Rattle.nc_rules.specs.declared.answers.Issued.{Issued}
 use Rattle.nc_rules.specs.declared.answers.Issued.TheVariants as issued
-use Rattle.nc_rules.specs.Sound.{IsMachine}
-use Rattle.nc_rules.specs.Start.{first_driver, first_machine}
-use Rattle.nc_rules.specs.Turns.{Moved}
-use Rattle.nc_rules.specs.World.{WorldState, driver_of, first_owners, hart, start}
-use Rattle.nc_calls.specs.MachineLaws.{SameShape}
-use Rattle.nc_scripts.specs.Drivers.{IsFixed, IsDriver, NextIsThere, NextFitsLast, FitsLast, IsSeenAt, StaysDriver, EachStaysDriver}
-use Rattle.nc_scripts.specs.Scripts.{IsDriven, IsRangeIn}
-use Rattle.nc_holds.specs.Holds.{Holds, DriverHolds, MayMove, StartHolds, EventsKeepHolding, MovesMayBeMade, mover}
-use Rattle.nc_world.specs.State.{IsKept}
+use Rattle.nc_rules.specs.World.{WorldState, driver_of}
+use Rattle.nc_scripts.specs.Drivers.{NextIsThere, NextFitsLast, IsSeenAt, EachStaysDriver}
+use Rattle.nc_scripts.specs.Scripts.{IsDriven}
+use Rattle.nc_holds.specs.Holds.{Holds, DriverHolds}
 use Rattle.nc_driver.specs.Kept.{IsOver}
 use Rattle.nc_world.specs.Steps.{NextFits, IsBeside, step_seen}
 

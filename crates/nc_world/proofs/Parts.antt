@@ -1,11 +1,10 @@
 -- A driver's step, by its parts: the outcome of it, what is recorded of the machine's part, and the world after it.
-use Rattle.std.proofs.Common.{◌≡◌, ℕ, ◌<◌, Bool, true, false, List, [], ◌∷◌, ◌++◌, length, refl, sym, ap, subst, ◌∙◌, Option, Some, None}
-use Rattle.std.specs.Prelude.{◌&&◌, if◌then◌else◌, not, slice_index_or, slice_set, is_some, is_none}
+use Rattle.std.proofs.Common.{◌≡◌, ℕ, Bool, true, false, List, [], ◌∷◌, ◌++◌, refl, sym, ap, subst, ◌∙◌, Option, Some, None}
+use Rattle.std.specs.Prelude.{◌&&◌, if◌then◌else◌, not, is_some, is_none}
 use Rattle.std.proofs.lemmas.Bool.{and_parts}
-use Rattle.std.proofs.lemmas.List.{append-nil, append_assoc, set-get_or}
+use Rattle.std.proofs.lemmas.List.{append_assoc}
 use Rattle.nc_num.specs.declared.names.HartNo.{HartNo}
 use Rattle.nc_num.specs.declared.names.Label.{Label}
-use Rattle.nc_num.specs.declared.places.Span.{Span}
 use Rattle.nc_plan.specs.declared.ops.HartOp.{HartOp}
 use Rattle.nc_plan.specs.declared.ops.HartOp.TheVariants.{Load, Store, Cbo, Fence, IoLoad, IoStore, Mark}
 use Rattle.nc_hart.specs.Issue.{marks}
@@ -16,25 +15,24 @@ use Rattle.nc_scen.specs.declared.events.Event.{Event}
 use Rattle.nc_scen.specs.declared.events.Event.TheVariants as events
 use Rattle.nc_slots.specs.SlotWords.{holder_of, tried}
 use Rattle.nc_rules.specs.declared.answers.Issued.TheVariants.{Queued, Passed}
-use Rattle.nc_rules.specs.declared.lots.Lot.{Lot}
 use Rattle.nc_rules.specs.declared.records.Record.{Record}
 use Rattle.nc_rules.specs.declared.records.Record.TheVariants as records
 use Rattle.nc_rules.specs.declared.steps.Next.{Next}
 use Rattle.nc_rules.specs.declared.steps.Next.TheVariants as nexts
 use Rattle.nc_rules.specs.Machine.{MachineState, hart_of}
 use Rattle.nc_rules.specs.Calls.{issue_answer, leaving, drain_next, may_fill, fill_next, fill_answer, evict_next, evict_answer, chan_read_next, chan_read_told, chan_write_next, chan_write_told}
-use Rattle.nc_rules.specs.Driver.{DriverState, Went, next_of, searching, is_script, told, lent}
+use Rattle.nc_rules.specs.Driver.{next_of, searching, is_script, told, lent}
 use Rattle.nc_rules.specs.Turns.{Moved, moved}
-use Rattle.nc_rules.specs.Events.{may_go_on, may_issue_step, is_out, is_idle_step, enabled}
+use Rattle.nc_rules.specs.Events.{may_go_on, may_issue_step, is_idle_step, enabled}
 use Rattle.nc_rules.specs.Next.{touched_by, after_outcome, performed, counted, next, event_records}
 use Rattle.nc_rules.specs.Outcomes.{Outcome, goes, runs, leaves, outcome, step_outcome, start_outcome, op_outcome, claim_outcome, poll_outcome, take_outcome, drain_outcome, try_outcome, told_outcome, at_word, got_word, told_slots}
-use Rattle.nc_rules.specs.Records.{op_records, mark_record, touch_records, drain_records, try_records, told_records, answer_records, read_records, write_records, moves_records}
+use Rattle.nc_rules.specs.Records.{op_records, mark_record, drain_records, try_records, told_records, answer_records, read_records, write_records}
 use Rattle.nc_rules.specs.Sound.{IsMachine, OpIsThere}
 use Rattle.nc_rules.specs.Watched.{drain_touch, transaction_touch}
-use Rattle.nc_rules.specs.World.{WorldState, driver_of, no_driver, with_moves, owners_moved, grants_added, grants_ended, slots_back, pages_moved, one_more}
+use Rattle.nc_rules.specs.World.{WorldState, driver_of, with_moves, owners_moved, grants_added, grants_ended, slots_back, pages_moved, one_more}
 use Rattle.nc_log.specs.Logs.{OpHasPlace, IssuedHasPlaces, fence_record, issued_records}
 use Rattle.nc_world.specs.Looks.{touches_after, is_token, transaction_touch_in}
-use Rattle.nc_world.specs.Steps.{NextFits, CanAct, step_seen, step_machine, step_touch, act_records, is_going, went_on}
+use Rattle.nc_world.specs.Steps.{CanAct, step_seen, step_machine, step_touch, act_records, is_going, went_on}
 use Rattle.nc_cache.specs.Cache.{line_at, held_by}
 use Rattle.nc_num.specs.declared.names.ChanNo.{ChanNo}
 use Rattle.nc_num.specs.declared.places.Block.{Block}

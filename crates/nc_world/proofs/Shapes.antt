@@ -2,7 +2,6 @@
 use Rattle.std.proofs.Common.{◌≡◌, ℕ, Bool, true, false, length, ◌<◌, Option, Some, None, refl, sym, subst, List}
 use Rattle.std.specs.Prelude.{if◌then◌else◌, Result, Ok, Err, OnOk}
 use Rattle.nc_num.specs.declared.names.HartNo.{HartNo}
-use Rattle.nc_model.specs.declared.owners.Access.TheVariants.{Read, Write}
 use Rattle.nc_model.specs.declared.touches.Touch.{Touch}
 use Rattle.nc_queue.specs.declared.entry.Entry.{Entry}
 use Rattle.nc_scen.specs.Events.{IsThere}
@@ -14,7 +13,7 @@ use Rattle.nc_calls.proofs.SoundWith.{shape_same}
 use Rattle.nc_calls.proofs.SoundIssue.{shape_issue}
 use Rattle.nc_calls.proofs.SoundDrain.{shape_drain}
 use Rattle.nc_calls.proofs.SoundSteps.{shape_fill, shape_evict, shape_chan_read, shape_chan_write, shape_claim, shape_take}
-use Rattle.nc_rules.specs.Calls.{leaving, drain_next, chan_read_next, chan_read_told, chan_write_next, chan_write_told}
+use Rattle.nc_rules.specs.Calls.{leaving, drain_next}
 use Rattle.nc_rules.specs.Driver.{next_of, searching}
 use Rattle.nc_rules.specs.Events.{enabled}
 use Rattle.nc_rules.specs.Machine.{MachineState}
@@ -24,8 +23,7 @@ use Rattle.nc_queue.specs.declared.entry.Entry.TheVariants as entries
 use Rattle.nc_rules.specs.Next.{touched_by, after_outcome, performed, counted, next}
 use Rattle.nc_rules.specs.Outcomes.{Outcome, leaves, at_word, outcome, step_outcome, start_outcome, op_outcome, claim_outcome, poll_outcome, take_outcome, try_outcome, told_outcome, drain_outcome}
 use Rattle.nc_rules.specs.Sound.{IsMachine}
-use Rattle.nc_rules.specs.Watched.{drain_touch, transaction_touch}
-use Rattle.nc_rules.specs.World.{WorldState, driver_of, with_machine, with_driver, with_moves}
+use Rattle.nc_rules.specs.World.{WorldState, driver_of, with_moves}
 use Rattle.nc_scripts.specs.Drivers.{EachStaysDriver}
 use Rattle.nc_holds.specs.Holds.{Holds}
 use Rattle.nc_world.specs.Steps.{NextFits}

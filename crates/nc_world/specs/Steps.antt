@@ -1,10 +1,9 @@
 -- The parts of a driver's step: what it names is there, what the machine answers to it, and what it moves. Each is a part
 -- of nc_rules' outcomes that speaks of the machine or of the driver alone.
-use Rattle.std.specs.Prelude.{ℕ, ◌<◌, Bool, true, false, List, [], length, Option, Some, None, IsTrue}
+use Rattle.std.specs.Prelude.{ℕ, ◌<◌, Bool, true, false, List, [], length, Option, None, IsTrue}
 use Rattle.nc_num.specs.declared.names.HartNo.{HartNo}
 use Rattle.nc_model.specs.declared.owners.Owner.{Owner}
 use Rattle.nc_model.specs.declared.touches.Touch.{Touch}
-use Rattle.nc_plan.specs.declared.ops.HartOp.{HartOp}
 use Rattle.nc_coherent.specs.Pages.{PageMap}
 use Rattle.nc_rules.specs.declared.records.Record.{Record}
 use Rattle.nc_rules.specs.declared.steps.Next.{Next}

@@ -2,8 +2,8 @@
 //! is recorded.
 //!
 //! The contract for the crates above: contracts see a world as the written machine's state and the records since they
-//! were last taken. It begins as `start`, and `step` leaves the state that `next` says, adds the records that `told`
-//! says, and answers Skipped exactly where `enabled` does not hold (nc_rules). Want of memory leaves all as it was. The
+//! were last taken. It begins as `start`, and `step` leaves the state that `next` says, adds the records that
+//! `event_records` says, and answers Skipped exactly where `enabled` does not hold (nc_rules). Want of memory leaves all as it was. The
 //! schedule and the report stand above it.
 #![tactic(auto)]
 

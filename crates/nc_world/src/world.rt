@@ -483,13 +483,7 @@ impl World {
             by_script,
             &next,
         );
-        steps::carry(
-            &mut self.book,
-            &mut self.slots,
-            &mut self.pages,
-            h,
-            &moves,
-        );
+        steps::carry(&mut self.book, &mut self.slots, &mut self.pages, h, &moves);
         self.log.moves(h, n, &moves);
         self.touches = steps::touches_after(self.touches, touch);
         self.events = steps::one_more(self.events);
@@ -517,13 +511,7 @@ impl World {
         self.log.push(&Record::Event(Event::Try(h)));
         self.log.tried(h, k, holder);
         let _ = self.slots.try_word(h, k);
-        steps::carry(
-            &mut self.book,
-            &mut self.slots,
-            &mut self.pages,
-            h,
-            &moves,
-        );
+        steps::carry(&mut self.book, &mut self.slots, &mut self.pages, h, &moves);
         self.log.moves(h, n, &moves);
         self.events = steps::one_more(self.events);
         Ok(Stepped::Done)
@@ -549,13 +537,7 @@ impl World {
         self.log.push(&Record::Event(Event::Told(h, got)));
         self.log.told(h, k, got, holder);
         steps::take_word(&mut self.slots, h, k, got);
-        steps::carry(
-            &mut self.book,
-            &mut self.slots,
-            &mut self.pages,
-            h,
-            &moves,
-        );
+        steps::carry(&mut self.book, &mut self.slots, &mut self.pages, h, &moves);
         self.log.moves(h, n, &moves);
         self.events = steps::one_more(self.events);
         Ok(Stepped::Done)
@@ -638,13 +620,7 @@ impl World {
         let moves = steps::lent(&mut self.drivers, h, label, first, count)?;
         self.log.push(&Record::Event(Event::Drain(h, i)));
         acts::drain(&mut self.machine, &mut self.log, self.size, h, i, &entry);
-        steps::carry(
-            &mut self.book,
-            &mut self.slots,
-            &mut self.pages,
-            h,
-            &moves,
-        );
+        steps::carry(&mut self.book, &mut self.slots, &mut self.pages, h, &moves);
         self.log.moves(h, n, &moves);
         self.events = steps::one_more(self.events);
         Ok(Stepped::Done)

@@ -1,7 +1,7 @@
-use Rattle.std.proofs.Common.{◌≡◌, ◌∙◌, sym, ap, subst, IfOk, true}
+use Rattle.std.proofs.Common.{◌≡◌, ◌∙◌, sym, ap, subst, IfOk}
 use Rattle.nc_rules.specs.declared.steps.Phase.TheVariants.{Steps, Work}
 use Rattle.nc_rules.specs.declared.steps.Seen.{Seen}
-use Rattle.nc_rules.specs.Driver.{Went, kept, done_in}
+use Rattle.nc_rules.specs.Driver.{Went, done_in}
 use Rattle.nc_moves.specs.Shown.{seen_as}
 use Rattle.nc_driver.specs.Kept.{state, IsSound}
 use Rattle.nc_driver.proofs.KeptLaws.{act_here, act_hand, not_searching, done_busy, done_made}

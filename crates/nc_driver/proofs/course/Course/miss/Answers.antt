@@ -1,7 +1,7 @@
-use Rattle.std.proofs.Common.{◌≡◌, ◌+◌, sym, ap, subst, IfOk, nat_lt, false, arith}
+use Rattle.std.proofs.Common.{◌≡◌, ◌+◌, sym, subst, IfOk, nat_lt, false, arith}
 use Rattle.std.proofs.lemmas.Bool.Decides.{nat_tests}
 use Rattle.nc_rules.specs.Driver.{Went}
-use Rattle.nc_driver.specs.Kept.{state, IsSound}
+use Rattle.nc_driver.specs.Kept.{state}
 use Rattle.nc_driver.proofs.KeptLaws.{missed_all}
 use Rattle.nc_driver.proofs.course.Course.miss.Goals as goal
 

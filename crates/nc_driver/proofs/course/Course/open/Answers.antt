@@ -1,13 +1,9 @@
-use Rattle.std.proofs.Common.{◌≡◌, ◌∙◌, sym, ap, refl, List}
+use Rattle.std.proofs.Common.{◌∙◌, sym, ap, List}
 use Rattle.nc_rules.specs.declared.lots.Lot.{Lot}
-use Rattle.nc_rules.specs.declared.answers.Answer.{Answer}
-use Rattle.nc_rules.specs.declared.steps.Turn.{Turn}
-use Rattle.nc_rules.specs.declared.steps.Turn.TheVariants as turns
-use Rattle.nc_rules.specs.declared.steps.Step.{Step}
 use Rattle.nc_rules.specs.Operations as rules
 use Rattle.nc_scripts.proofs.LotLaws.{placed_stay}
 use Rattle.nc_driver.specs.Kept.{state}
-use Rattle.nc_driver.proofs.KeptLaws.{open_went, open_there}
+use Rattle.nc_driver.proofs.KeptLaws.{open_went}
 use Rattle.nc_driver.proofs.course.Course.open.Goals as goal
 
 pub go-requires-clause-placed : goal.go-requires-clause-placed

@@ -1,4 +1,4 @@
-use Rattle.std.proofs.Common.{◌≡◌, ◌∙◌, sym, ap, subst, IfOk, Err, Ok}
+use Rattle.std.proofs.Common.{◌≡◌, ◌∙◌, sym, ap, subst, IfOk}
 use Rattle.nc_rules.specs.Driver.{Went}
 use Rattle.nc_moves.specs.Shown.{seen_as}
 use Rattle.nc_driver.specs.Kept.{state, IsSound}

@@ -1,9 +1,6 @@
-use Rattle.std.proofs.Common.{◌≡◌, ◌+◌, ◌∙◌, sym, ap, Option, List}
+use Rattle.std.proofs.Common.{◌+◌, ◌∙◌, sym, ap, List}
 use Rattle.nc_rules.specs.declared.lots.Lot.{Lot}
 use Rattle.nc_checks.specs.Due.{step_due}
-use Rattle.nc_rules.specs.declared.answers.Answer.{Answer}
-use Rattle.nc_rules.specs.declared.steps.Turn.{Turn}
-use Rattle.nc_rules.specs.Turns.{turned}
 use Rattle.nc_rules.specs.Driver.{Went}
 use Rattle.nc_driver.specs.Kept.{state}
 use Rattle.nc_driver.proofs.KeptLaws.{act_here, act_hand, made_at, due_at, step_done, step_there}

@@ -1,4 +1,4 @@
-use Rattle.std.proofs.Common.{◌≡◌, ◌∙◌, sym, ap, Option, List}
+use Rattle.std.proofs.Common.{◌∙◌, sym, ap, Option, List}
 use Rattle.std.specs.Prelude.{drop}
 use Rattle.nc_rules.specs.declared.answers.Answer.{Answer}
 use Rattle.nc_rules.specs.declared.lots.Lot.{Lot}

@@ -1,4 +1,4 @@
-use Rattle.std.proofs.Common.{◌≡◌, ◌∙◌, sym, ap, subst}
+use Rattle.std.proofs.Common.{◌∙◌, sym, ap, subst}
 use Rattle.nc_rules.specs.Lots.{lot_id}
 use Rattle.nc_scripts.specs.Drivers.{IsLentAt}
 use Rattle.nc_rules.specs.Driver.{DriverState, lent}

@@ -1,4 +1,4 @@
-use Rattle.std.proofs.Common.{◌≡◌, ◌∙◌, sym, ap, subst}
+use Rattle.std.proofs.Common.{◌∙◌, ap}
 use Rattle.nc_rules.specs.Driver.{DriverState, told}
 use Rattle.nc_driver.specs.Kept.{state}
 use Rattle.nc_driver.proofs.SoundLaws.{told_sound, told_fixed, ready_after, fixed_after}

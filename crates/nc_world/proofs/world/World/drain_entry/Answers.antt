@@ -1,14 +1,10 @@
-use Rattle.std.proofs.Common.{◌≡◌, ◌<◌, ℕ, List, [], ◌∷◌, ◌++◌, true, false, length, refl, sym, ap, ◌∙◌, subst, Option, Some, None}
-use Rattle.std.proofs.lemmas.List.{append_assoc}
-use Rattle.nc_model.specs.declared.owners.Owner.{Owner}
-use Rattle.nc_model.specs.declared.owners.Grant.{Grant}
+use Rattle.std.proofs.Common.{◌≡◌, ◌<◌, List, [], ◌∷◌, ◌++◌, length, refl, sym, ap, ◌∙◌, subst, Option, Some}
 use Rattle.nc_model.specs.declared.touches.Touch.{Touch}
 use Rattle.nc_rules.specs.Machine.{MachineState}
-use Rattle.nc_rules.specs.Sound.{IsMachine, IsBlockIn, EntryIsThere}
+use Rattle.nc_rules.specs.Sound.{IsMachine}
 use Rattle.nc_rules.specs.Next.{next, event_records}
 use Rattle.nc_rules.specs.declared.records.Record.{Record}
 use Rattle.nc_rules.specs.declared.records.Record.TheVariants as records
-use Rattle.nc_rules.specs.World.{WorldState, driver_of}
 use Rattle.nc_world.specs.Inside.{state_of}
 use Rattle.nc_world.specs.Looks.{touches_after}
 use Rattle.nc_world.specs.Shown.{Shown}

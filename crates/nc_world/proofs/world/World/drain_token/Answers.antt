@@ -1,4 +1,4 @@
-use Rattle.std.proofs.Common.{◌≡◌, ◌<◌, ℕ, List, [], ◌∷◌, ◌++◌, length, refl, sym, ap, ◌∙◌, subst, Option, Some, None}
+use Rattle.std.proofs.Common.{◌≡◌, ◌<◌, ℕ, List, [], ◌∷◌, ◌++◌, length, refl, sym, ap, ◌∙◌, subst, Some}
 use Rattle.std.specs.Prelude.{All}
 use Rattle.nc_model.specs.declared.owners.Owner.{Owner}
 use Rattle.nc_model.specs.declared.owners.Grant.{Grant}
@@ -13,7 +13,7 @@ use Rattle.nc_rules.specs.Calls.{leaving, drain_next}
 use Rattle.nc_rules.specs.Driver.{lent}
 use Rattle.nc_rules.specs.Records.{drain_records, moves_records}
 use Rattle.nc_rules.specs.Turns.{Moved}
-use Rattle.nc_rules.specs.World.{WorldState, driver_of, owners_moved, grants_added, grants_ended}
+use Rattle.nc_rules.specs.World.{driver_of, owners_moved, grants_added, grants_ended}
 use Rattle.nc_scripts.specs.Scripts.{IsRangeIn}
 use Rattle.nc_holds.specs.Holds.{CanAddAll}
 use Rattle.nc_moves.specs.Shown.{seen_as}

@@ -1,21 +1,9 @@
-use Rattle.std.proofs.Common.{◌≡◌, ◌<◌, ℕ, List, [], ◌∷◌, ◌++◌, true, false, length, refl, sym, ap, ◌∙◌, subst, Option, Some, None}
-use Rattle.std.proofs.lemmas.List.{append_assoc}
-use Rattle.nc_model.specs.declared.owners.Owner.{Owner}
-use Rattle.nc_model.specs.declared.owners.Grant.{Grant}
-use Rattle.nc_model.specs.declared.touches.Touch.{Touch}
-use Rattle.nc_rules.specs.Machine.{MachineState}
-use Rattle.nc_rules.specs.Sound.{IsMachine, IsBlockIn, EntryIsThere}
-use Rattle.nc_rules.specs.Next.{next, event_records}
-use Rattle.nc_rules.specs.declared.records.Record.{Record}
-use Rattle.nc_rules.specs.declared.records.Record.TheVariants as records
-use Rattle.nc_rules.specs.World.{WorldState, driver_of}
+use Rattle.std.proofs.Common.{◌<◌, length, refl, sym, subst}
+use Rattle.nc_rules.specs.Sound.{IsMachine, IsBlockIn}
 use Rattle.nc_world.specs.Inside.{state_of}
-use Rattle.nc_world.specs.Looks.{touches_after}
 use Rattle.nc_world.specs.Shown.{Shown}
 use Rattle.nc_world.proofs.Kept.{kept_next}
-use Rattle.nc_cache.specs.Cache.{line_at, held_by}
 use Rattle.nc_scen.specs.declared.events.Event.TheVariants.{Evict}
-use Rattle.nc_rules.specs.Calls.{may_fill, fill_next, evict_next}
 use Rattle.nc_world.proofs.Parts.{machine_next, evict_may, evict_is}
 use Rattle.nc_world.proofs.world.World.evict.Goals as goal
 

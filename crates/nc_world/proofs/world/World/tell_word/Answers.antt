@@ -1,37 +1,27 @@
-use Rattle.std.proofs.Common.{◌≡◌, ◌<◌, ℕ, Bool, true, false, List, [], ◌∷◌, ◌++◌, length, refl, sym, ap, ◌∙◌, subst}
-use Rattle.std.specs.Prelude.{All, Option, Some, None, slice_set, is_none, ◌&&◌}
-use Rattle.std.proofs.lemmas.List.{append_assoc}
+use Rattle.std.proofs.Common.{◌≡◌, ◌<◌, ℕ, Bool, List, [], ◌∷◌, ◌++◌, length, refl, sym, ap, ◌∙◌, subst}
+use Rattle.std.specs.Prelude.{All, Option, Some, slice_set}
 use Rattle.nc_num.specs.declared.names.HartNo.{HartNo}
-use Rattle.nc_num.specs.declared.places.Span.{Span}
 use Rattle.nc_model.specs.declared.owners.Grant.{Grant}
 use Rattle.nc_model.specs.declared.owners.Owner.{Owner}
-use Rattle.nc_model.specs.declared.touches.Touch.{Touch}
-use Rattle.nc_slots.specs.SlotWords.{holder_of, tried}
+use Rattle.nc_slots.specs.SlotWords.{holder_of}
 use Rattle.nc_rules.specs.declared.records.Record.{Record}
 use Rattle.nc_rules.specs.declared.records.Record.TheVariants as records
-use Rattle.nc_rules.specs.declared.steps.Seen.{Seen}
-use Rattle.nc_rules.specs.Calls.{leaving, drain_next}
-use Rattle.nc_rules.specs.Driver.{DriverState, Went, next_of, searching, is_script, told, lent}
-use Rattle.nc_rules.specs.Events.{may_issue_step}
-use Rattle.nc_rules.specs.Machine.{MachineState}
+use Rattle.nc_rules.specs.Driver.{searching, told}
 use Rattle.nc_rules.specs.Next.{next, event_records}
-use Rattle.nc_rules.specs.Outcomes.{got_word, told_slots}
-use Rattle.nc_rules.specs.Records.{touch_records, drain_records, try_records, told_records, moves_records}
+use Rattle.nc_rules.specs.Outcomes.{got_word}
+use Rattle.nc_rules.specs.Records.{told_records, moves_records}
 use Rattle.nc_rules.specs.Sound.{IsMachine}
 use Rattle.nc_rules.specs.Turns.{Moved}
-use Rattle.nc_rules.specs.World.{WorldState, driver_of, owners_moved, grants_added, grants_ended, slots_back}
+use Rattle.nc_rules.specs.World.{driver_of, owners_moved, grants_added, grants_ended, slots_back}
 use Rattle.nc_scripts.specs.Scripts.{IsRangeIn}
-use Rattle.nc_scripts.specs.Drivers.{IsSeenAt, IsLentAt}
-use Rattle.nc_holds.specs.Holds.{CanAddAll, AreBack, MayMove}
+use Rattle.nc_holds.specs.Holds.{CanAddAll, AreBack}
 use Rattle.nc_moves.specs.Shown.{seen_as}
 use Rattle.nc_world.specs.Inside.{state_of}
-use Rattle.nc_world.specs.Looks.{touches_after}
 use Rattle.nc_world.specs.Shown.{Shown}
-use Rattle.nc_world.specs.Steps.{step_seen, step_machine, step_touch, act_records, went_on}
 use Rattle.nc_scen.specs.declared.events.Event.TheVariants.{Told}
 use Rattle.nc_world.proofs.Fits.{word_there}
 use Rattle.nc_world.proofs.Kept.{tell_moves, kept_next}
-use Rattle.nc_world.proofs.Parts.{same_next, tell_goes, tell_is, tell_may, told_by, searched_records, got_is}
+use Rattle.nc_world.proofs.Parts.{same_next, tell_goes, tell_is, tell_may, told_by, searched_records}
 use Rattle.nc_world.proofs.world.World.tell_word.Goals as goal
 
 pub take_word-requires : goal.take_word-requires

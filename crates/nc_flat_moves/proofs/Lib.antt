@@ -1,0 +1,9 @@
+pub mod LosesRows
+pub mod Pieces
+pub mod MappedNow
+pub mod Drains
+pub mod Moves
+pub mod Granted
+pub mod ChannelBytes
+pub mod ChannelEvents
+pub mod MoveLaws

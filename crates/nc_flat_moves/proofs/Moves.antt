@@ -1,0 +1,102 @@
+-- A fill and an eviction in flat memory: the bytes stand as they did.
+use Rattle.nc_calls.proofs.StepPlaces.{fill_is, evict_is}
+use Rattle.nc_rows.specs.Ahead.{is_full}
+use Rattle.std.specs.List.{list_any}
+use Rattle.std.specs.Prelude.{None}
+use Rattle.std.proofs.Common.{◌≡◌, ℕ, ◌+◌, ◌*◌, ◌<◌, ◌≤◌, false, List, length, refl, sym, ap, ◌∙◌, arith}
+use Rattle.std.proofs.lemmas.Bool.{false≢true}
+use Rattle.nc_num.specs.Memory.{byte}
+use Rattle.nc_num.specs.declared.names.HartNo.{HartNo}
+use Rattle.nc_num.specs.declared.places.Block.{Block}
+use Rattle.nc_model.specs.declared.owners.Owner.{Owner}
+use Rattle.nc_model.specs.declared.owners.Owner.TheVariants.{Thread, Passing, Lending, Device, Returning, Synced, Pool}
+use Rattle.nc_scen.specs.declared.events.Event.TheVariants as events
+use Rattle.nc_scen.specs.declared.scenario.Scenario.{Scenario}
+use Rattle.nc_rules.specs.Calls.{fill_next, fill_answer, evict_next, evict_answer}
+use Rattle.nc_rules.specs.Outcomes.{outcome}
+use Rattle.nc_rules.specs.Records.{answer_records}
+use Rattle.nc_rules.specs.Watched.{owner_of}
+use Rattle.nc_rules.specs.World.{WorldState}
+use Rattle.nc_calls.specs.MachineLaws.{IsMove}
+use Rattle.nc_rows.specs.Rows.{Book}
+use Rattle.nc_rows.specs.Laws.{area_of, is_lent_area}
+use Rattle.nc_row_moves.proofs.PartMoves.{parts_stay}
+use Rattle.nc_row_moves.proofs.RowMoves.{rows_move}
+use Rattle.nc_flatness.specs.Books.{book_of, mapping_in}
+use Rattle.nc_flatness.specs.Flatness.{BytesStand, Flatness}
+use Rattle.nc_flatness.specs.Steps.{IsNow, Goes}
+use Rattle.nc_flatness.proofs.Marks.{answer_silent}
+use Rattle.nc_flatness.proofs.Outcomes.{ran, goes_silent, runs_go}
+use Rattle.nc_flat_moves.specs.Mapped.{Mapped}
+use Rattle.nc_flat_moves.proofs.MappedNow.{mapped_now, whole_pool}
+
+-- ---- no area is lent
+
+no_area : (a : Book) (owner : ℕ → Owner) (s x : ℕ) (o : Owner) → Mapped a owner s → owner x ≡ o → is_lent_area a o ≡ false
+no_area a owner s x (Lending n) mapped own =
+    let place = mapped x n (ap mapping_in own) in ap area_of place.lent ∙ place.single
+no_area a owner s x (Thread h) mapped own = refl
+no_area a owner s x (Passing h g) mapped own = refl
+no_area a owner s x (Device n) mapped own = refl
+no_area a owner s x (Returning n) mapped own = refl
+no_area a owner s x (Synced n) mapped own = refl
+no_area a owner s x Pool mapped own = refl
+
+-- ---- a fill
+
+filled_bytes : (sc : Scenario) (f : List ℕ) (w : WorldState) (h b : ℕ) → Flatness sc f w → IsMove w.machine h b → BytesStand sc f (ran w (fill_next w.machine h b))
+filled_bytes sc f w h b flat by =
+    let a = book_of w in
+    let m = w.machine in
+    let sound = flat.world.machine in
+    let s = flat.bytes in
+    record {
+      flat_size = s.flat_size;
+      drives = s.drives;
+      placed = s.placed;
+      pooled = s.pooled;
+      rows = λ x lt. rows_move.fill a (owner_of w x) (byte f x) m h b x sound by (λ area. absurd (false≢true (sym (no_area a (owner_of w) m.size x (owner_of w x) (mapped_now sc f w flat) refl) ∙ area))) (s.rows x lt);
+      queued = parts_stay.queued_fill a (owner_of w) m h b sound by s.queued;
+      unfenced = λ g. ap (list_any is_full) ((fill_is m h b sound by.block).queues g) ∙ s.unfenced g;
+      uncached = parts_stay.uncached_fill a (owner_of w) m h b sound by (whole_pool sc f w flat) s.uncached;
+      lasts = parts_stay.lasts_fill a f m h b sound by s.lasts;
+    }
+
+is_move : (sc : Scenario) (f : List ℕ) (w : WorldState) (h : HartNo) (b : Block) → Flatness sc f w → h.0 < length sc.harts → sc.block_size * b.0 + sc.block_size ≤ sc.ram → IsMove w.machine h.0 b.0
+is_move sc f w h b flat lt there =
+    let of = flat.world.of_scenario in
+    record { hart = omega (arith, of.harts, lt); block = rw (of.size, of.ram) there }
+
+pub fill_goes : (sc : Scenario) (f : List ℕ) (w : WorldState) (h : HartNo) (b : Block) → IsNow sc f w (events.Fill h b) → Goes sc f w (events.Fill h b)
+unfolding outcome
+fill_goes sc f w h b now =
+    runs_go sc f w (events.Fill h b) (fill_next w.machine h.0 b.0) None (answer_records w.machine.size (fill_answer w.machine h.0 b.0)) now.may refl
+    (λ none. goes_silent sc f _ (ran w (fill_next w.machine h.0 b.0)) (answer_silent w.machine.size w.machine.size w.grants (fill_answer w.machine h.0 b.0))
+    (filled_bytes sc f w h.0 b.0 now.flat (is_move sc f w h b now.flat now.there.0 now.there.1)))
+
+-- ---- an eviction
+
+evicted_bytes : (sc : Scenario) (f : List ℕ) (w : WorldState) (h b : ℕ) → Flatness sc f w → IsMove w.machine h b → BytesStand sc f (ran w (evict_next w.machine h b))
+evicted_bytes sc f w h b flat by =
+    let a = book_of w in
+    let m = w.machine in
+    let sound = flat.world.machine in
+    let s = flat.bytes in
+    record {
+      flat_size = s.flat_size;
+      drives = s.drives;
+      placed = s.placed;
+      pooled = s.pooled;
+      rows = λ x lt. rows_move.evict a (owner_of w x) (byte f x) m h b x sound by (s.rows x lt);
+      queued = parts_stay.queued_evict a (owner_of w) m h b sound by s.queued;
+      unfenced = λ g. ap (list_any is_full) ((evict_is m h b sound by.block).queues g) ∙ s.unfenced g;
+      uncached = parts_stay.uncached_evict a (owner_of w) m h b sound by s.uncached;
+      lasts = parts_stay.lasts_evict a f m h b sound by s.lasts;
+    }
+
+pub evict_goes : (sc : Scenario) (f : List ℕ) (w : WorldState) (h : HartNo) (b : Block) → IsNow sc f w (events.Evict h b) → Goes sc f w (events.Evict h b)
+unfolding outcome
+evict_goes sc f w h b now =
+    runs_go sc f w (events.Evict h b) (evict_next w.machine h.0 b.0) None (answer_records w.machine.size (evict_answer w.machine h.0 b.0)) now.may refl
+    (λ none. goes_silent sc f _ (ran w (evict_next w.machine h.0 b.0)) (answer_silent w.machine.size w.machine.size w.grants (evict_answer w.machine h.0 b.0))
+    (evicted_bytes sc f w h.0 b.0 now.flat (is_move sc f w h b now.flat now.there.0 now.there.1)))

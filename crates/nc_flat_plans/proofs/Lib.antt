@@ -1,0 +1,12 @@
+pub mod BookRows
+pub mod Turning
+pub mod Elements
+pub mod Lots
+pub mod Frames
+pub mod LotTurns
+pub mod PlanLists
+pub mod Effects
+pub mod Starts
+pub mod Blocks
+pub mod Bases
+pub mod Harts
