@@ -1,5 +1,6 @@
 -- The bytes of flat memory in a machine that an act of a script leaves.
 use Rattle.std.specs.Prelude.{Option, Some, None, Bool, true, false, All, unwrap_or, ◌/◌, ◌%◌}
+use Rattle.std.specs.List.{list_any}
 use Rattle.std.proofs.Common.{◌≡◌, ◌≢◌, ◌⊎◌, ℕ, ◌<◌, List, [], ◌∷◌, ◌++◌, length, refl, sym, ap, ◌∙◌, inl, inr, subst, arith}
 use Rattle.std.proofs.lemmas.Bool.{cases_eq, false≢true}
 use Rattle.std.proofs.lemmas.List.Elements.{All-push}
@@ -11,6 +12,8 @@ use Rattle.nc_num.specs.declared.names.MemType.TheVariants.{Pma}
 use Rattle.nc_num.specs.declared.places.Span.{Span}
 use Rattle.nc_queue.specs.Entries.{entry_gives}
 use Rattle.nc_queue.specs.declared.entry.Entry.{Entry}
+use Rattle.nc_queue.specs.declared.entry.Entry.TheVariants.{Store, Cbo, Reg, Mail, Lend, Mark}
+use Rattle.nc_lines.specs.Lines.{bare}
 use Rattle.nc_model.specs.declared.owners.Owner.{Owner}
 use Rattle.nc_model.specs.declared.owners.Owner.TheVariants.{Thread, Passing, Lending, Device, Returning, Synced, Pool}
 use Rattle.nc_scen.specs.declared.scenario.Scenario.{Scenario}
@@ -19,6 +22,7 @@ use Rattle.nc_rules.specs.Watched.{owner_of}
 use Rattle.nc_rules.specs.World.{WorldState, driver_of}
 use Rattle.nc_calls.specs.MachineLaws.{SameShape}
 use Rattle.nc_calls.specs.PlaceLaws.{NotHeld, Stays, Loads}
+use Rattle.nc_rows.specs.Ahead.{is_full}
 use Rattle.nc_rows.specs.Rows.{Loan, Book, Row}
 use Rattle.nc_rows.specs.Laws.{seen_at, is_lent_area, area_of}
 use Rattle.nc_rows.specs.Parts.{IsQueued, Queued, MayBeHeld, Uncached}
@@ -28,7 +32,7 @@ use Rattle.nc_row_issues.specs.Laws.{Enters}
 use Rattle.nc_row_issues.proofs.RowIssues.{rows_issue}
 use Rattle.nc_flatness.specs.Books.{book_of}
 use Rattle.nc_flatness.specs.Flatness.{IsStill, Flatness}
-use Rattle.nc_flat_scripts.specs.Entering.{IsNoMail, IsDirect, LoanIsDirect, OwnerIsDirect}
+use Rattle.nc_flat_scripts.specs.Entering.{IsPlain, IsNoMail, IsDirect, LoanIsDirect, OwnerIsDirect}
 use Rattle.nc_flat_scripts.proofs.EntryRows.{Comes, row_entered}
 use Rattle.nc_flat_scripts.proofs.OwnPlaces.{direct_at, unlent_at}
 use Rattle.nc_flat_scripts.proofs.StepFrames.{StandsIn}
@@ -36,7 +40,7 @@ use Rattle.nc_flat_scripts.proofs.StepFrames.{StandsIn}
 -- ---- no act
 
 pub stands_now : (sc : Scenario) (f : List ℕ) (w : WorldState) → Flatness sc f w → StandsIn sc f w w.machine
-stands_now sc f w flat = record { flat_size = flat.bytes.flat_size; rows = flat.bytes.rows; queued = flat.bytes.queued; uncached = flat.bytes.uncached }
+stands_now sc f w flat = record { flat_size = flat.bytes.flat_size; rows = flat.bytes.rows; queued = flat.bytes.queued; uncached = flat.bytes.uncached; unfenced = flat.bytes.unfenced }
 
 -- ---- queues and copies that stay
 
@@ -62,6 +66,7 @@ stays_stand sc f w n flat shape stays =
           (λ area none. (stays.places x).line ∙ none) (flat.bytes.rows x lt);
       queued = queued_same a (owner_of w) m n shape stays.queues flat.bytes.queued;
       uncached = uncached_by a (owner_of w) m n shape (λ x over none. (stays.places x).line ∙ none) flat.bytes.uncached;
+      unfenced = λ g. ap (list_any is_full) (stays.queues g) ∙ flat.bytes.unfenced g;
     }
 
 -- ---- a load
@@ -92,11 +97,23 @@ load_stands sc f w n h span kind flat shape loads beside =
           rows_issue.loaded a o (byte f x) m n h span kind x shape loads (λ area. absurd (false≢true (sym (no_area a o (owner_of w) m.size x (direct_at sc f w x flat lt)) ∙ area))) (flat.bytes.rows x lt);
       queued = queued_same a (owner_of w) m n shape loads.queues flat.bytes.queued;
       uncached = uncached_by a (owner_of w) m n shape (λ x over none. (loads.apart x (λ pma. beside x over)).line ∙ none) flat.bytes.uncached;
+      unfenced = λ g. ap (list_any is_full) (loads.queues g) ∙ flat.bytes.unfenced g;
     }
 
 -- ---- an entry
 
-queued_more : (a : Book) (owner : ℕ → Owner) (m k : MachineState) (h : ℕ) (e : Entry) → Enters m k h e → IsQueued a owner m.pool m.size h e → Queued a owner m → Queued a owner k
+bare_full : (e : Entry) → is_full (bare e) ≡ is_full e
+bare_full (Store span bytes kind) = refl
+bare_full (Cbo block op) = refl
+bare_full (Reg chan off width value) = refl
+bare_full (Mail buf to) = refl
+bare_full (Lend label first count) = refl
+bare_full (Mark pred succ) = refl
+
+pub plain_unfenced : (e : Entry) → IsPlain e → is_full e ≡ false
+plain_unfenced e plain = sym (bare_full e) ∙ plain.fence
+
+pub queued_more : (a : Book) (owner : ℕ → Owner) (m k : MachineState) (h : ℕ) (e : Entry) → Enters m k h e → IsQueued a owner m.pool m.size h e → Queued a owner m → Queued a owner k
 queued_more a owner m k h e by is queued = λ g. rw (by.shape.pool, by.shape.size) (elim (cases_eq g h) [
   | inl same ↦
       let here : queue_of k g ≡ queue_of m h ++ e ∷ [] = ap (queue_of k) same ∙ by.pushes.queues.own in
@@ -118,4 +135,5 @@ entry_stands sc f g w k h e flat by comes quiet still is long bytes =
           (row_entered a (owner_of w) (byte f x) m k h e x by comes (direct_at sc f w x flat lt) (unlent_at sc f w h x flat still lt) (λ j g passing own. quiet (a.buffer x)) (flat.bytes.rows x lt));
       queued = queued_more a (owner_of w) m k h e by is flat.bytes.queued;
       uncached = uncached_by a (owner_of w) m k by.shape (λ x over none. (by.pushes.places x).line ∙ none) flat.bytes.uncached;
+      unfenced = λ g. by.pushes.queues.none is_full g (plain_unfenced e comes.plain) (flat.bytes.unfenced g);
     }

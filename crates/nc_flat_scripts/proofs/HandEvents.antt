@@ -44,7 +44,7 @@ use Rattle.nc_rules.specs.Records.{op_records}
 use Rattle.nc_rules.specs.Refusals.{buffer_of, owned, owned_but}
 use Rattle.nc_rules.specs.Watched.{owner_of, issue_touch}
 use Rattle.nc_rules.specs.World.{WorldState, driver_of, owners_moved}
-use Rattle.nc_rows.specs.Ahead.{is_mail, sending}
+use Rattle.nc_rows.specs.Ahead.{is_full, is_mail, sending}
 use Rattle.nc_rows.specs.Rows.{Book, PassingRow, Row}
 use Rattle.nc_rows.specs.Parts.{IsQueued}
 use Rattle.nc_row_issues.specs.Laws.{Enters}
@@ -55,7 +55,7 @@ use Rattle.nc_flatness.specs.Steps.{GoesTo, Goes}
 use Rattle.nc_flatness.proofs.BookReads.{buffer_gone, rest_here}
 use Rattle.nc_flatness.proofs.Outcomes.{gone, goes_go, goes_silent}
 use Rattle.nc_flat_scripts.specs.Entering.{IsPlain, IsNotIts}
-use Rattle.nc_flat_scripts.proofs.ActRows.{queued_more}
+use Rattle.nc_flat_scripts.proofs.ActRows.{plain_unfenced, queued_more}
 use Rattle.nc_flat_scripts.proofs.EntryRows.{Comes, row_entered}
 use Rattle.nc_flat_scripts.proofs.HandCalls.{Hands, GoesHanding, hands_drives, done_marks, done_mails}
 use Rattle.nc_flat_scripts.proofs.MailFacts.{nothing_left, nothing_marked, nothing_mailed, sends_other, mails_other, sends_none, sends_mail, sends_mark}
@@ -131,6 +131,7 @@ sends_stands sc f w h n went e buf s =
       shape = s.by.shape;
       held = λ x none. (s.by.pushes.places x).line ∙ none;
       queued = queued_more (book_of w) (owner_of w) w.machine n h.0 e s.by s.queued s.passes.flat.bytes.queued;
+      unfenced = λ g. s.by.pushes.queues.none is_full g (plain_unfenced e s.plain) (s.passes.flat.bytes.unfenced g);
       owners = λ x. inl (owner x);
       rows = λ x lt. subst (λ (o : Owner). Row (book_of (gone w h n went)) o (byte f x) n x) (sym (owner x)) (any_row sc f w h n went e buf x (owner_of w x) s lt refl);
     }

@@ -15,7 +15,7 @@ use Rattle.nc_scen.specs.Regions.{pool_of}
 use Rattle.nc_scen.specs.declared.scenario.Scenario.{Scenario}
 use Rattle.nc_rules.specs.declared.lots.LotId.{LotId}
 use Rattle.nc_rules.specs.declared.steps.Step.{Step}
-use Rattle.nc_rules.specs.Machine.{MachineState}
+use Rattle.nc_rules.specs.Machine.{MachineState, queue_of}
 use Rattle.nc_rules.specs.Driver.{DriverState, Went}
 use Rattle.nc_rules.specs.Watched.{owner_of}
 use Rattle.nc_rules.specs.World.{WorldState, driver_of}
@@ -98,6 +98,7 @@ pub record PassedIn (sc : Scenario) (f : List ℕ) (w : WorldState) (h : HartNo)
   pub shape : SameShape w.machine n
   pub held : (x : ℕ) → NotHeld w.machine x → NotHeld n x
   pub queued : Queued (book_of w) (owner_of w) n
+  pub unfenced : (g : ℕ) → list_any is_full (queue_of n g) ≡ false
   pub owners : (x : ℕ) → OwnerMoves sc w (gone w h n went) x
   pub rows : (x : ℕ) → x < sc.ram → Row (book_of (gone w h n went)) (owner_of (gone w h n went) x) (byte f x) n x
 
@@ -150,5 +151,6 @@ stands_passed sc f w h n went p is =
       rows = is.rows;
       queued = queued_to (book_of w) (book_of v) (owner_of w) (owner_of v) n (λ j k. dropped_by sc f w h n went n.size j k p is.owners) (λ j k zeroed. absurd (none_zeroed sc f w (owner_of w) n.size j k flat zeroed)) is.queued;
       uncached = uncached_of (book_of v) (owner_of v) n (λ x over. is.held x (pool_unheld sc f w x flat (subst (λ (s : Span). covers s x ≡ true) is.shape.pool over)));
+      unfenced = is.unfenced;
       lasts = lasts_of f v n (length sc.harts) (drivers_count sc f w h n went flat) drives;
     }

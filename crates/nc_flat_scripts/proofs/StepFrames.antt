@@ -1,5 +1,6 @@
 -- The bytes of flat memory behind a step of a driver that has no plan before it, nor behind it.
-use Rattle.std.specs.Prelude.{Option, Some, None, Bool, true, All, slice_set, slice_index_or}
+use Rattle.std.specs.Prelude.{Option, Some, None, Bool, true, false, All, slice_set, slice_index_or}
+use Rattle.std.specs.List.{list_any}
 use Rattle.std.proofs.Common.{◌≡◌, ◌≢◌, ℕ, ◌<◌, List, [], length, refl, sym, ap, ◌∙◌, inl, inr, subst, arith}
 use Rattle.std.proofs.lemmas.Bool.{cases_eq}
 use Rattle.std.proofs.lemmas.List.{get_or-set_same, get_or-set_other, length-set}
@@ -16,12 +17,13 @@ use Rattle.nc_rules.specs.declared.lots.Lot.{Lot}
 use Rattle.nc_rules.specs.declared.steps.Phase.{Phase}
 use Rattle.nc_rules.specs.declared.steps.Phase.TheVariants.{Steps}
 use Rattle.nc_rules.specs.declared.steps.Step.{Step}
-use Rattle.nc_rules.specs.Machine.{MachineState}
+use Rattle.nc_rules.specs.Machine.{MachineState, queue_of}
 use Rattle.nc_rules.specs.Lots.{Fixed}
 use Rattle.nc_rules.specs.Driver.{DriverState, Went}
 use Rattle.nc_rules.specs.Watched.{owner_of}
 use Rattle.nc_rules.specs.World.{WorldState, driver_of, no_driver, owners_moved}
 use Rattle.nc_holds.specs.Rests.{RestAt}
+use Rattle.nc_rows.specs.Ahead.{is_full}
 use Rattle.nc_rows.specs.Rows.{Loan, Book, Row}
 use Rattle.nc_rows.specs.Parts.{Queued, Uncached, Lasts}
 use Rattle.nc_flatness.specs.Books.{loan_of, number_in, book_of, mapping_in, LiesIn}
@@ -99,6 +101,7 @@ pub record StandsIn (sc : Scenario) (g : List ℕ) (w : WorldState) (n : Machine
   pub rows : (x : ℕ) → x < sc.ram → Row (book_of w) (owner_of w x) (byte g x) n x
   pub queued : Queued (book_of w) (owner_of w) n
   pub uncached : Uncached (book_of w) (owner_of w) n
+  pub unfenced : (g : ℕ) → list_any is_full (queue_of n g) ≡ false
 
 abbrev pub put : WorldState → List Owner → WorldState
 put w os = record w { owners = os }
@@ -122,5 +125,6 @@ idle_stands sc f g w h n went flat lt was idle is =
       rows = swap (λ (a : Book) (o : ℕ → Owner). (x : ℕ) → x < sc.ram → Row a (o x) (byte g x) n x) (book_of w) (book_of v) (owner_of w) (owner_of v) book same is.rows;
       queued = swap (λ (a : Book) (o : ℕ → Owner). Queued a o n) (book_of w) (book_of v) (owner_of w) (owner_of v) book same is.queued;
       uncached = swap (λ (a : Book) (o : ℕ → Owner). Uncached a o n) (book_of w) (book_of v) (owner_of w) (owner_of v) book same is.uncached;
+      unfenced = is.unfenced;
       lasts = lasts_of g v n (length sc.harts) (drivers_count sc f w h n went flat) drives;
     }
