@@ -138,7 +138,7 @@ sends_stands sc f w h n went e buf s =
 
 -- ---- the operation, as an event
 
-sends_goes : (sc : Scenario) (f : List ℕ) (w : WorldState) (h : HartNo) (op : HartOp) (e : Entry) (buf : ℕ) → IsHere sc f w h → next_of (driver_of w h.0) ≡ nexts.Op op → seen_of (issue_answer w.machine h.0 op) ≡ seen.Nothing
+pub sends_goes : (sc : Scenario) (f : List ℕ) (w : WorldState) (h : HartNo) (op : HartOp) (e : Entry) (buf : ℕ) → IsHere sc f w h → next_of (driver_of w h.0) ≡ nexts.Op op → seen_of (issue_answer w.machine h.0 op) ≡ seen.Nothing
     → ((t : Bool) → all_marks w.machine.size w.grants (op_records w.machine h t op) ≡ []) → Sends sc f w h (issue_next w.machine h.0 op) (done (driver_of w h.0) seen.Nothing) e buf → Goes sc f w (events.Issue h)
 sends_goes sc f w h op e buf here nx unseen silent s =
     let d = driver_of w h.0 in

@@ -10,3 +10,6 @@ pub mod PassingFrames
 pub mod MailFacts
 pub mod HandCalls
 pub mod HandEvents
+pub mod SendEvents
+pub mod BufferOwners
+pub mod HandStarts
