@@ -44,7 +44,7 @@ use Rattle.nc_flatness.proofs.Owned.{me_is}
 use Rattle.nc_flat_scripts.proofs.ActRows.{stands_now}
 use Rattle.nc_flat_scripts.proofs.BufferOwners.{moved_in, moved_out, owned_is, range_of, ranges_alike, number_here, number_away, range_in, off_pool, unsent}
 use Rattle.nc_flat_scripts.proofs.HandCalls.{GoesHanding, hands_drives, Starts, Refuses, Begins, hand_starts}
-use Rattle.nc_flat_scripts.proofs.MailFacts.{nothing_left, nothing_marked, sends_other, sends_none, sends_mail, sends_mark}
+use Rattle.nc_flat_scripts.proofs.MailFacts.{nothing_left, nothing_marked, sends_other, sends_none, bare_comes, marker_comes, mail_comes}
 use Rattle.nc_flat_scripts.proofs.PassingFrames.{Passes, there, row_over, OwnerMoves, PassedIn, stands_passed}
 use Rattle.nc_flat_scripts.proofs.ScriptCalls.{IsIdle, GoesIdle}
 use Rattle.nc_flat_scripts.proofs.ScriptEvents.{IsHere, idle_by, outcome_is, start_is, quiet_go}
@@ -59,7 +59,7 @@ pub record IsBegun (sc : Scenario) (f : List ℕ) (w : WorldState) (h : HartNo) 
   pub rest : went.driver.rest ≡ hand_steps buf to
   pub owners : owners_moved w.owners went.moves.transfers ≡ transferred w.owners (range_of w h.0 buf) (Passing h to)
 
-in_owners : (sc : Scenario) (f : List ℕ) (w : WorldState) (h b x : ℕ) → Flatness sc f w → h < length w.machine.harts → b < length (driver_of w h).fixed.buffers → covers (range_of w h b) x ≡ true → x < length w.owners
+pub in_owners : (sc : Scenario) (f : List ℕ) (w : WorldState) (h b x : ℕ) → Flatness sc f w → h < length w.machine.harts → b < length (driver_of w h).fixed.buffers → covers (range_of w h b) x ≡ true → x < length w.owners
 in_owners sc f w h b x flat lt few over = omega (arith, covers-high (range_of w h b) x over, (range_in sc f w h b flat lt few).ends, flat.world.holds.owners)
 
 now_passing : (sc : Scenario) (f : List ℕ) (w : WorldState) (h : HartNo) (went : Went) (buf x : ℕ) (to : HartNo) → IsBegun sc f w h went buf to → covers (range_of w h.0 buf) x ≡ true → owner_of (gone w h w.machine went) x ≡ Passing h to
@@ -84,8 +84,7 @@ begun_row sc f w h went buf x to b lt over =
     let none = unsent w buf h.0 x h (flat.world.holds.messages buf boxes) first own in
     let rest : k.rest h.0 ≡ hand_steps buf to = rest_here w h m went (there sc f w h went p) ∙ b.rest in
     let buffer : k.buffer x ≡ buf = ap (λ (n : ℕ → ℕ). n x) (buffer_gone w h m went (there sc f w h went p) p.fixed) ∙ number_here sc f w h.0 buf x flat b.there b.few over in
-    let sent = sends_mark buf to ∙ ap (λ q. _ ∷ q) (sends_mail buf to) in
-    let passing : PassingRow h.0 v buf (hand_steps buf to) m x = rows_begin.pass m h.0 v buf x (hand_steps buf to) none (rw sent tt) (rw sent tt) (rw sent tt) row in
+    let passing : PassingRow h.0 v buf (hand_steps buf to) m x = rows_begin.pass m h.0 v buf x (hand_steps buf to) none (bare_comes buf to (gives_here m x) refl refl) (marker_comes buf to) (mail_comes buf to) row in
     subst (λ (c : ℕ). PassingRow h.0 v c (k.rest h.0) m x) (sym buffer) (subst (λ (r : List Step). PassingRow h.0 v buf r m x) (sym rest) passing)
 
 other_row : (sc : Scenario) (f : List ℕ) (w : WorldState) (h : HartNo) (went : Went) (buf x : ℕ) (to : HartNo) → IsBegun sc f w h went buf to → x < sc.ram → covers (range_of w h.0 buf) x ≡ false → Row (book_of (gone w h w.machine went)) (owner_of w x) (byte f x) w.machine x

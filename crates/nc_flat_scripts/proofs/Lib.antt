@@ -13,3 +13,4 @@ pub mod HandEvents
 pub mod SendEvents
 pub mod BufferOwners
 pub mod HandStarts
+pub mod TakeEvents

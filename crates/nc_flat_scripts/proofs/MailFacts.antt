@@ -7,6 +7,8 @@ use Rattle.std.proofs.lemmas.List.Folds.{list_any-append}
 use Rattle.nc_num.specs.Places.{covers}
 use Rattle.nc_num.specs.declared.names.HartNo.{HartNo}
 use Rattle.nc_num.specs.declared.places.Span.{Span}
+use Rattle.nc_queue.specs.Entries.{is_wo}
+use Rattle.nc_queue.specs.Laws.{Stands, Covered}
 use Rattle.nc_queue.specs.declared.entry.Entry.{Entry}
 use Rattle.nc_queue.specs.declared.entry.Entry.TheVariants.{Store, Cbo, Reg, Mail, Lend, Mark}
 use Rattle.nc_plan.specs.declared.ops.HartOp.{HartOp}
@@ -118,6 +120,22 @@ sends_mail buf to = steps_ahead.send_last buf (mail_step buf to) [] (its buf to)
 
 pub sends_mark : (buf : ℕ) (to : HartNo) → sending buf (hand_steps buf to) ≡ bare (marker 1 4) ∷ sending buf (mail_step buf to ∷ [])
 sends_mark buf to = steps_ahead.send_next buf (hart_step (hart.Mark 1 4)) (mail_step buf to ∷ []) refl (ap (λ (t : Bool). list_any (λ (u : Bool). u) (t ∷ [])) (its buf to))
+
+-- both of them
+pub sends_both : (buf : ℕ) (to : HartNo) → sending buf (hand_steps buf to) ≡ marker 1 4 ∷ Mail buf to ∷ []
+sends_both buf to = sends_mark buf to ∙ ap (λ (q : List Entry). marker 1 4 ∷ q) (sends_mail buf to)
+
+pub mail_comes : (buf : ℕ) (to : HartNo) → list_any (is_mail buf) (sending buf (hand_steps buf to)) ≡ true
+mail_comes buf to = ap (list_any (is_mail buf)) (sends_both buf to) ∙ ap (λ (t : Bool). list_any (λ (u : Bool). u) (false ∷ t ∷ [])) (eq-eqb buf buf refl)
+
+pub marker_comes : (buf : ℕ) (to : HartNo) → Stands is_wo (is_mail buf) (sending buf (hand_steps buf to))
+marker_comes buf to = subst (Stands is_wo (is_mail buf)) (sym (sends_both buf to)) (inl refl)
+
+-- what gives neither of them gives nothing that is to be covered
+pub bare_comes : (buf : ℕ) (to : HartNo) (p : Entry → Bool) → p (marker 1 4) ≡ false → p (Mail buf to) ≡ false → Covered p is_wo (is_mail buf) (sending buf (hand_steps buf to))
+bare_comes buf to p no_mark no_mail =
+    subst (Covered p is_wo (is_mail buf)) (sym (sends_both buf to))
+    (λ e. absurd (false≢true (sym no_mark ∙ e)), λ e. absurd (false≢true e), (λ e. absurd (false≢true (sym no_mail ∙ e)), λ e. refl, tt))
 
 -- ---- the number of a buffer
 
