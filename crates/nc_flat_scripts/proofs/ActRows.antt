@@ -1,14 +1,12 @@
 -- The bytes of flat memory in a machine that an act of a script leaves.
-use Rattle.std.specs.Prelude.{Option, Some, None, Bool, true, false, All, unwrap_or, ◌/◌, ◌%◌}
+use Rattle.std.specs.Prelude.{Option, Some, None, true, false, All, unwrap_or, ◌/◌}
 use Rattle.std.specs.List.{list_any}
-use Rattle.std.proofs.Common.{◌≡◌, ◌≢◌, ◌⊎◌, ℕ, ◌<◌, List, [], ◌∷◌, ◌++◌, length, refl, sym, ap, ◌∙◌, inl, inr, subst, arith}
+use Rattle.std.proofs.Common.{◌≡◌, ◌≢◌, ℕ, List, [], ◌∷◌, ◌++◌, length, refl, sym, ap, ◌∙◌, inl, inr, subst}
 use Rattle.std.proofs.lemmas.Bool.{cases_eq, false≢true}
 use Rattle.std.proofs.lemmas.List.Elements.{All-push}
 use Rattle.nc_num.specs.Memory.{byte}
 use Rattle.nc_num.specs.Places.{covers, block_at}
-use Rattle.nc_num.specs.declared.names.MapId.{MapId}
 use Rattle.nc_num.specs.declared.names.MemType.{MemType}
-use Rattle.nc_num.specs.declared.names.MemType.TheVariants.{Pma}
 use Rattle.nc_num.specs.declared.places.Span.{Span}
 use Rattle.nc_queue.specs.Entries.{entry_gives}
 use Rattle.nc_queue.specs.declared.entry.Entry.{Entry}
@@ -25,14 +23,14 @@ use Rattle.nc_calls.specs.PlaceLaws.{NotHeld, Stays, Loads}
 use Rattle.nc_rows.specs.Ahead.{is_full}
 use Rattle.nc_rows.specs.Rows.{Loan, Book, Row}
 use Rattle.nc_rows.specs.Laws.{seen_at, is_lent_area, area_of}
-use Rattle.nc_rows.specs.Parts.{IsQueued, Queued, MayBeHeld, Uncached}
+use Rattle.nc_rows.specs.Parts.{IsQueued, Queued, Uncached}
 use Rattle.nc_rows.proofs.PlaceFrames.{of_same}
 use Rattle.nc_rows.proofs.Kept.{rows_keep}
 use Rattle.nc_row_issues.specs.Laws.{Enters}
 use Rattle.nc_row_issues.proofs.RowIssues.{rows_issue}
 use Rattle.nc_flatness.specs.Books.{book_of}
 use Rattle.nc_flatness.specs.Flatness.{IsStill, Flatness}
-use Rattle.nc_flat_scripts.specs.Entering.{IsPlain, IsNoMail, IsDirect, LoanIsDirect, OwnerIsDirect}
+use Rattle.nc_flat_scripts.specs.Entering.{IsPlain, IsNoMail, LoanIsDirect, OwnerIsDirect}
 use Rattle.nc_flat_scripts.proofs.EntryRows.{Comes, row_entered}
 use Rattle.nc_flat_scripts.proofs.OwnPlaces.{direct_at, unlent_at}
 use Rattle.nc_flat_scripts.proofs.StepFrames.{StandsIn}

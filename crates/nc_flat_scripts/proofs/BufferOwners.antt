@@ -1,33 +1,29 @@
 -- A buffer changes its owner: what its places were, and what they are.
-use Rattle.std.specs.Prelude.{Option, Some, None, Ok, Bool, true, false, slice_index_or, All}
+use Rattle.std.specs.Prelude.{Option, Some, None, Ok, true, false, slice_index_or}
 use Rattle.std.specs.List.{list_any}
-use Rattle.std.proofs.Common.{◌≡◌, ◌≢◌, ◌⊎◌, ℕ, ◌<◌, ◌≤◌, ◌+◌, List, [], ◌∷◌, length, cond, refl, sym, ap, ◌∙◌, inl, inr, subst, arith}
+use Rattle.std.proofs.Common.{◌≡◌, ◌≢◌, ℕ, ◌<◌, ◌≤◌, List, length, refl, sym, ap, ◌∙◌, inl, inr, subst, arith}
 use Rattle.std.proofs.lemmas.Bool.{cases_lt, cases_Bool, cond-true, cond-false, eqb-true}
 use Rattle.std.proofs.lemmas.List.{get_or_past}
 use Rattle.nc_num.specs.Places.{covers}
 use Rattle.nc_num.specs.declared.names.HartNo.{HartNo}
 use Rattle.nc_num.specs.declared.places.Span.{Span}
-use Rattle.nc_model.proofs.Faults.{covers-from, covers-high, passes}
+use Rattle.nc_model.proofs.Faults.{passes}
 use Rattle.nc_model.specs.Rights.{is_thread}
 use Rattle.nc_model.specs.Touches.{first_fault}
 use Rattle.nc_model.specs.declared.owners.Owner.{Owner}
 use Rattle.nc_model.specs.declared.owners.Owner.TheVariants.{Thread, Passing, Lending, Device, Returning, Synced, Pool}
 use Rattle.nc_own.specs.Books.{owner_in, transferred}
 use Rattle.nc_own.proofs.Follows.{length-transferred, owner_in-transferred}
-use Rattle.nc_queue.specs.declared.entry.Entry.{Entry}
 use Rattle.nc_scen.specs.Regions.{pool_of}
 use Rattle.nc_scen.specs.declared.scenario.Scenario.{Scenario}
-use Rattle.nc_rules.specs.Machine.{queue_of, box_of}
-use Rattle.nc_rules.specs.Lots.{Fixed}
+use Rattle.nc_rules.specs.Machine.{queue_of}
 use Rattle.nc_rules.specs.Refusals.{buffer_of, owned, owned_but}
 use Rattle.nc_rules.specs.Watched.{owner_of}
 use Rattle.nc_rules.specs.World.{WorldState, driver_of}
 use Rattle.nc_scripts.specs.Scripts.{IsRangeIn}
-use Rattle.nc_holds.specs.Held.{IsOwnedBy}
-use Rattle.nc_holds.specs.Messages.{Status, Still, Passed, Quiet, rest_of}
-use Rattle.nc_holds.proofs.MessageStatus.{IsGiven, given_from}
+use Rattle.nc_holds.specs.Messages.{Status, Still, Passed}
 use Rattle.nc_rows.specs.Ahead.{is_mail}
-use Rattle.nc_flatness.specs.Books.{book_of, number_in}
+use Rattle.nc_flatness.specs.Books.{book_of}
 use Rattle.nc_flatness.specs.Flatness.{Flatness}
 use Rattle.nc_flatness.proofs.BookReads.{number_of}
 use Rattle.nc_flat_scripts.proofs.MailFacts.{none_queued, number_covers}

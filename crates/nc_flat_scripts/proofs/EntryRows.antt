@@ -1,10 +1,9 @@
 -- Each row, after a script's entry came into its hart's queue.
-use Rattle.std.specs.Prelude.{Option, Some, None, ◌/◌, ◌==◌, if◌then◌else◌, unwrap_or}
+use Rattle.std.specs.Prelude.{Option, Some, None, ◌/◌, ◌==◌, unwrap_or}
 use Rattle.std.specs.List.{list_any}
-use Rattle.std.proofs.Common.{◌≡◌, ◌⊎◌, ℕ, ◌*◌, ◌<◌, Bool, true, false, List, refl, sym, ap, ◌∙◌, inl, inr, subst, arith}
-use Rattle.std.proofs.lemmas.Bool.{cases_Bool, both_ways, or_from, or_parts, and_parts, eqb-true, eq-eqb, ne_eqb, cond-true}
+use Rattle.std.proofs.Common.{◌≡◌, ℕ, ◌*◌, Bool, true, false, refl, sym, ◌∙◌, inl, inr, subst, arith}
+use Rattle.std.proofs.lemmas.Bool.{cases_Bool, eqb-true, eq-eqb, cond-true}
 use Rattle.nc_num.specs.Sizes.{IsBlockSize}
-use Rattle.nc_num.specs.Memory.{byte}
 use Rattle.nc_num.specs.Places.{covers, block_at}
 use Rattle.nc_num.specs.declared.names.Dir.{Dir}
 use Rattle.nc_num.specs.declared.names.Dir.TheVariants.{Both, ToDev, FromDev}
@@ -13,7 +12,7 @@ use Rattle.nc_num.specs.declared.places.Block.{Block}
 use Rattle.nc_num.proofs.Blocks.{start_of_block}
 use Rattle.nc_env.specs.declared.CboOp.{CboOp}
 use Rattle.nc_env.specs.declared.CboOp.TheVariants as cbos
-use Rattle.nc_queue.specs.Entries.{entry_gives, gives_in, is_zero, Fits}
+use Rattle.nc_queue.specs.Entries.{entry_gives, gives_in, Fits}
 use Rattle.nc_queue.specs.declared.entry.Entry.{Entry}
 use Rattle.nc_queue.specs.declared.entry.Entry.TheVariants.{Store, Cbo, Reg, Mail, Lend, Mark}
 use Rattle.nc_plan.specs.Parts.{comes_back}
@@ -21,11 +20,11 @@ use Rattle.nc_model.proofs.Faults.{covers-from}
 use Rattle.nc_model.specs.declared.owners.Owner.{Owner}
 use Rattle.nc_model.specs.declared.owners.Owner.TheVariants.{Thread, Passing, Lending, Device, Returning, Synced, Pool}
 use Rattle.nc_rules.specs.Machine.{MachineState}
-use Rattle.nc_rows.specs.Ahead.{is_full, settling}
+use Rattle.nc_rows.specs.Ahead.{is_full}
 use Rattle.nc_rows.specs.Rows.{Loan, Book, device_place, ahead_of, Either, ByDir, Row}
-use Rattle.nc_row_issues.specs.Laws.{Enters, NoByte, NoBlock, Passes, PassesTo, PassesFrom, PassesDevice, PassesOpen, PassesDropping, PassesComing, PassesLent, PassesLoan, PassesBack, IsOwn}
+use Rattle.nc_row_issues.specs.Laws.{Enters, NoByte, NoBlock, Passes, PassesTo, PassesLent, PassesLoan, PassesBack, IsOwn}
 use Rattle.nc_row_issues.proofs.RowIssues.{rows_issue}
-use Rattle.nc_flat_scripts.specs.Entering.{GivesOwn, IsPlain, IsNotIts, IsDirect, LoanIsDirect, OwnerIsDirect, IsUnlent}
+use Rattle.nc_flat_scripts.specs.Entering.{GivesOwn, IsPlain, IsNotIts, LoanIsDirect, OwnerIsDirect, IsUnlent}
 
 -- ---- a block of which an entry gives no byte
 

@@ -1,7 +1,7 @@
 -- The calls of a driver that passes a buffer on: its start, and the steps of its plan.
-use Rattle.std.specs.Prelude.{Option, Some, None, Result, Ok, Err, Bool, true, false, if◌then◌else◌, All}
+use Rattle.std.specs.Prelude.{Option, Some, Result, Ok, Err, Bool, false, if◌then◌else◌, All}
 use Rattle.std.specs.List.{list_any}
-use Rattle.std.proofs.Common.{◌≡◌, ◌⊎◌, ℕ, List, [], ◌∷◌, ◌++◌, refl, sym, ap, ◌∙◌, inl, inr, subst}
+use Rattle.std.proofs.Common.{◌≡◌, ◌⊎◌, ℕ, List, [], ◌∷◌, refl, sym, ap, ◌∙◌, inl, inr, subst}
 use Rattle.std.proofs.lemmas.Bool.{or_from}
 use Rattle.std.proofs.lemmas.List.{append-nil}
 use Rattle.std.proofs.lemmas.List.Elements.{All-head, All-tail}
@@ -15,21 +15,20 @@ use Rattle.nc_coherent.specs.Pages.{PageMap}
 use Rattle.nc_rules.specs.declared.answers.Refusal.{Refusal}
 use Rattle.nc_rules.specs.declared.lots.Lot.{Lot}
 use Rattle.nc_rules.specs.declared.steps.Phase.{Phase}
-use Rattle.nc_rules.specs.declared.steps.Phase.TheVariants.{Steps, Search, Work}
+use Rattle.nc_rules.specs.declared.steps.Phase.TheVariants.{Work}
 use Rattle.nc_rules.specs.declared.steps.Seen.TheVariants as seen
 use Rattle.nc_rules.specs.declared.steps.Step.{Step}
-use Rattle.nc_rules.specs.declared.steps.Turn.TheVariants as turns
-use Rattle.nc_rules.specs.Lots.{Fixed, lot_waits, some_lot_waits}
+use Rattle.nc_rules.specs.Lots.{lot_waits, some_lot_waits}
 use Rattle.nc_rules.specs.Refusals.{◌>>=◌, buffer_of, owned}
-use Rattle.nc_rules.specs.Turns.{lots_after_both, turned, turned_by}
+use Rattle.nc_rules.specs.Turns.{turned_by}
 use Rattle.nc_rules.specs.Handing.{hand_steps}
 use Rattle.nc_rules.specs.Handing as handing
 use Rattle.nc_rules.specs.Operations.{meaning, begin, opening, plan_of}
 use Rattle.nc_rules.specs.Driver.{DriverState, Went, in_hand, stays, searches, opened, placed, with_lots, begun, started, started_of, started_op, worked, done, done_of, done_in}
 use Rattle.nc_holds.specs.Rests.{RestAt}
 use Rattle.nc_scripts.specs.Drivers.{IsSettled}
-use Rattle.nc_flatness.specs.Flatness.{IsStill, mail_step, IsHanding, PlanIs, PlanOf, StandsAt, Drives}
-use Rattle.nc_flat_scripts.proofs.ScriptCalls.{Idles, IsIdle, GoesIdle, gives_up}
+use Rattle.nc_flatness.specs.Flatness.{IsStill, mail_step, PlanOf, StandsAt, Drives}
+use Rattle.nc_flat_scripts.proofs.ScriptCalls.{GoesIdle, gives_up}
 
 -- a driver that passes a buffer on, with this left of its plan
 pub record Hands (d e : DriverState) (buf : ℕ) (to : HartNo) (left : List Step) : Type 0 where

@@ -1,70 +1,45 @@
 -- A hart passes a buffer on, as events: its start, its marker and its message.
-use Rattle.std.specs.Prelude.{Option, Some, None, Ok, Bool, true, false, All, unwrap_or, ◌==◌, slice_index_or}
-use Rattle.std.specs.List.{list_any}
-use Rattle.std.proofs.Common.{◌≡◌, ◌≢◌, ◌⊎◌, ℕ, ◌<◌, ◌≤◌, List, [], ◌∷◌, ◌++◌, length, refl, sym, ap, ◌∙◌, inl, inr, subst, arith}
-use Rattle.std.proofs.lemmas.Bool.{cases_eq, cases_Bool, ne_eqb, eq-eqb, false≢true}
+use Rattle.std.specs.Prelude.{Option, None, Bool, false, unwrap_or}
+use Rattle.std.proofs.Common.{◌≡◌, ◌≢◌, ℕ, ◌<◌, List, [], ◌∷◌, refl, sym, ap, ◌∙◌, inl, inr, subst}
+use Rattle.std.proofs.lemmas.Bool.{cases_eq}
 use Rattle.nc_num.specs.Memory.{byte}
-use Rattle.nc_num.specs.Places.{covers}
 use Rattle.nc_num.specs.declared.names.HartNo.{HartNo}
-use Rattle.nc_num.specs.declared.places.Span.{Span}
 use Rattle.nc_plan.specs.declared.ops.HartOp.{HartOp}
-use Rattle.nc_plan.specs.declared.ops.HartOp.TheVariants as hart
-use Rattle.nc_plan.specs.declared.ops.IoTarget.TheVariants as io
 use Rattle.nc_queue.specs.Entries.{entry_gives}
 use Rattle.nc_queue.specs.declared.entry.Entry.{Entry}
-use Rattle.nc_queue.specs.declared.entry.Entry.TheVariants as entries
-use Rattle.nc_hart.specs.Issue.{entry_of, marker}
 use Rattle.nc_lines.specs.Lines.{bare}
-use Rattle.nc_model.proofs.Faults.{covers-from, covers-low, covers-high, passes}
-use Rattle.nc_model.specs.Flat.{Mark}
-use Rattle.nc_model.specs.Rights.{is_thread}
-use Rattle.nc_model.specs.Touches.{first_fault}
 use Rattle.nc_model.specs.declared.owners.Owner.{Owner}
 use Rattle.nc_model.specs.declared.owners.Owner.TheVariants.{Thread, Passing, Lending, Device, Returning, Synced, Pool}
-use Rattle.nc_own.specs.Books.{owner_in, transferred}
-use Rattle.nc_own.proofs.Follows.{length-transferred, owner_in-transferred}
-use Rattle.nc_ops.specs.declared.ops.Op.{Op}
-use Rattle.nc_ops.specs.declared.ops.Op.TheVariants as ops
-use Rattle.nc_scen.specs.Regions.{pool_of}
-use Rattle.nc_scen.specs.declared.events.Event.{Event}
+use Rattle.nc_own.specs.Books.{owner_in}
 use Rattle.nc_scen.specs.declared.events.Event.TheVariants as events
 use Rattle.nc_scen.specs.declared.scenario.Scenario.{Scenario}
-use Rattle.nc_rules.specs.declared.steps.Next.{Next}
 use Rattle.nc_rules.specs.declared.steps.Next.TheVariants as nexts
 use Rattle.nc_rules.specs.declared.steps.Seen.{Seen}
 use Rattle.nc_rules.specs.declared.steps.Seen.TheVariants as seen
 use Rattle.nc_rules.specs.declared.steps.Step.{Step}
-use Rattle.nc_rules.specs.Machine.{MachineState, hart_of, queue_of}
+use Rattle.nc_rules.specs.Machine.{MachineState}
 use Rattle.nc_rules.specs.Calls.{issue_next, issue_answer}
-use Rattle.nc_rules.specs.Driver.{DriverState, Went, in_hand, next_of, is_script, started, done}
+use Rattle.nc_rules.specs.Driver.{Went, next_of, is_script, done}
 use Rattle.nc_rules.specs.Flat.{all_marks}
-use Rattle.nc_rules.specs.Handing.{hand_steps}
 use Rattle.nc_rules.specs.Outcomes.{goes, seen_of}
 use Rattle.nc_rules.specs.Records.{op_records}
-use Rattle.nc_rules.specs.Refusals.{buffer_of, owned, owned_but}
 use Rattle.nc_rules.specs.Watched.{owner_of, issue_touch}
 use Rattle.nc_rules.specs.World.{WorldState, driver_of, owners_moved}
 use Rattle.nc_rows.specs.Ahead.{is_full, is_mail, sending}
-use Rattle.nc_rows.specs.Rows.{Book, PassingRow, Row}
+use Rattle.nc_rows.specs.Rows.{PassingRow, Row}
 use Rattle.nc_rows.specs.Parts.{IsQueued}
 use Rattle.nc_row_issues.specs.Laws.{Enters}
 use Rattle.nc_row_plans.proofs.PlanEnds.{rows_plan}
-use Rattle.nc_flatness.specs.Books.{book_of, mapping_in}
-use Rattle.nc_flatness.specs.Flatness.{IsStill, mail_step, Drives, Flatness}
-use Rattle.nc_flatness.specs.Steps.{GoesTo, Goes}
+use Rattle.nc_flatness.specs.Books.{book_of}
+use Rattle.nc_flatness.specs.Steps.{Goes}
 use Rattle.nc_flatness.proofs.BookReads.{buffer_gone, rest_here}
 use Rattle.nc_flatness.proofs.Outcomes.{gone, goes_go, goes_silent}
-use Rattle.nc_flat_scripts.specs.Entering.{IsPlain, IsNotIts}
+use Rattle.nc_flat_scripts.specs.Entering.{IsPlain}
 use Rattle.nc_flat_scripts.proofs.ActRows.{plain_unfenced, queued_more}
 use Rattle.nc_flat_scripts.proofs.EntryRows.{Comes, row_entered}
-use Rattle.nc_flat_scripts.proofs.HandCalls.{Hands, GoesHanding, hands_drives, done_marks, done_mails}
-use Rattle.nc_flat_scripts.proofs.MailFacts.{nothing_left, nothing_marked, nothing_mailed, sends_other, mails_other, sends_none, sends_mail, sends_mark}
-use Rattle.nc_flat_scripts.proofs.OpActs.{enters, marker_plain}
 use Rattle.nc_flat_scripts.proofs.OwnPlaces.{direct_at, unlent_at}
-use Rattle.nc_flat_scripts.proofs.PassingFrames.{HasNothing, Passes, there, SendsSame, row_over, OwnerMoves, PassedIn, stands_passed}
-use Rattle.nc_flat_scripts.proofs.ScriptCalls.{GoesIdle}
-use Rattle.nc_flat_scripts.proofs.ScriptEvents.{IsHere, next_there, may_next, outcome_is, op_is}
-use Rattle.nc_flat_scripts.proofs.StepFrames.{idle_drives}
+use Rattle.nc_flat_scripts.proofs.PassingFrames.{Passes, there, row_over, PassedIn, stands_passed}
+use Rattle.nc_flat_scripts.proofs.ScriptEvents.{IsHere, outcome_is, op_is}
 
 -- ---- an entry of the plan
 

@@ -1,19 +1,15 @@
 -- The start of a hand, as an event: it is refused, or the buffer is passed on.
-use Rattle.std.specs.Prelude.{Option, Some, None, Ok, Bool, true, false, All}
-use Rattle.std.specs.List.{list_any}
-use Rattle.std.proofs.Common.{◌≡◌, ◌≢◌, ◌⊎◌, ℕ, ◌<◌, List, [], ◌∷◌, length, refl, sym, ap, ◌∙◌, inl, inr, subst, arith}
+use Rattle.std.specs.Prelude.{Some, None, Ok, true, false, All}
+use Rattle.std.proofs.Common.{◌≡◌, ◌≢◌, ℕ, ◌<◌, List, [], length, refl, sym, ap, ◌∙◌, inl, inr, subst, arith}
 use Rattle.std.proofs.lemmas.Bool.{cases_Bool}
 use Rattle.nc_num.specs.Memory.{byte}
 use Rattle.nc_num.specs.Places.{covers}
 use Rattle.nc_num.specs.declared.names.HartNo.{HartNo}
 use Rattle.nc_num.specs.declared.places.Span.{Span}
-use Rattle.nc_queue.specs.Entries.{is_wo}
-use Rattle.nc_queue.specs.Laws.{Stands, Covered}
-use Rattle.nc_model.proofs.Faults.{covers-from, covers-high}
+use Rattle.nc_model.proofs.Faults.{covers-high}
 use Rattle.nc_model.specs.declared.owners.Owner.{Owner}
 use Rattle.nc_model.specs.declared.owners.Owner.TheVariants.{Thread, Passing}
 use Rattle.nc_own.specs.Books.{owner_in, transferred}
-use Rattle.nc_ops.specs.declared.ops.Op.{Op}
 use Rattle.nc_ops.specs.declared.ops.Op.TheVariants as ops
 use Rattle.nc_scen.specs.declared.events.Event.TheVariants as events
 use Rattle.nc_scen.specs.declared.scenario.Scenario.{Scenario}
@@ -21,32 +17,31 @@ use Rattle.nc_rules.specs.declared.steps.Next.TheVariants as nexts
 use Rattle.nc_rules.specs.declared.steps.Phase.{Phase}
 use Rattle.nc_rules.specs.declared.steps.Phase.TheVariants.{Steps}
 use Rattle.nc_rules.specs.declared.steps.Step.{Step}
-use Rattle.nc_rules.specs.Machine.{MachineState, queue_of}
 use Rattle.nc_rules.specs.Driver.{DriverState, Went, in_hand, next_of, started}
 use Rattle.nc_rules.specs.Handing.{hand_steps}
-use Rattle.nc_rules.specs.Refusals.{buffer_of, owned}
+use Rattle.nc_rules.specs.Refusals.{owned}
 use Rattle.nc_rules.specs.Watched.{owner_of}
 use Rattle.nc_rules.specs.World.{WorldState, driver_of, owners_moved}
 use Rattle.nc_calls.proofs.SoundWith.{shape_same}
 use Rattle.nc_scripts.specs.Drivers as drivers
 use Rattle.nc_scripts.specs.Drivers.{IsSettled}
 use Rattle.nc_scripts.proofs.EveryDriver.{in_hand_is}
-use Rattle.nc_rows.specs.Ahead.{is_mail, coming, sending}
+use Rattle.nc_rows.specs.Ahead.{coming, sending}
 use Rattle.nc_rows.specs.Places.{ThreadRow}
-use Rattle.nc_rows.specs.Rows.{Book, gives_here, PassingRow, Row}
+use Rattle.nc_rows.specs.Rows.{gives_here, PassingRow, Row}
 use Rattle.nc_row_plans.proofs.PlanBegins.{rows_begin}
 use Rattle.nc_flatness.specs.Books.{book_of, mapping_in}
-use Rattle.nc_flatness.specs.Flatness.{IsStill, mail_step, Flatness}
+use Rattle.nc_flatness.specs.Flatness.{Flatness}
 use Rattle.nc_flatness.specs.Steps.{GoesTo, Goes}
 use Rattle.nc_flatness.proofs.BookReads.{buffer_gone, rest_here}
 use Rattle.nc_flatness.proofs.Outcomes.{gone, goes_go, goes_silent}
 use Rattle.nc_flatness.proofs.Owned.{me_is}
 use Rattle.nc_flat_scripts.proofs.ActRows.{stands_now}
 use Rattle.nc_flat_scripts.proofs.BufferOwners.{moved_in, moved_out, owned_is, range_of, ranges_alike, number_here, number_away, range_in, off_pool, unsent}
-use Rattle.nc_flat_scripts.proofs.HandCalls.{GoesHanding, hands_drives, Starts, Refuses, Begins, hand_starts}
+use Rattle.nc_flat_scripts.proofs.HandCalls.{hands_drives, Starts, Refuses, Begins, hand_starts}
 use Rattle.nc_flat_scripts.proofs.MailFacts.{nothing_left, nothing_marked, sends_other, sends_none, bare_comes, marker_comes, mail_comes}
-use Rattle.nc_flat_scripts.proofs.PassingFrames.{Passes, there, row_over, OwnerMoves, PassedIn, stands_passed}
-use Rattle.nc_flat_scripts.proofs.ScriptCalls.{IsIdle, GoesIdle}
+use Rattle.nc_flat_scripts.proofs.PassingFrames.{Passes, there, row_over, PassedIn, stands_passed}
+use Rattle.nc_flat_scripts.proofs.ScriptCalls.{IsIdle}
 use Rattle.nc_flat_scripts.proofs.ScriptEvents.{IsHere, idle_by, outcome_is, start_is, quiet_go}
 
 -- the hart's buffer is passed on with this call

@@ -14,3 +14,4 @@ pub mod SendEvents
 pub mod BufferOwners
 pub mod HandStarts
 pub mod TakeEvents
+pub mod IssueEvents

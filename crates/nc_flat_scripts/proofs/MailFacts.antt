@@ -1,8 +1,8 @@
 -- What a hart still has to send, where it passes a buffer on and where it does not.
-use Rattle.std.specs.Prelude.{Option, Some, None, Bool, true, false, if◌then◌else◌, ◌==◌, ◌+◌, filter, map, slice_index_or}
+use Rattle.std.specs.Prelude.{Bool, true, false, if◌then◌else◌, ◌==◌, filter, map, slice_index_or}
 use Rattle.std.specs.List.{list_any}
-use Rattle.std.proofs.Common.{◌≡◌, ◌≢◌, ◌⊎◌, ℕ, zero, suc, ◌<◌, List, [], ◌∷◌, ◌++◌, length, refl, sym, ap, ◌∙◌, inl, inr, subst, arith}
-use Rattle.std.proofs.lemmas.Bool.{cases_Bool, cases_eq, eq-eqb, ne_eqb, or_from, false≢true}
+use Rattle.std.proofs.Common.{◌≡◌, ◌≢◌, ◌⊎◌, ℕ, zero, suc, ◌<◌, List, [], ◌∷◌, length, refl, sym, ap, ◌∙◌, inl, inr, subst, arith}
+use Rattle.std.proofs.lemmas.Bool.{cases_Bool, eq-eqb, ne_eqb, or_from, false≢true}
 use Rattle.std.proofs.lemmas.List.Folds.{list_any-append}
 use Rattle.nc_num.specs.Places.{covers}
 use Rattle.nc_num.specs.declared.names.HartNo.{HartNo}
@@ -25,7 +25,7 @@ use Rattle.nc_rules.specs.Handing.{hand_steps}
 use Rattle.nc_rules.specs.Plans.{hart_step}
 use Rattle.nc_holds.specs.Messages as messages
 use Rattle.nc_holds.specs.Messages.{mails, mail_steps, Quiet}
-use Rattle.nc_rows.specs.Ahead.{is_mail, sends, stores_io, posts, act_coming, sending}
+use Rattle.nc_rows.specs.Ahead.{is_mail, sends, stores_io, posts, sending}
 use Rattle.nc_rows.proofs.Steps.{steps_ahead}
 use Rattle.nc_flatness.specs.Books.{number_in}
 use Rattle.nc_flatness.specs.Flatness.{mail_step}

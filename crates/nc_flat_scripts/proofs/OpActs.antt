@@ -1,17 +1,15 @@
 -- A script's operation that is no touch: what it shows or writes, and the bytes of flat memory behind it.
 use Rattle.std.specs.Prelude.{Option, Some, None, Bool, true, false, if◌then◌else◌, unwrap_or, All, ◌/◌, ◌%◌}
-use Rattle.std.proofs.Common.{◌≡◌, ◌≢◌, ℕ, ◌+◌, ◌*◌, ◌<◌, List, [], ◌∷◌, ◌++◌, length, replicate, refl, sym, ap, ◌∙◌, inl, inr, arith, subst}
+use Rattle.std.proofs.Common.{◌≡◌, ◌≢◌, ℕ, ◌*◌, ◌<◌, List, [], ◌∷◌, ◌++◌, length, replicate, refl, sym, ap, ◌∙◌, inl, inr, arith, subst}
 use Rattle.std.proofs.lemmas.Bool.{false≢true, ne_eqb}
 use Rattle.nc_num.specs.Memory.{byte}
 use Rattle.nc_num.specs.Sizes.{IsBlockSize}
 use Rattle.nc_num.specs.Places.{covers, block_at}
 use Rattle.nc_num.specs.declared.names.HartNo.{HartNo}
-use Rattle.nc_num.specs.declared.names.MapId.{MapId}
 use Rattle.nc_num.specs.declared.names.MemType.{MemType}
-use Rattle.nc_num.specs.declared.names.MemType.TheVariants.{Pma, Nc, Io}
+use Rattle.nc_num.specs.declared.names.MemType.TheVariants.{Pma}
 use Rattle.nc_num.specs.declared.places.Block.{Block}
 use Rattle.nc_num.specs.declared.places.Span.{Span}
-use Rattle.nc_env.specs.declared.CboOp.{CboOp}
 use Rattle.nc_env.specs.declared.CboOp.TheVariants as cbos
 use Rattle.nc_queue.specs.Entries.{entry_gives}
 use Rattle.nc_queue.specs.declared.entry.Entry.{Entry}
@@ -35,13 +33,10 @@ use Rattle.nc_rules.specs.Records.{transfer_records, op_records, load_record}
 use Rattle.nc_rules.specs.View.{seen, view, bytes_seen}
 use Rattle.nc_rules.specs.Watched.{owner_of, op_touch}
 use Rattle.nc_rules.specs.World.{WorldState, driver_of}
-use Rattle.nc_calls.specs.MachineLaws.{SameShape, IsIssue}
 use Rattle.nc_calls.proofs.CallProofs.{issues_by_place}
 use Rattle.nc_calls.proofs.SoundLaws.{calls_keep_shape}
-use Rattle.nc_rows.specs.Ahead.{names, is_full, is_mail}
-use Rattle.nc_rows.specs.Parts.{IsQueued, StoreIsQueued, IsBeside}
-use Rattle.nc_lines.specs.Lines.{bare}
-use Rattle.nc_row_issues.specs.Laws.{IsOwn, Enters}
+use Rattle.nc_rows.specs.Parts.{IsQueued, StoreIsQueued}
+use Rattle.nc_row_issues.specs.Laws.{Enters}
 use Rattle.nc_row_issues.proofs.RowIssues.{rows_issue}
 use Rattle.nc_flatness.specs.Books.{book_of}
 use Rattle.nc_flatness.specs.Flatness.{IsStill, Flatness}
@@ -51,8 +46,7 @@ use Rattle.nc_flatness.proofs.WholeBlocks.{in_whole}
 use Rattle.nc_flat_scripts.specs.Entering as entering
 use Rattle.nc_flat_scripts.specs.Entering.{GivesOwn, IsPlain}
 use Rattle.nc_flat_scripts.proofs.ActRows.{stands_now, load_stands, entry_stands}
-use Rattle.nc_flat_scripts.proofs.EntryRows.{Comes}
-use Rattle.nc_flat_scripts.proofs.OwnPlaces.{OwnPiece, own_piece, own_unpooled, store_own, zero_block, zero_own}
+use Rattle.nc_flat_scripts.proofs.OwnPlaces.{OwnPiece, piece_starts, own_piece, own_unpooled, store_own, zero_block, zero_own}
 use Rattle.nc_flat_scripts.proofs.ScriptSteps.{IsNoMail}
 use Rattle.nc_flat_scripts.proofs.StepFrames.{StandsIn}
 
@@ -98,12 +92,6 @@ load_shows sc f w h span kind flat own piece =
     shows_seen f (seen w.machine h.0 kind) span.at span.len
     (λ x le lt. seen_own w.machine h.0 kind x own.main
     ∙ (rows_issue.shows (book_of w) (owner_of w x) (byte f x) w.machine h.0 x (own.own x (covers-from span x le lt)) (flat.bytes.rows x (omega (arith, lt, piece.inside, flat.world.of_scenario.ram)))).shows)
-
-piece_starts : (size : ℕ) (s : Span) → IsPieceIn size s → covers s s.at ≡ true
-piece_starts size s is = covers-from s s.at (omega arith) (elim is.len [
-  | inl e ↦ omega (arith, e)
-  | inr r ↦ elim r [ inl e ↦ omega (arith, e) | inr t ↦ elim t [ inl e ↦ omega (arith, e) | inr e ↦ omega (arith, e) ] ]
-])
 
 acts_load : (sc : Scenario) (f : List ℕ) (w : WorldState) (h : HartNo) (span : Span) (kind : MemType) → Flatness sc f w → h.0 < length w.machine.harts → op_touch w h (hart.Load span kind) ≡ None → IsPieceIn (length w.machine.cache.ram) span
     → may_issue w.machine h.0 (hart.Load span kind) ≡ true → Acts sc f (all_marks w.machine.size w.grants (op_records w.machine h true (hart.Load span kind))) w (issue_next w.machine h.0 (hart.Load span kind))

@@ -1,7 +1,7 @@
 -- The bytes of flat memory behind a step with which a hart passes a buffer on, or takes one.
-use Rattle.std.specs.Prelude.{Option, Some, None, Bool, true, false, All}
+use Rattle.std.specs.Prelude.{Option, Some, None, true, false, All}
 use Rattle.std.specs.List.{list_any}
-use Rattle.std.proofs.Common.{◌≡◌, ◌≢◌, ◌⊎◌, ℕ, ◌<◌, List, [], ◌∷◌, length, refl, sym, ap, ◌∙◌, inl, inr, subst, arith}
+use Rattle.std.proofs.Common.{◌≡◌, ◌⊎◌, ℕ, ◌<◌, List, [], length, refl, sym, ap, ◌∙◌, inl, inr, subst, arith}
 use Rattle.std.proofs.lemmas.Bool.{cases_eq, false≢true}
 use Rattle.nc_num.specs.Memory.{byte}
 use Rattle.nc_num.specs.Places.{covers}
@@ -16,17 +16,17 @@ use Rattle.nc_scen.specs.declared.scenario.Scenario.{Scenario}
 use Rattle.nc_rules.specs.declared.lots.LotId.{LotId}
 use Rattle.nc_rules.specs.declared.steps.Step.{Step}
 use Rattle.nc_rules.specs.Machine.{MachineState, queue_of}
-use Rattle.nc_rules.specs.Driver.{DriverState, Went}
+use Rattle.nc_rules.specs.Driver.{Went}
 use Rattle.nc_rules.specs.Watched.{owner_of}
 use Rattle.nc_rules.specs.World.{WorldState, driver_of}
 use Rattle.nc_calls.specs.MachineLaws.{SameShape}
 use Rattle.nc_calls.specs.PlaceLaws.{NotHeld}
 use Rattle.nc_rows.specs.Ahead.{is_full, coming, sending}
-use Rattle.nc_rows.specs.Rows.{Book, PassingRow, Row}
+use Rattle.nc_rows.specs.Rows.{PassingRow, Row}
 use Rattle.nc_rows.specs.Parts.{IsDropped, Queued}
 use Rattle.nc_flatness.specs.Books.{book_of, mapping_in, LiesIn}
 use Rattle.nc_flatness.specs.Flatness.{IsStill, Drives, BytesStand, Flatness}
-use Rattle.nc_flatness.proofs.BookReads.{driver_away, driver_here, loan_gone, rest_away, rest_here, buffer_gone, row_alike, queued_to, none_zeroed, pool_unheld, uncached_of}
+use Rattle.nc_flatness.proofs.BookReads.{loan_gone, rest_away, rest_here, buffer_gone, row_alike, queued_to, none_zeroed, pool_unheld, uncached_of}
 use Rattle.nc_flatness.proofs.Outcomes.{gone}
 use Rattle.nc_flatness.proofs.Rests.{lasts_of}
 use Rattle.nc_flat_scripts.proofs.OwnPlaces.{unlent_at, untaken_at}

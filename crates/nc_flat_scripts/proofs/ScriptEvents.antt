@@ -1,22 +1,20 @@
 -- The steps of operations that go by number, as events: a touch comes first, or the bytes of flat memory stand behind it.
-use Rattle.std.specs.Prelude.{Option, Some, None, Result, Ok, Err, Bool, true, false, not, if◌then◌else◌, ◌&&◌, All}
-use Rattle.std.proofs.Common.{◌≡◌, ◌⊎◌, ℕ, ◌<◌, List, [], ◌∷◌, length, refl, sym, ap, ◌∙◌, inl, inr, subst, arith}
+use Rattle.std.specs.Prelude.{Some, None, Ok, Bool, true, if◌then◌else◌}
+use Rattle.std.proofs.Common.{◌≡◌, ℕ, ◌<◌, List, [], length, refl, sym, ap, ◌∙◌, subst, arith}
 use Rattle.std.proofs.lemmas.Bool.{and_parts}
 use Rattle.nc_num.specs.declared.names.ChanNo.{ChanNo}
 use Rattle.nc_num.specs.declared.names.HartNo.{HartNo}
 use Rattle.nc_plan.specs.declared.ops.HartOp.{HartOp}
 use Rattle.nc_model.specs.Flat.{Mark, flat, deeds}
 use Rattle.nc_ops.specs.declared.ops.Op.{Op}
-use Rattle.nc_scen.specs.declared.events.Event.{Event}
 use Rattle.nc_scen.specs.declared.events.Event.TheVariants as events
 use Rattle.nc_scen.specs.declared.scenario.Scenario.{Scenario}
-use Rattle.nc_rules.specs.declared.answers.Refusal.{Refusal}
 use Rattle.nc_rules.specs.declared.steps.Act.{Act}
 use Rattle.nc_rules.specs.declared.steps.Act.TheVariants as acts
 use Rattle.nc_rules.specs.declared.steps.Next.{Next}
 use Rattle.nc_rules.specs.declared.steps.Next.TheVariants as nexts
 use Rattle.nc_rules.specs.declared.steps.Phase.{Phase}
-use Rattle.nc_rules.specs.declared.steps.Phase.TheVariants.{Steps, Search, Work}
+use Rattle.nc_rules.specs.declared.steps.Phase.TheVariants.{Steps}
 use Rattle.nc_rules.specs.declared.steps.Seen.TheVariants as seen
 use Rattle.nc_rules.specs.declared.steps.Step.{Step}
 use Rattle.nc_rules.specs.Machine.{MachineState, grantee_of}
@@ -25,7 +23,7 @@ use Rattle.nc_rules.specs.Driver.{DriverState, Went, in_hand, next_act, next_of,
 use Rattle.nc_rules.specs.Events.{is_out, may_go_on, enabled}
 use Rattle.nc_rules.specs.Flat.{all_marks}
 use Rattle.nc_rules.specs.Operations.{step_at}
-use Rattle.nc_rules.specs.Outcomes.{Outcome, goes, seen_of, claim_seen, start_outcome, op_outcome, claim_outcome, poll_outcome, step_outcome, outcome}
+use Rattle.nc_rules.specs.Outcomes.{goes, seen_of, claim_seen, start_outcome, op_outcome, claim_outcome, poll_outcome, step_outcome, outcome}
 use Rattle.nc_rules.specs.Records.{op_records}
 use Rattle.nc_rules.specs.Sound.{OpIsThere}
 use Rattle.nc_rules.specs.Watched.{op_touch, issue_touch, poll_touch}
@@ -35,7 +33,7 @@ use Rattle.nc_scripts.proofs.EveryDriver.{op_there}
 use Rattle.nc_calls.proofs.CallProofs.{channels_by_place}
 use Rattle.nc_holds.specs.Rests.{RestAt}
 use Rattle.nc_calls.proofs.SoundLaws.{calls_keep_shape}
-use Rattle.nc_flatness.specs.Flatness.{IsStill, StandsAt, Flatness}
+use Rattle.nc_flatness.specs.Flatness.{StandsAt}
 use Rattle.nc_flatness.specs.Steps.{GoesTo, IsNow, Goes}
 use Rattle.nc_flatness.proofs.Outcomes.{gone, goes_go, goes_silent}
 use Rattle.nc_flat_scripts.proofs.ActRows.{stands_now, stays_stand}

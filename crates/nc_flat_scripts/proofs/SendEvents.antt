@@ -1,11 +1,10 @@
 -- The marker and the message of a buffer that is passed on, as events.
-use Rattle.std.specs.Prelude.{Option, Some, None, Bool, true, false, All, ◌==◌}
-use Rattle.std.proofs.Common.{◌≡◌, ◌≢◌, ◌⊎◌, ℕ, ◌<◌, List, [], ◌∷◌, length, refl, sym, ap, ◌∙◌, inl, inr, subst}
+use Rattle.std.specs.Prelude.{Some, All}
+use Rattle.std.proofs.Common.{◌≡◌, ◌⊎◌, ℕ, List, [], ◌∷◌, refl, sym, ap, ◌∙◌, inl, inr, subst}
 use Rattle.std.proofs.lemmas.Bool.{ne_eqb}
 use Rattle.nc_num.specs.declared.names.HartNo.{HartNo}
 use Rattle.nc_plan.specs.declared.ops.HartOp.TheVariants as hart
 use Rattle.nc_plan.specs.declared.ops.IoTarget.TheVariants as io
-use Rattle.nc_queue.specs.declared.entry.Entry.{Entry}
 use Rattle.nc_queue.specs.declared.entry.Entry.TheVariants as entries
 use Rattle.nc_hart.specs.Issue.{marker}
 use Rattle.nc_ops.specs.declared.ops.Op.{Op}
@@ -16,18 +15,15 @@ use Rattle.nc_rules.specs.declared.steps.Next.TheVariants as nexts
 use Rattle.nc_rules.specs.declared.steps.Phase.TheVariants.{Work}
 use Rattle.nc_rules.specs.declared.steps.Seen.TheVariants as seen
 use Rattle.nc_rules.specs.declared.steps.Step.{Step}
-use Rattle.nc_rules.specs.Calls.{issue_next}
 use Rattle.nc_rules.specs.Driver.{DriverState, in_hand, next_of, next_of_op, next_in, next_rest, done}
 use Rattle.nc_rules.specs.Handing.{hand_steps}
 use Rattle.nc_rules.specs.Records.{op_records}
-use Rattle.nc_rules.specs.Watched.{owner_of}
 use Rattle.nc_rules.specs.World.{WorldState, driver_of}
-use Rattle.nc_rows.specs.Ahead.{is_mail, sending}
-use Rattle.nc_flatness.specs.Books.{book_of}
-use Rattle.nc_flatness.specs.Flatness.{IsStill, mail_step, Drives}
+use Rattle.nc_rows.specs.Ahead.{sending}
+use Rattle.nc_flatness.specs.Flatness.{IsStill, mail_step}
 use Rattle.nc_flatness.specs.Steps.{Goes}
 use Rattle.nc_flat_scripts.proofs.HandCalls.{hands_drives, done_marks, done_mails}
-use Rattle.nc_flat_scripts.proofs.HandEvents.{Sends, sends_goes}
+use Rattle.nc_flat_scripts.proofs.HandEvents.{sends_goes}
 use Rattle.nc_flat_scripts.proofs.MailFacts.{nothing_left, nothing_marked, nothing_mailed, sends_other, mails_other, sends_none, sends_mail, sends_mark}
 use Rattle.nc_flat_scripts.proofs.OpActs.{enters, marker_plain}
 use Rattle.nc_flat_scripts.proofs.PassingFrames.{HasNothing}

@@ -1,7 +1,7 @@
 -- The bytes of flat memory behind a step of a driver that has no plan before it, nor behind it.
-use Rattle.std.specs.Prelude.{Option, Some, None, Bool, true, false, All, slice_set, slice_index_or}
+use Rattle.std.specs.Prelude.{Some, true, false, All}
 use Rattle.std.specs.List.{list_any}
-use Rattle.std.proofs.Common.{◌≡◌, ◌≢◌, ℕ, ◌<◌, List, [], length, refl, sym, ap, ◌∙◌, inl, inr, subst, arith}
+use Rattle.std.proofs.Common.{◌≡◌, ◌≢◌, ℕ, ◌<◌, List, [], length, sym, ap, ◌∙◌, inl, inr, subst, arith}
 use Rattle.std.proofs.lemmas.Bool.{cases_eq}
 use Rattle.std.proofs.lemmas.List.{get_or-set_same, get_or-set_other, length-set}
 use Rattle.nc_num.specs.Memory.{byte}
@@ -15,8 +15,6 @@ use Rattle.nc_scen.specs.Regions.{pool_of}
 use Rattle.nc_scen.specs.declared.scenario.Scenario.{Scenario}
 use Rattle.nc_rules.specs.declared.lots.Lot.{Lot}
 use Rattle.nc_rules.specs.declared.steps.Phase.{Phase}
-use Rattle.nc_rules.specs.declared.steps.Phase.TheVariants.{Steps}
-use Rattle.nc_rules.specs.declared.steps.Step.{Step}
 use Rattle.nc_rules.specs.Machine.{MachineState, queue_of}
 use Rattle.nc_rules.specs.Lots.{Fixed}
 use Rattle.nc_rules.specs.Driver.{DriverState, Went}
@@ -24,10 +22,10 @@ use Rattle.nc_rules.specs.Watched.{owner_of}
 use Rattle.nc_rules.specs.World.{WorldState, driver_of, no_driver, owners_moved}
 use Rattle.nc_holds.specs.Rests.{RestAt}
 use Rattle.nc_rows.specs.Ahead.{is_full}
-use Rattle.nc_rows.specs.Rows.{Loan, Book, Row}
-use Rattle.nc_rows.specs.Parts.{Queued, Uncached, Lasts}
+use Rattle.nc_rows.specs.Rows.{Book, Row}
+use Rattle.nc_rows.specs.Parts.{Queued, Uncached}
 use Rattle.nc_flatness.specs.Books.{loan_of, number_in, book_of, mapping_in, LiesIn}
-use Rattle.nc_flatness.specs.Flatness.{IsDirect, IsStill, StandsAt, Drives, BytesStand, Flatness}
+use Rattle.nc_flatness.specs.Flatness.{IsStill, StandsAt, Drives, BytesStand, Flatness}
 use Rattle.nc_flatness.proofs.Outcomes.{gone}
 use Rattle.nc_flatness.proofs.Rests.{lasts_of}
 use Rattle.nc_flat_scripts.proofs.ScriptCalls.{Idles, GoesIdle, IsIdle}

@@ -1,7 +1,7 @@
 -- A hart takes a buffer that was passed to it, as an event.
-use Rattle.std.specs.Prelude.{Option, Some, None, Ok, Bool, true, false, not, All}
+use Rattle.std.specs.Prelude.{Some, None, Ok, true, false, not}
 use Rattle.std.specs.List.{list_any}
-use Rattle.std.proofs.Common.{◌≡◌, ◌⊎◌, ℕ, ◌<◌, List, [], ◌∷◌, length, refl, sym, ap, ◌∙◌, inl, inr, subst, arith}
+use Rattle.std.proofs.Common.{◌≡◌, ℕ, ◌<◌, List, [], length, refl, sym, ap, ◌∙◌, inl, inr, subst, arith}
 use Rattle.std.proofs.lemmas.Bool.{and_parts, cases_Bool}
 use Rattle.nc_num.specs.Memory.{byte}
 use Rattle.nc_num.specs.Places.{covers}
@@ -12,21 +12,18 @@ use Rattle.nc_lines.specs.Lines.{line}
 use Rattle.nc_model.specs.declared.owners.Owner.{Owner}
 use Rattle.nc_model.specs.declared.owners.Owner.TheVariants.{Thread, Passing}
 use Rattle.nc_own.specs.Books.{owner_in, transferred}
-use Rattle.nc_ops.specs.declared.ops.Op.{Op}
 use Rattle.nc_ops.specs.declared.ops.Op.TheVariants as ops
 use Rattle.nc_scen.specs.declared.events.Event.TheVariants as events
 use Rattle.nc_scen.specs.declared.scenario.Scenario.{Scenario}
 use Rattle.nc_rules.specs.declared.steps.Next.TheVariants as nexts
 use Rattle.nc_rules.specs.declared.steps.Phase.TheVariants.{Steps}
 use Rattle.nc_rules.specs.declared.steps.Seen.TheVariants as seen
-use Rattle.nc_rules.specs.declared.steps.Step.{Step}
 use Rattle.nc_rules.specs.Machine.{MachineState, queue_of, box_of}
 use Rattle.nc_rules.specs.Calls.{io_waits, may_take, take_next}
-use Rattle.nc_rules.specs.Driver.{DriverState, Went, in_hand, next_of, done}
+use Rattle.nc_rules.specs.Driver.{Went, in_hand, next_of, done}
 use Rattle.nc_rules.specs.Handing.{take_step}
 use Rattle.nc_rules.specs.Operations.{step_at}
 use Rattle.nc_rules.specs.Outcomes.{goes, take_outcome, step_outcome}
-use Rattle.nc_rules.specs.Refusals.{buffer_of}
 use Rattle.nc_rules.specs.Watched.{owner_of}
 use Rattle.nc_rules.specs.World.{WorldState, driver_of, owners_moved}
 use Rattle.nc_calls.specs.MachineLaws.{SameShape}
@@ -38,19 +35,18 @@ use Rattle.nc_holds.proofs.MessageGoesOn.{for_hart}
 use Rattle.nc_holds.proofs.MessageStatus.{IsGiven, given_from}
 use Rattle.nc_rows.specs.Ahead.{is_mail, coming, sending}
 use Rattle.nc_rows.specs.Places.{ThreadRow}
-use Rattle.nc_rows.specs.Rows.{Book, PassingRow, Row}
+use Rattle.nc_rows.specs.Rows.{PassingRow, Row}
 use Rattle.nc_row_plans.proofs.PlanBegins.{rows_begin}
 use Rattle.nc_flatness.specs.Books.{book_of, mapping_in}
-use Rattle.nc_flatness.specs.Flatness.{IsStill, Flatness}
-use Rattle.nc_flatness.specs.Steps.{GoesTo, Goes}
+use Rattle.nc_flatness.specs.Steps.{Goes}
 use Rattle.nc_flatness.proofs.Outcomes.{gone, goes_go, goes_silent}
 use Rattle.nc_flatness.proofs.Owned.{me_is}
 use Rattle.nc_flat_scripts.proofs.ActRows.{stays_stand}
 use Rattle.nc_flat_scripts.proofs.BufferOwners.{moved_in, moved_out, range_of, ranges_alike, number_here, off_pool}
 use Rattle.nc_flat_scripts.proofs.HandStarts.{in_owners}
 use Rattle.nc_flat_scripts.proofs.MailFacts.{nothing_left, none_in_line}
-use Rattle.nc_flat_scripts.proofs.PassingFrames.{Passes, row_over, OwnerMoves, PassedIn, stands_passed}
-use Rattle.nc_flat_scripts.proofs.ScriptCalls.{IsIdle, GoesIdle, done_takes}
+use Rattle.nc_flat_scripts.proofs.PassingFrames.{Passes, row_over, PassedIn, stands_passed}
+use Rattle.nc_flat_scripts.proofs.ScriptCalls.{done_takes}
 use Rattle.nc_flat_scripts.proofs.ScriptEvents.{IsHere, idle_by, may_next, outcome_is}
 use Rattle.nc_flat_scripts.proofs.StepFrames.{StandsIn, idle_drives}
 
