@@ -10,3 +10,5 @@ pub mod Starts
 pub mod Blocks
 pub mod Bases
 pub mod Harts
+pub mod CboRows
+pub mod CboSteps
