@@ -10,3 +10,4 @@ pub mod Starts
 pub mod Blocks
 pub mod Bases
 pub mod Harts
+pub mod Begins
