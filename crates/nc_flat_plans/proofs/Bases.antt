@@ -177,5 +177,5 @@ without_all P id (x ∷ lots) all =
     elim (cases_Bool (is_lot id x)) [
       | inl is ↦ subst (λ (ls : List Lot). All P ls) (sym (cond-false (not (is_lot id x)) (x ∷ without_lot id lots) (without_lot id lots) (not_from_true (is_lot id x) is))) kept
       | inr off ↦ subst (λ (ls : List Lot). All P ls) (sym (cond-true (not (is_lot id x)) (x ∷ without_lot id lots) (without_lot id lots) (not_from_false (is_lot id x) off)))
-        (All-cons P x (without_lot id lots) (All-head Q x lots all off) kept)
+          (All-cons P x (without_lot id lots) (All-head Q x lots all off) kept)
     ]

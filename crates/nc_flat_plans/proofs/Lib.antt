@@ -11,3 +11,5 @@ pub mod Blocks
 pub mod Bases
 pub mod Harts
 pub mod Begins
+pub mod Returns
+pub mod Fences

@@ -164,10 +164,10 @@ map_starts d os pages label buf off len dir chan (Ok new) idle e =
     let lot = ranges_lot f (lot_id label 0) Single dir chan made.0.ranges in
     let so : (ls : List Lot) → ls ≡ lot ∷ [] → some_lot_waits ls ≡ false → GoesSo d (placed (with_lots d (d.lots ++ ls)) o) (d.lots ++ lot ∷ []) (turns.Lend lot.id) (lend_steps f lot) =
     λ ls same none.
-      subst (λ (ks : List Lot). GoesSo d (placed (with_lots d (d.lots ++ ks)) o) (d.lots ++ lot ∷ []) (turns.Lend lot.id) (lend_steps f lot)) (sym same)
-      (opens d o (d.lots ++ lot ∷ []) (turns.Lend lot.id) (lend_steps f lot) (none_waits d.lots (lot ∷ []) idle.placed (subst (λ (ks : List Lot). some_lot_waits ks ≡ false) same none))
-      (map_opening f (d.lots ++ lot ∷ []) label buf off len dir chan)
-      (map_plan f (d.lots ++ lot ∷ []) label buf off len dir chan ∙ ap (with_lot [] (lend_steps f)) (find_last label d.lots lot made.0.unused (new_named label f dir chan made.0.ranges)))) in
+    subst (λ (ks : List Lot). GoesSo d (placed (with_lots d (d.lots ++ ks)) o) (d.lots ++ lot ∷ []) (turns.Lend lot.id) (lend_steps f lot)) (sym same)
+    (opens d o (d.lots ++ lot ∷ []) (turns.Lend lot.id) (lend_steps f lot) (none_waits d.lots (lot ∷ []) idle.placed (subst (λ (ks : List Lot). some_lot_waits ks ≡ false) same none))
+    (map_opening f (d.lots ++ lot ∷ []) label buf off len dir chan)
+    (map_plan f (d.lots ++ lot ∷ []) label buf off len dir chan ∙ ap (with_lot [] (lend_steps f)) (find_last label d.lots lot made.0.unused (new_named label f dir chan made.0.ranges)))) in
     Maps label buf off len dir chan lot refl (subst (λ (ks : List Lot). begin f d.lots os pages o ≡ Ok ks) made.0.same e)
     (record { ranges = made.0.ranges; same = refl; unused = made.0.unused }) (so new made.0.same made.1)
 
@@ -212,9 +212,9 @@ dev_starts d os pages label (Ok new) idle e =
     as_made d os pages (ops.ToDev label) new b.2
     (elim (found_still label d.lots b.0 idle.still b.1) [
       | inl device ↦ Quiet (quiet_so d (placed (with_lots d d.lots) (ops.ToDev label))
-        (opens_lot d (ops.ToDev label) label b.0 to_dev_turn (to_dev_steps f) turns.Stay [] idle.placed b.1 refl refl (if_device b.0 (turns.Lend b.0.id) turns.Stay device) (if_device b.0 (lend_steps f b.0) [] device)))
+          (opens_lot d (ops.ToDev label) label b.0 to_dev_turn (to_dev_steps f) turns.Stay [] idle.placed b.1 refl refl (if_device b.0 (turns.Lend b.0.id) turns.Stay device) (if_device b.0 (lend_steps f b.0) [] device)))
       | inr synced ↦ Relends label b.0 refl b.1 synced
-        (opens_lot d (ops.ToDev label) label b.0 to_dev_turn (to_dev_steps f) (turns.Lend b.0.id) (lend_steps f b.0) idle.placed b.1 refl refl (if_synced b.0 (turns.Lend b.0.id) turns.Stay synced) (if_synced b.0 (lend_steps f b.0) [] synced))
+          (opens_lot d (ops.ToDev label) label b.0 to_dev_turn (to_dev_steps f) (turns.Lend b.0.id) (lend_steps f b.0) idle.placed b.1 refl refl (if_synced b.0 (turns.Lend b.0.id) turns.Stay synced) (if_synced b.0 (lend_steps f b.0) [] synced))
     ])
 
 cpu_starts : (d : DriverState) (os : List Owner) (pages : PageMap) (label : Label) (r : Result (List Lot) Refusal) → IsIdle d → begin d.fixed d.lots os pages (ops.ToCpu label) ≡ r → StartSo d os pages (ops.ToCpu label) (begun d (ops.ToCpu label) r)
@@ -227,9 +227,9 @@ cpu_starts d os pages label (Ok new) idle e =
     as_made d os pages (ops.ToCpu label) new b.2
     (elim (found_still label d.lots b.0 idle.still b.1) [
       | inl device ↦ Syncs label b.0 refl b.1 device
-        (opens_lot d (ops.ToCpu label) label b.0 to_cpu_turn (to_cpu_steps f) (turns.Return b.0.id) plan idle.placed b.1 refl refl (if_device b.0 turns.Stay (turns.Return b.0.id) device) (if_device b.0 [] plan device))
+          (opens_lot d (ops.ToCpu label) label b.0 to_cpu_turn (to_cpu_steps f) (turns.Return b.0.id) plan idle.placed b.1 refl refl (if_device b.0 turns.Stay (turns.Return b.0.id) device) (if_device b.0 [] plan device))
       | inr synced ↦ Quiet (quiet_so d (placed (with_lots d d.lots) (ops.ToCpu label))
-        (opens_lot d (ops.ToCpu label) label b.0 to_cpu_turn (to_cpu_steps f) turns.Stay [] idle.placed b.1 refl refl (if_synced b.0 turns.Stay (turns.Return b.0.id) synced) (if_synced b.0 [] plan synced)))
+          (opens_lot d (ops.ToCpu label) label b.0 to_cpu_turn (to_cpu_steps f) turns.Stay [] idle.placed b.1 refl refl (if_synced b.0 turns.Stay (turns.Return b.0.id) synced) (if_synced b.0 [] plan synced)))
     ])
 
 unmap_starts : (d : DriverState) (os : List Owner) (pages : PageMap) (label : Label) (r : Result (List Lot) Refusal) → IsIdle d → begin d.fixed d.lots os pages (ops.Unmap label) ≡ r → StartSo d os pages (ops.Unmap label) (begun d (ops.Unmap label) r)
@@ -242,9 +242,9 @@ unmap_starts d os pages label (Ok new) idle e =
     as_made d os pages (ops.Unmap label) new b.2
     (elim (found_still label d.lots b.0 idle.still b.1) [
       | inl device ↦ Unmaps label b.0 refl b.1 device
-        (opens_lot d (ops.Unmap label) label b.0 unmap_turn (unmap_steps f) (turns.Return b.0.id) plan idle.placed b.1 refl refl (if_device b.0 (turns.End b.0.id) (turns.Return b.0.id) device) (if_device b.0 [] plan device))
+          (opens_lot d (ops.Unmap label) label b.0 unmap_turn (unmap_steps f) (turns.Return b.0.id) plan idle.placed b.1 refl refl (if_device b.0 (turns.End b.0.id) (turns.Return b.0.id) device) (if_device b.0 [] plan device))
       | inr synced ↦ Ends label b.0 refl b.1 synced
-        (opens_lot d (ops.Unmap label) label b.0 unmap_turn (unmap_steps f) (turns.End b.0.id) [] idle.placed b.1 refl refl (if_synced b.0 (turns.End b.0.id) (turns.Return b.0.id) synced) (if_synced b.0 [] plan synced))
+          (opens_lot d (ops.Unmap label) label b.0 unmap_turn (unmap_steps f) (turns.End b.0.id) [] idle.placed b.1 refl refl (if_synced b.0 (turns.End b.0.id) (turns.Return b.0.id) synced) (if_synced b.0 [] plan synced))
     ])
 
 -- ---- all four
