@@ -13,3 +13,4 @@ pub mod Harts
 pub mod Begins
 pub mod Returns
 pub mod Fences
+pub mod StartEvents
