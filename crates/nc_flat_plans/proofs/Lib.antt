@@ -14,3 +14,4 @@ pub mod Begins
 pub mod Returns
 pub mod Fences
 pub mod StartEvents
+pub mod PlanEvents
