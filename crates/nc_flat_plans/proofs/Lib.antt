@@ -10,5 +10,10 @@ pub mod Starts
 pub mod Blocks
 pub mod Bases
 pub mod Harts
+pub mod Begins
+pub mod Returns
+pub mod Fences
+pub mod StartEvents
+pub mod PlanEvents
 pub mod CboRows
 pub mod CboSteps

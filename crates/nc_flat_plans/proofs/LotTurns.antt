@@ -51,7 +51,7 @@ pub record IsLotTurn (sc : Scenario) (w : WorldState) (h : HartNo) (went : Went)
   pub lies : (x : ℕ) (k : MapId) → x < sc.ram → covers e.span x ≡ true → mapping_in now ≡ Some k → LiesIn ((book_of (gone w h w.machine went)).loan k) x
   pub row : (x v : ℕ) → x < sc.ram → covers e.span x ≡ true → Row (book_of w) was v w.machine x → Row (book_of (gone w h w.machine went)) now v w.machine x
 
-side_restful : (k : MapId) (lot : Lot) → IsStill lot → IsRestful (owner_of_side k lot.side)
+pub side_restful : (k : MapId) (lot : Lot) → IsStill lot → IsRestful (owner_of_side k lot.side)
 side_restful k lot (inl is) = subst (λ (s : Side). IsRestful (owner_of_side k s)) (sym is) tt
 side_restful k lot (inr is) = subst (λ (s : Side). IsRestful (owner_of_side k s)) (sym is) tt
 

@@ -122,7 +122,7 @@ left_last (o ∷ ops) turn all = last_cbo o (left_of ops turn) (All-head (λ (k 
 abbrev pub the_part : Lot → SgEntry → Part
 the_part lot e = record { buffer = e.span; device = e.span; dir = lot.list.dir }
 
-direct_device : (slots_at : ℕ) (e : SgEntry) → e.bounced ≡ false → sg.device slots_at e ≡ e.span
+pub direct_device : (slots_at : ℕ) (e : SgEntry) → e.bounced ≡ false → sg.device slots_at e ≡ e.span
 direct_device slots_at e off = cond-false e.bounced _ e.span off
 
 pub parts_is : (f : Fixed) (lot : Lot) (e : SgEntry) → lot.list.entries ≡ e ∷ [] → e.bounced ≡ false → parts f lot ≡ the_part lot e ∷ []

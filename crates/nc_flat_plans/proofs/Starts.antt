@@ -60,16 +60,19 @@ pub record GoesSo (d : DriverState) (went : Went) (lots : List Lot) (turn : Turn
   pub driver : went.driver ≡ went_to (with_lots d lots) (lots_after turn lots) d.saw plan
   pub transfers : went.moves.transfers ≡ transfers_of d.fixed.me lots turn
 
--- what map makes, behind its tests
-pub record IsMade (f : Fixed) (lots : List Lot) (label : Label) (dir : Dir) (chan : ChanNo) (new : List Lot) : Type 0 where
-  pub ranges : List Span
-  pub same : new ≡ ranges_lot f (lot_id label 0) Single dir chan ranges ∷ []
-  pub unused : list_any (is_labelled label) lots ≡ false
+-- what map makes, of these ranges
+abbrev pub new_lot : Fixed → Label → Dir → ChanNo → List Span → Lot
+new_lot f label dir chan ranges = ranges_lot f (lot_id label 0) Single dir chan ranges
+
+record IsMade (f : Fixed) (lots : List Lot) (label : Label) (dir : Dir) (chan : ChanNo) (new : List Lot) : Type 0 where
+  ranges : List Span
+  same : new ≡ new_lot f label dir chan ranges ∷ []
+  unused : list_any (is_labelled label) lots ≡ false
 
 pub data StartSo (d : DriverState) (os : List Owner) (pages : PageMap) (o : Op) (went : Went) : Type 0 where
   Quiet : GoesQuiet d went → StartSo d os pages o went
-  Maps : (label : Label) (buf off len : ℕ) (dir : Dir) (chan : ChanNo) (lot : Lot) → o ≡ ops.Map label buf off len dir chan → begin d.fixed d.lots os pages o ≡ Ok (lot ∷ []) → IsMade d.fixed d.lots label dir chan (lot ∷ [])
-      → GoesSo d went (d.lots ++ lot ∷ []) (turns.Lend lot.id) (lend_steps d.fixed lot) → StartSo d os pages o went
+  Maps : (label : Label) (buf off len : ℕ) (dir : Dir) (chan : ChanNo) (ranges : List Span) → o ≡ ops.Map label buf off len dir chan → begin d.fixed d.lots os pages o ≡ Ok (new_lot d.fixed label dir chan ranges ∷ []) → list_any (is_labelled label) d.lots ≡ false
+      → GoesSo d went (d.lots ++ new_lot d.fixed label dir chan ranges ∷ []) (turns.Lend (lot_id label 0)) (lend_steps d.fixed (new_lot d.fixed label dir chan ranges)) → StartSo d os pages o went
   Relends : (label : Label) (lot : Lot) → o ≡ ops.ToDev label → lot_named d.lots label Single ≡ Some lot → lot.side ≡ sides.Synced → GoesSo d went d.lots (turns.Lend lot.id) (lend_steps d.fixed lot) → StartSo d os pages o went
   Unmaps : (label : Label) (lot : Lot) → o ≡ ops.Unmap label → lot_named d.lots label Single ≡ Some lot → lot.side ≡ sides.Device → GoesSo d went d.lots (turns.Return lot.id) (ending (turns.End lot.id) (return_steps d.fixed lot)) → StartSo d os pages o went
   Syncs : (label : Label) (lot : Lot) → o ≡ ops.ToCpu label → lot_named d.lots label Single ≡ Some lot → lot.side ≡ sides.Device → GoesSo d went d.lots (turns.Return lot.id) (ending (turns.Sync lot.id) (return_steps d.fixed lot)) → StartSo d os pages o went
@@ -168,8 +171,7 @@ map_starts d os pages label buf off len dir chan (Ok new) idle e =
     (opens d o (d.lots ++ lot ∷ []) (turns.Lend lot.id) (lend_steps f lot) (none_waits d.lots (lot ∷ []) idle.placed (subst (λ (ks : List Lot). some_lot_waits ks ≡ false) same none))
     (map_opening f (d.lots ++ lot ∷ []) label buf off len dir chan)
     (map_plan f (d.lots ++ lot ∷ []) label buf off len dir chan ∙ ap (with_lot [] (lend_steps f)) (find_last label d.lots lot made.0.unused (new_named label f dir chan made.0.ranges)))) in
-    Maps label buf off len dir chan lot refl (subst (λ (ks : List Lot). begin f d.lots os pages o ≡ Ok ks) made.0.same e)
-    (record { ranges = made.0.ranges; same = refl; unused = made.0.unused }) (so new made.0.same made.1)
+    Maps label buf off len dir chan made.0.ranges refl (subst (λ (ks : List Lot). begin f d.lots os pages o ≡ Ok ks) made.0.same e) made.0.unused (so new made.0.same made.1)
 
 -- ---- the others
 
