@@ -1,6 +1,7 @@
 -- The bytes behind a channel's transaction.
+use Rattle.nc_rows.specs.Ahead.{is_full}
 use Rattle.std.specs.Prelude.{Option, Some, None, ◌-◌, if◌then◌else◌, unwrap_or, map}
-use Rattle.std.specs.List.{range_with_len}
+use Rattle.std.specs.List.{range_with_len, list_any}
 use Rattle.std.proofs.Common.{◌≡◌, ◌⊎◌, ℕ, ◌+◌, ◌<◌, ◌≤◌, Bool, true, false, List, [], ◌∷◌, length, refl, sym, ap, ◌∙◌, inl, inr, subst, arith}
 use Rattle.nc_num.specs.Memory.{byte}
 use Rattle.nc_num.specs.Memory as memory
@@ -81,6 +82,7 @@ stay_bytes sc f w k flat shape same =
       pooled = s.pooled;
       rows = λ x lt. rows_of_channels.stays a (owner_of w x) (byte f x) m k x shape same (s.rows x lt);
       queued = queued_on a (owner_of w) m k shape same.queues s.queued;
+      unfenced = λ h. ap (list_any is_full) (same.queues h) ∙ s.unfenced h;
       uncached = uncached_on a (owner_of w) m k shape (λ x none. (same.places x).line ∙ none) s.uncached;
       lasts = lasts_of f w k (length sc.harts) (omega (arith, flat.world.holds.drivers, flat.world.of_scenario.harts)) s.drives;
     }
@@ -166,6 +168,7 @@ write_bytes sc f w k c span bytes flat shape writes uses =
       pooled = s.pooled;
       rows = λ x lt. subst (λ (v : ℕ). Row a (owner_of w x) v k x) (sym (byte_stored f span bytes x fits writes.long)) (row_by sc f w k c span bytes x (covers span x) flat shape writes lt refl (uses x));
       queued = queued_on a (owner_of w) m k shape writes.queues s.queued;
+      unfenced = λ h. ap (list_any is_full) (writes.queues h) ∙ s.unfenced h;
       uncached = uncached_on a (owner_of w) m k shape writes.not_held s.uncached;
       lasts = lasts_of g w k (length sc.harts) (omega (arith, flat.world.holds.drivers, flat.world.of_scenario.harts)) s.drives;
     }

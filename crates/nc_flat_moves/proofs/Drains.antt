@@ -1,4 +1,5 @@
 -- A drain in flat memory: a touch of a register, or the bytes stand as they did.
+use Rattle.nc_calls.proofs.DrainPlaces as drain_places
 use Rattle.std.specs.Prelude.{Option, Some, None, is_some, ◌==◌, ◌&&◌}
 use Rattle.std.proofs.Common.{◌≡◌, ℕ, ◌<◌, Bool, true, false, List, [], ◌++◌, length, refl, ap, ◌∙◌, arith}
 use Rattle.std.proofs.lemmas.Bool.{false≢true}
@@ -25,7 +26,7 @@ use Rattle.nc_rules.specs.Watched.{owner_of, drain_touch}
 use Rattle.nc_rules.specs.World.{WorldState}
 use Rattle.nc_holds.specs.Tokens.{token_of}
 use Rattle.nc_holds.proofs.ListsA.{all_at, at_get}
-use Rattle.nc_rows.specs.Ahead.{names}
+use Rattle.nc_rows.specs.Ahead.{names, is_full}
 use Rattle.nc_rows.specs.Parts.{IsQueued}
 use Rattle.nc_row_moves.specs.Laws.{is_token, IsDrain}
 use Rattle.nc_row_moves.proofs.PartMoves.{parts_stay}
@@ -96,6 +97,7 @@ drained_bytes sc f w h i e flat is here none =
       pooled = b.pooled;
       rows = λ x lt. rows_drain.kept a (owner_of w x) (byte f x) m h i e x is (loses_row a (owner_of w) m h e x mapped b.uncached queued) (has_pieces sc f w x (owner_of w x) flat) (not_named (owner_of w x) h e none) (b.rows x lt);
       queued = parts_stay.queued_drain a (owner_of w) m h i e is b.queued;
+      unfenced = λ g. (drain_places.drain_is m h i e is.sound is.hart is.out).queues.none is_full g (b.unfenced g);
       uncached = parts_stay.uncached_drain a (owner_of w) m h i e is (whole_pool sc f w flat) b.queued b.uncached;
       lasts = parts_stay.lasts_drain a f m h i e is b.lasts;
     }

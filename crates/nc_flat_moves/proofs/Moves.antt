@@ -1,4 +1,7 @@
 -- A fill and an eviction in flat memory: the bytes stand as they did.
+use Rattle.nc_calls.proofs.StepPlaces.{fill_is, evict_is}
+use Rattle.nc_rows.specs.Ahead.{is_full}
+use Rattle.std.specs.List.{list_any}
 use Rattle.std.specs.Prelude.{None}
 use Rattle.std.proofs.Common.{◌≡◌, ℕ, ◌+◌, ◌*◌, ◌<◌, ◌≤◌, false, List, length, refl, sym, ap, ◌∙◌, arith}
 use Rattle.std.proofs.lemmas.Bool.{false≢true}
@@ -54,6 +57,7 @@ filled_bytes sc f w h b flat by =
       pooled = s.pooled;
       rows = λ x lt. rows_move.fill a (owner_of w x) (byte f x) m h b x sound by (λ area. absurd (false≢true (sym (no_area a (owner_of w) m.size x (owner_of w x) (mapped_now sc f w flat) refl) ∙ area))) (s.rows x lt);
       queued = parts_stay.queued_fill a (owner_of w) m h b sound by s.queued;
+      unfenced = λ g. ap (list_any is_full) ((fill_is m h b sound by.block).queues g) ∙ s.unfenced g;
       uncached = parts_stay.uncached_fill a (owner_of w) m h b sound by (whole_pool sc f w flat) s.uncached;
       lasts = parts_stay.lasts_fill a f m h b sound by s.lasts;
     }
@@ -85,6 +89,7 @@ evicted_bytes sc f w h b flat by =
       pooled = s.pooled;
       rows = λ x lt. rows_move.evict a (owner_of w x) (byte f x) m h b x sound by (s.rows x lt);
       queued = parts_stay.queued_evict a (owner_of w) m h b sound by s.queued;
+      unfenced = λ g. ap (list_any is_full) ((evict_is m h b sound by.block).queues g) ∙ s.unfenced g;
       uncached = parts_stay.uncached_evict a (owner_of w) m h b sound by s.uncached;
       lasts = parts_stay.lasts_evict a f m h b sound by s.lasts;
     }

@@ -5,4 +5,4 @@
 
 mod laws;
 
-pub use laws::{channels_go, moves_go};
+pub use laws::moves_go;

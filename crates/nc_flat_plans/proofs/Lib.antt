@@ -6,6 +6,7 @@ pub mod Frames
 pub mod LotTurns
 pub mod PlanLists
 pub mod Effects
+pub mod Lendings
 pub mod Starts
 pub mod Blocks
 pub mod Bases
@@ -15,3 +16,6 @@ pub mod Returns
 pub mod Fences
 pub mod StartEvents
 pub mod PlanEvents
+pub mod CboRows
+pub mod CboSteps
+pub mod CboEvents

@@ -1,10 +1,9 @@
 -- Each row, after a script's entry came into its hart's queue.
-use Rattle.std.specs.Prelude.{Option, Some, None, ◌/◌, ◌==◌, if◌then◌else◌, unwrap_or}
+use Rattle.std.specs.Prelude.{Option, Some, None, ◌/◌, ◌==◌, unwrap_or}
 use Rattle.std.specs.List.{list_any}
-use Rattle.std.proofs.Common.{◌≡◌, ◌⊎◌, ℕ, ◌*◌, ◌<◌, Bool, true, false, List, refl, sym, ap, ◌∙◌, inl, inr, subst, arith}
-use Rattle.std.proofs.lemmas.Bool.{cases_Bool, both_ways, or_from, or_parts, and_parts, eqb-true, eq-eqb, ne_eqb, cond-true}
+use Rattle.std.proofs.Common.{◌≡◌, ℕ, ◌*◌, Bool, true, false, refl, sym, ◌∙◌, inl, inr, subst, arith}
+use Rattle.std.proofs.lemmas.Bool.{cases_Bool, eqb-true, eq-eqb, cond-true}
 use Rattle.nc_num.specs.Sizes.{IsBlockSize}
-use Rattle.nc_num.specs.Memory.{byte}
 use Rattle.nc_num.specs.Places.{covers, block_at}
 use Rattle.nc_num.specs.declared.names.Dir.{Dir}
 use Rattle.nc_num.specs.declared.names.Dir.TheVariants.{Both, ToDev, FromDev}
@@ -13,7 +12,7 @@ use Rattle.nc_num.specs.declared.places.Block.{Block}
 use Rattle.nc_num.proofs.Blocks.{start_of_block}
 use Rattle.nc_env.specs.declared.CboOp.{CboOp}
 use Rattle.nc_env.specs.declared.CboOp.TheVariants as cbos
-use Rattle.nc_queue.specs.Entries.{entry_gives, gives_in, is_zero, Fits}
+use Rattle.nc_queue.specs.Entries.{entry_gives, gives_in, Fits}
 use Rattle.nc_queue.specs.declared.entry.Entry.{Entry}
 use Rattle.nc_queue.specs.declared.entry.Entry.TheVariants.{Store, Cbo, Reg, Mail, Lend, Mark}
 use Rattle.nc_plan.specs.Parts.{comes_back}
@@ -21,11 +20,11 @@ use Rattle.nc_model.proofs.Faults.{covers-from}
 use Rattle.nc_model.specs.declared.owners.Owner.{Owner}
 use Rattle.nc_model.specs.declared.owners.Owner.TheVariants.{Thread, Passing, Lending, Device, Returning, Synced, Pool}
 use Rattle.nc_rules.specs.Machine.{MachineState}
-use Rattle.nc_rows.specs.Ahead.{is_full, settling}
+use Rattle.nc_rows.specs.Ahead.{is_full}
 use Rattle.nc_rows.specs.Rows.{Loan, Book, device_place, ahead_of, Either, ByDir, Row}
-use Rattle.nc_row_issues.specs.Laws.{Enters, NoByte, NoBlock, Passes, PassesTo, PassesFrom, PassesDevice, PassesOpen, PassesDropping, PassesComing, PassesLent, PassesLoan, PassesBack, IsOwn}
+use Rattle.nc_row_issues.specs.Laws.{Enters, NoByte, NoBlock, Passes, PassesTo, PassesLent, PassesLoan, PassesBack, IsOwn}
 use Rattle.nc_row_issues.proofs.RowIssues.{rows_issue}
-use Rattle.nc_flat_scripts.specs.Entering.{GivesOwn, IsPlain, IsNoMail, IsDirect, LoanIsDirect, OwnerIsDirect, IsUnlent}
+use Rattle.nc_flat_scripts.specs.Entering.{GivesOwn, IsPlain, IsNotIts, LoanIsDirect, OwnerIsDirect, IsUnlent}
 
 -- ---- a block of which an entry gives no byte
 
@@ -119,9 +118,9 @@ back_passes a owner m h e x n (Some l) c is direct none =
     })
     (record { device = place; buffer = inr none })))
 
-pub passes : (a : Book) (owner : ℕ → Owner) (m : MachineState) (h : ℕ) (e : Entry) (x : ℕ) (o : Owner) → Comes a owner m h e → owner x ≡ o → OwnerIsDirect a owner m.size x o → IsUnlent owner h x → IsNoMail e → NoByte m e x → Passes a o m h e x
+pub passes : (a : Book) (owner : ℕ → Owner) (m : MachineState) (h : ℕ) (e : Entry) (x : ℕ) (o : Owner) → Comes a owner m h e → owner x ≡ o → OwnerIsDirect a owner m.size x o → IsUnlent owner h x → IsNotIts a owner h e x → NoByte m e x → Passes a o m h e x
 passes a owner m h e x (Thread j) c is direct unlent quiet none = none
-passes a owner m h e x (Passing j g) c is direct unlent quiet none = record { place = none; message = λ same. quiet (a.buffer x) }
+passes a owner m h e x (Passing j g) c is direct unlent quiet none = record { place = none; message = λ same. quiet j g is same }
 passes a owner m h e x (Lending n) c is direct unlent quiet none = lent_passes a owner m h e x n (a.loan n) c is (unlent n is) direct none
 passes a owner m h e x (Device n) c is direct unlent quiet none = device_passes a owner m h e x n (a.loan n) c is direct none
 passes a owner m h e x (Returning n) c is direct unlent quiet none = back_passes a owner m h e x n (a.loan n) c is direct none
@@ -129,7 +128,7 @@ passes a owner m h e x (Synced n) c is direct unlent quiet none = none
 passes a owner m h e x Pool c is direct unlent quiet none = none
 
 -- the row behind it: with the entry's byte where it gives one
-pub row_entered : (a : Book) (owner : ℕ → Owner) (v : ℕ) (m k : MachineState) (h : ℕ) (e : Entry) (x : ℕ) → Enters m k h e → Comes a owner m h e → OwnerIsDirect a owner m.size x (owner x) → IsUnlent owner h x → IsNoMail e → Row a (owner x) v m x
+pub row_entered : (a : Book) (owner : ℕ → Owner) (v : ℕ) (m k : MachineState) (h : ℕ) (e : Entry) (x : ℕ) → Enters m k h e → Comes a owner m h e → OwnerIsDirect a owner m.size x (owner x) → IsUnlent owner h x → IsNotIts a owner h e x → Row a (owner x) v m x
     → Row a (owner x) (unwrap_or (entry_gives m.size e x) v) k x
 row_entered a owner v m k h e x by c direct unlent quiet row = elim (c.own x) [
   | inl none ↦

@@ -1,6 +1,6 @@
 -- What an access of a script that is no touch may use: places of its hart alone, in main memory.
-use Rattle.std.specs.Prelude.{Option, Some, None, Bool, true, false, ◌-◌, ◌==◌, ◌/◌, All}
-use Rattle.std.proofs.Common.{◌≡◌, ◌⊎◌, ℕ, ◌+◌, ◌*◌, ◌<◌, ◌≤◌, List, length, refl, sym, ap, ◌∙◌, inl, inr, subst, arith}
+use Rattle.std.specs.Prelude.{Option, Some, None, true, false, ◌-◌, ◌==◌, ◌/◌, All}
+use Rattle.std.proofs.Common.{◌≡◌, ℕ, ◌*◌, ◌<◌, List, length, refl, sym, ap, ◌∙◌, inl, inr, subst, arith}
 use Rattle.std.proofs.lemmas.Bool.{cases_eq, cases_Bool, cond-false, ne_eqb}
 use Rattle.nc_num.specs.Memory.{byte}
 use Rattle.nc_num.specs.Places.{covers}
@@ -12,34 +12,30 @@ use Rattle.nc_num.specs.declared.places.Block.{Block}
 use Rattle.nc_num.specs.declared.places.Span.{Span}
 use Rattle.nc_num.proofs.Blocks.{inside}
 use Rattle.nc_env.specs.declared.CboOp.TheVariants as cbos
-use Rattle.nc_queue.specs.Entries.{entry_gives}
 use Rattle.nc_queue.specs.declared.entry.Entry.TheVariants as entries
 use Rattle.nc_model.proofs.Faults.{covers-from, covers-high}
 use Rattle.nc_model.proofs.TouchLaws.{piece_passed, rights_passed, type_passed, hart_uses}
 use Rattle.nc_model.specs.Laws.{HartUses}
-use Rattle.nc_model.specs.Touches.{rights_touch, piece_touch, zero_touch, is_its_type, is_pma, is_nc}
+use Rattle.nc_model.specs.Touches.{rights_touch, piece_touch, zero_touch, is_pma, is_nc}
 use Rattle.nc_model.specs.declared.owners.Access.{Access}
 use Rattle.nc_model.specs.declared.owners.Access.TheVariants.{Write}
-use Rattle.nc_model.specs.declared.owners.Grant.{Grant}
 use Rattle.nc_model.specs.declared.owners.Owner.{Owner}
 use Rattle.nc_model.specs.declared.owners.Owner.TheVariants.{Thread, Passing, Lending, Device, Returning, Synced, Pool}
 use Rattle.nc_plan.specs.Plans.{In}
-use Rattle.nc_scen.specs.Regions.{pool_of}
 use Rattle.nc_scen.specs.declared.scenario.Scenario.{Scenario}
 use Rattle.nc_rules.specs.declared.lots.Lot.{Lot}
-use Rattle.nc_rules.specs.declared.lots.Side.{Side}
 use Rattle.nc_rules.specs.Lots.{owner_of_side}
 use Rattle.nc_rules.specs.Sound.{IsPieceIn, IsBlockIn}
 use Rattle.nc_rules.specs.Watched.{owner_of}
 use Rattle.nc_rules.specs.World.{WorldState, driver_of}
 use Rattle.nc_holds.proofs.ListsA.{all_at}
-use Rattle.nc_rows.specs.Rows.{Loan, Book}
+use Rattle.nc_rows.specs.Rows.{Loan}
 use Rattle.nc_row_issues.specs.Laws.{IsOwn, IsSyncedOf}
 use Rattle.nc_flatness.specs.Books.{book_of, mapping_in}
 use Rattle.nc_flatness.specs.Flatness.{IsStill, Flatness}
 use Rattle.nc_flatness.proofs.Owned.{IsMapped, mapped}
 use Rattle.nc_flatness.proofs.WholeBlocks.{mapped_block}
-use Rattle.nc_flat_scripts.specs.Entering.{GivesOwn, IsDirect, LoanIsDirect, OwnerIsDirect, IsUnlent}
+use Rattle.nc_flat_scripts.specs.Entering.{GivesOwn, LoanIsDirect, OwnerIsDirect, IsUnlent}
 
 -- ---- the mapping that has a place
 
@@ -64,7 +60,18 @@ still_side : (n : MapId) (lot : Lot) → IsStill lot → Lending n ≡ owner_of_
 still_side n lot (inl is) e = let no : Lending n ≡ Device n = e ∙ ap (owner_of_side n) is in absurd cc
 still_side n lot (inr is) e = let no : Lending n ≡ Synced n = e ∙ ap (owner_of_side n) is in absurd cc
 
--- a hart whose lots are still lends none
+still_taken : (n : MapId) (lot : Lot) → IsStill lot → Returning n ≡ owner_of_side n lot.side → ⊥
+still_taken n lot (inl is) e = let no : Returning n ≡ Device n = e ∙ ap (owner_of_side n) is in absurd cc
+still_taken n lot (inr is) e = let no : Returning n ≡ Synced n = e ∙ ap (owner_of_side n) is in absurd cc
+
+-- a hart whose lots are still takes none back
+pub untaken_at : (sc : Scenario) (f : List ℕ) (w : WorldState) (h x : ℕ) (n : MapId) → Flatness sc f w → All IsStill (driver_of w h).lots → x < sc.ram → owner_of w x ≡ Returning n → n.hart.0 ≡ h → ⊥
+untaken_at sc f w h x n flat still lt e hart =
+    let m = mapped sc f w n x flat lt (ap mapping_in e) in
+    let here : In m.is.lot (driver_of w h).lots = subst (λ (k : ℕ). In m.is.lot (driver_of w k).lots) hart m.is.here in
+    still_taken n m.is.lot (all_at IsStill (driver_of w h).lots m.is.lot still here) (sym e ∙ m.owner)
+
+-- and lends none
 pub unlent_at : (sc : Scenario) (f : List ℕ) (w : WorldState) (h x : ℕ) → Flatness sc f w → All IsStill (driver_of w h).lots → x < sc.ram → IsUnlent (owner_of w) h x
 unlent_at sc f w h x flat still lt = λ n e hart.
     let m = mapped sc f w n x flat lt (ap mapping_in e) in
@@ -93,7 +100,7 @@ own_unpooled sc f w h x flat own = elim (cases_Bool (covers w.machine.pool x)) [
 
 -- ---- pieces
 
-piece_starts : (size : ℕ) (s : Span) → IsPieceIn size s → covers s s.at ≡ true
+pub piece_starts : (size : ℕ) (s : Span) → IsPieceIn size s → covers s s.at ≡ true
 piece_starts size s is = covers-from s s.at (omega arith) (elim is.len [
   | inl e ↦ omega (arith, e)
   | inr r ↦ elim r [ inl e ↦ omega (arith, e) | inr t ↦ elim t [ inl e ↦ omega (arith, e) | inr e ↦ omega (arith, e) ] ]

@@ -1,6 +1,6 @@
 -- What the calls of a driver that has no plan change: neither its lots nor the rest of a plan.
-use Rattle.std.specs.Prelude.{Option, Some, None, Result, Ok, Err, if◌then◌else◌, Bool, true, false, not, filter, All}
-use Rattle.std.proofs.Common.{◌≡◌, ◌⊎◌, ℕ, ◌+◌, List, [], ◌∷◌, refl, sym, ap, ◌∙◌, inl, inr, subst}
+use Rattle.std.specs.Prelude.{Option, Some, None, Result, Ok, Err, if◌then◌else◌, Bool, false, not, All}
+use Rattle.std.proofs.Common.{◌≡◌, ℕ, ◌+◌, List, [], ◌∷◌, refl, sym, ap, ◌∙◌, inl, inr, subst}
 use Rattle.std.proofs.lemmas.List.Elements.{All-head, All-tail}
 use Rattle.nc_num.specs.declared.places.Span.{Span}
 use Rattle.nc_model.specs.declared.owners.Owner.{Owner}
@@ -10,20 +10,17 @@ use Rattle.nc_ops.specs.declared.ops.Op.TheVariants as ops
 use Rattle.nc_coherent.specs.Pages.{PageMap}
 use Rattle.nc_rules.specs.declared.answers.Refusal.{Refusal}
 use Rattle.nc_rules.specs.declared.lots.Lot.{Lot}
-use Rattle.nc_rules.specs.declared.lots.Side.{Side}
-use Rattle.nc_rules.specs.declared.lots.Side.TheVariants as sides
 use Rattle.nc_rules.specs.declared.steps.Phase.{Phase}
-use Rattle.nc_rules.specs.declared.steps.Phase.TheVariants.{Steps, Search, Work}
+use Rattle.nc_rules.specs.declared.steps.Phase.TheVariants.{Steps}
 use Rattle.nc_rules.specs.declared.steps.Seen.{Seen}
 use Rattle.nc_rules.specs.declared.steps.Seen.TheVariants as seen
 use Rattle.nc_rules.specs.declared.steps.Step.{Step}
-use Rattle.nc_rules.specs.declared.steps.Turn.TheVariants as turns
-use Rattle.nc_rules.specs.Lots.{Fixed, is_wanted}
+use Rattle.nc_rules.specs.Lots.{is_wanted}
 use Rattle.nc_rules.specs.Refusals.{buffer_of}
 use Rattle.nc_rules.specs.Turns.{lots_after_both, turned, turned_by, without_wanted}
 use Rattle.nc_rules.specs.Handing.{take_step}
 use Rattle.nc_rules.specs.Operations.{step_at, has_start}
-use Rattle.nc_rules.specs.Driver.{DriverState, Went, in_hand, over, stands, stays, kept, give_up, refused_step, started, started_of, started_op, busy, stepped_to, stepped, done, done_of, done_unless, done_in}
+use Rattle.nc_rules.specs.Driver.{DriverState, Went, in_hand, over, stands, kept, give_up, refused_step, started, started_of, started_op, busy, stepped_to, stepped, done, done_of, done_unless, done_in}
 use Rattle.nc_flatness.specs.Flatness.{IsStill}
 use Rattle.nc_flat_scripts.proofs.ScriptSteps.{IsOwn}
 

@@ -1,28 +1,31 @@
 -- The bytes of flat memory behind a step of a driver that has no plan before it, nor behind it.
-use Rattle.std.specs.Prelude.{Option, Some, None, All, slice_set, slice_index_or}
-use Rattle.std.proofs.Common.{◌≡◌, ◌≢◌, ℕ, ◌<◌, List, [], length, refl, sym, ap, ◌∙◌, inl, inr, subst, arith}
+use Rattle.std.specs.Prelude.{Some, true, false, All}
+use Rattle.std.specs.List.{list_any}
+use Rattle.std.proofs.Common.{◌≡◌, ◌≢◌, ℕ, ◌<◌, List, [], length, sym, ap, ◌∙◌, inl, inr, subst, arith}
 use Rattle.std.proofs.lemmas.Bool.{cases_eq}
 use Rattle.std.proofs.lemmas.List.{get_or-set_same, get_or-set_other, length-set}
 use Rattle.nc_num.specs.Memory.{byte}
+use Rattle.nc_num.specs.Places.{covers}
 use Rattle.nc_num.specs.declared.names.HartNo.{HartNo}
 use Rattle.nc_num.specs.declared.names.MapId.{MapId}
 use Rattle.nc_num.specs.declared.places.Span.{Span}
 use Rattle.nc_model.specs.declared.owners.Owner.{Owner}
+use Rattle.nc_model.specs.declared.owners.Owner.TheVariants.{Pool}
+use Rattle.nc_scen.specs.Regions.{pool_of}
 use Rattle.nc_scen.specs.declared.scenario.Scenario.{Scenario}
 use Rattle.nc_rules.specs.declared.lots.Lot.{Lot}
 use Rattle.nc_rules.specs.declared.steps.Phase.{Phase}
-use Rattle.nc_rules.specs.declared.steps.Phase.TheVariants.{Steps}
-use Rattle.nc_rules.specs.declared.steps.Step.{Step}
-use Rattle.nc_rules.specs.Machine.{MachineState}
+use Rattle.nc_rules.specs.Machine.{MachineState, queue_of}
 use Rattle.nc_rules.specs.Lots.{Fixed}
 use Rattle.nc_rules.specs.Driver.{DriverState, Went}
 use Rattle.nc_rules.specs.Watched.{owner_of}
 use Rattle.nc_rules.specs.World.{WorldState, driver_of, no_driver, owners_moved}
 use Rattle.nc_holds.specs.Rests.{RestAt}
-use Rattle.nc_rows.specs.Rows.{Loan, Book, Row}
-use Rattle.nc_rows.specs.Parts.{Queued, Uncached, Lasts}
-use Rattle.nc_flatness.specs.Books.{loan_of, number_in, book_of}
-use Rattle.nc_flatness.specs.Flatness.{IsDirect, IsStill, StandsAt, Drives, BytesStand, Flatness}
+use Rattle.nc_rows.specs.Ahead.{is_full}
+use Rattle.nc_rows.specs.Rows.{Book, Row}
+use Rattle.nc_rows.specs.Parts.{Queued, Uncached}
+use Rattle.nc_flatness.specs.Books.{loan_of, number_in, book_of, mapping_in, LiesIn}
+use Rattle.nc_flatness.specs.Flatness.{IsStill, StandsAt, Drives, BytesStand, Flatness}
 use Rattle.nc_flatness.proofs.Outcomes.{gone}
 use Rattle.nc_flatness.proofs.Rests.{lasts_of}
 use Rattle.nc_flat_scripts.proofs.ScriptCalls.{Idles, GoesIdle, IsIdle}
@@ -96,9 +99,13 @@ pub record StandsIn (sc : Scenario) (g : List ℕ) (w : WorldState) (n : Machine
   pub rows : (x : ℕ) → x < sc.ram → Row (book_of w) (owner_of w x) (byte g x) n x
   pub queued : Queued (book_of w) (owner_of w) n
   pub uncached : Uncached (book_of w) (owner_of w) n
+  pub unfenced : (g : ℕ) → list_any is_full (queue_of n g) ≡ false
 
 abbrev pub put : WorldState → List Owner → WorldState
 put w os = record w { owners = os }
+
+swap : (P : Book → (ℕ → Owner) → Type 0) (a b : Book) (o q : ℕ → Owner) → b ≡ a → q ≡ o → P a o → P b q
+swap P a b o q book same p = subst (λ (k : Book). P k q) (sym book) (subst (λ (k : ℕ → Owner). P a k) (sym same) p)
 
 pub idle_stands : (sc : Scenario) (f g : List ℕ) (w : WorldState) (h : HartNo) (n : MachineState) (went : Went) → Flatness sc f w → h.0 < length sc.harts → IsIdle (driver_of w h.0) → GoesIdle (driver_of w h.0) went [] → StandsIn sc g w n
     → BytesStand sc g (gone w h n went)
@@ -111,10 +118,11 @@ idle_stands sc f g w h n went flat lt was idle is =
     record {
       flat_size = is.flat_size;
       drives = drives;
-      placed = rw (same, book) flat.bytes.placed;
-      pooled = rw same flat.bytes.pooled;
-      rows = rw (same, book) is.rows;
-      queued = rw (same, book) is.queued;
-      uncached = rw (same, book) is.uncached;
+      placed = swap (λ (a : Book) (o : ℕ → Owner). (x : ℕ) (k : MapId) → x < sc.ram → mapping_in (o x) ≡ Some k → LiesIn (a.loan k) x) (book_of w) (book_of v) (owner_of w) (owner_of v) book same flat.bytes.placed;
+      pooled = swap (λ (a : Book) (o : ℕ → Owner). (x : ℕ) → covers (pool_of sc) x ≡ true → o x ≡ Pool) (book_of w) (book_of v) (owner_of w) (owner_of v) book same flat.bytes.pooled;
+      rows = swap (λ (a : Book) (o : ℕ → Owner). (x : ℕ) → x < sc.ram → Row a (o x) (byte g x) n x) (book_of w) (book_of v) (owner_of w) (owner_of v) book same is.rows;
+      queued = swap (λ (a : Book) (o : ℕ → Owner). Queued a o n) (book_of w) (book_of v) (owner_of w) (owner_of v) book same is.queued;
+      uncached = swap (λ (a : Book) (o : ℕ → Owner). Uncached a o n) (book_of w) (book_of v) (owner_of w) (owner_of v) book same is.uncached;
+      unfenced = is.unfenced;
       lasts = lasts_of g v n (length sc.harts) (drivers_count sc f w h n went flat) drives;
     }

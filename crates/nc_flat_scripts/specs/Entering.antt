@@ -1,5 +1,6 @@
 -- What is asked of an entry that a script, or a hart that passes a buffer, puts in its queue. This project's own.
 use Rattle.std.specs.Prelude.{ℕ, ◌≡◌, ◌⊎◌, ◌/◌, true, false, Option, Some, None}
+use Rattle.nc_num.specs.declared.names.HartNo.{HartNo}
 use Rattle.nc_num.specs.declared.names.MapId.{MapId}
 use Rattle.nc_queue.specs.Entries.{entry_gives}
 use Rattle.nc_queue.specs.declared.entry.Entry.{Entry}
@@ -23,6 +24,10 @@ pub record IsPlain (e : Entry) : Type 0 where
 -- nor a message
 abbrev pub IsNoMail : Entry → Type 0
 IsNoMail e = (b : ℕ) → is_mail b (bare e) ≡ false
+
+-- nor one of the buffer of place x, if hart h passes it on
+abbrev pub IsNotIts : Book → (ℕ → Owner) → ℕ → Entry → ℕ → Type 0
+IsNotIts a owner h e x = (j g : HartNo) → owner x ≡ Passing j g → j.0 ≡ h → is_mail (a.buffer x) (bare e) ≡ false
 
 -- the channel sees the mapping's place where it is, and what it may write is whole blocks of the mapping
 pub record IsDirect (l : Loan) (owner : ℕ → Owner) (s x : ℕ) : Type 0 where

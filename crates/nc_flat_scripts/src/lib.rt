@@ -1,4 +1,9 @@
-//! Scripts: what the events of operations that go by number, and those of passing buffers, keep of flat memory.
+//! Scripts: what a step of an operation that goes by number, or that passes a buffer, keeps of flat memory.
 //!
-//! The crate has no code. The contract for the layers above: the laws.
+//! The crate has no code. A step is a touch, or its loads show flat memory and its stores write it, and the rows stand
+//! behind it. The contract for the layers above: the law.
 #![tactic(auto)]
+
+mod laws;
+
+pub use laws::steps_go;

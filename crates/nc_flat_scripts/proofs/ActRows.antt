@@ -1,0 +1,137 @@
+-- The bytes of flat memory in a machine that an act of a script leaves.
+use Rattle.std.specs.Prelude.{Option, Some, None, true, false, All, unwrap_or, ◌/◌}
+use Rattle.std.specs.List.{list_any}
+use Rattle.std.proofs.Common.{◌≡◌, ◌≢◌, ℕ, List, [], ◌∷◌, ◌++◌, length, refl, sym, ap, ◌∙◌, inl, inr, subst}
+use Rattle.std.proofs.lemmas.Bool.{cases_eq, false≢true}
+use Rattle.std.proofs.lemmas.List.Elements.{All-push}
+use Rattle.nc_num.specs.Memory.{byte}
+use Rattle.nc_num.specs.Places.{covers, block_at}
+use Rattle.nc_num.specs.declared.names.MemType.{MemType}
+use Rattle.nc_num.specs.declared.places.Span.{Span}
+use Rattle.nc_queue.specs.Entries.{entry_gives}
+use Rattle.nc_queue.specs.declared.entry.Entry.{Entry}
+use Rattle.nc_queue.specs.declared.entry.Entry.TheVariants.{Store, Cbo, Reg, Mail, Lend, Mark}
+use Rattle.nc_lines.specs.Lines.{bare}
+use Rattle.nc_model.specs.declared.owners.Owner.{Owner}
+use Rattle.nc_model.specs.declared.owners.Owner.TheVariants.{Thread, Passing, Lending, Device, Returning, Synced, Pool}
+use Rattle.nc_scen.specs.declared.scenario.Scenario.{Scenario}
+use Rattle.nc_rules.specs.Machine.{MachineState, queue_of}
+use Rattle.nc_rules.specs.Watched.{owner_of}
+use Rattle.nc_rules.specs.World.{WorldState, driver_of}
+use Rattle.nc_calls.specs.MachineLaws.{SameShape}
+use Rattle.nc_calls.specs.PlaceLaws.{NotHeld, Stays, Loads}
+use Rattle.nc_rows.specs.Ahead.{is_full}
+use Rattle.nc_rows.specs.Rows.{Loan, Book, Row}
+use Rattle.nc_rows.specs.Laws.{seen_at, is_lent_area, area_of}
+use Rattle.nc_rows.specs.Parts.{IsQueued, Queued, Uncached}
+use Rattle.nc_rows.proofs.PlaceFrames.{of_same}
+use Rattle.nc_rows.proofs.Kept.{rows_keep}
+use Rattle.nc_row_issues.specs.Laws.{Enters}
+use Rattle.nc_row_issues.proofs.RowIssues.{rows_issue}
+use Rattle.nc_flatness.specs.Books.{book_of}
+use Rattle.nc_flatness.specs.Flatness.{IsStill, Flatness}
+use Rattle.nc_flat_scripts.specs.Entering.{IsPlain, IsNoMail, LoanIsDirect, OwnerIsDirect}
+use Rattle.nc_flat_scripts.proofs.EntryRows.{Comes, row_entered}
+use Rattle.nc_flat_scripts.proofs.OwnPlaces.{direct_at, unlent_at}
+use Rattle.nc_flat_scripts.proofs.StepFrames.{StandsIn}
+
+-- ---- no act
+
+pub stands_now : (sc : Scenario) (f : List ℕ) (w : WorldState) → Flatness sc f w → StandsIn sc f w w.machine
+stands_now sc f w flat = record { flat_size = flat.bytes.flat_size; rows = flat.bytes.rows; queued = flat.bytes.queued; uncached = flat.bytes.uncached; unfenced = flat.bytes.unfenced }
+
+-- ---- queues and copies that stay
+
+queued_same : (a : Book) (owner : ℕ → Owner) (m n : MachineState) → SameShape m n → ((g : ℕ) → queue_of n g ≡ queue_of m g) → Queued a owner m → Queued a owner n
+queued_same a owner m n shape same queued = λ g. rw (shape.pool, shape.size, same g) (queued g)
+
+uncached_by : (a : Book) (owner : ℕ → Owner) (m n : MachineState) → SameShape m n → ((x : ℕ) → covers m.pool x ≡ true → NotHeld m x → NotHeld n x) → Uncached a owner m → Uncached a owner n
+uncached_by a owner m n shape keep uncached = λ x over.
+    let was : covers m.pool x ≡ true = subst (λ (p : Span). covers p x ≡ true) shape.pool over in
+    elim (uncached x was) [ inl none ↦ inl (keep x was none) | inr may ↦ inr may ]
+
+-- ---- a claim, a take
+
+pub stays_stand : (sc : Scenario) (f : List ℕ) (w : WorldState) (n : MachineState) → Flatness sc f w → SameShape w.machine n → Stays w.machine n → StandsIn sc f w n
+stays_stand sc f w n flat shape stays =
+    let m = w.machine in
+    let a = book_of w in
+    record {
+      flat_size = flat.bytes.flat_size;
+      rows = λ x lt.
+          let o = owner_of w x in
+          rows_keep.kept a o (byte f x) m n x (record { size = shape.size; queues = stays.queues }) (of_same m n x (stays.places x)) (of_same m n (seen_at a o x) (stays.places (seen_at a o x)))
+          (λ area none. (stays.places x).line ∙ none) (flat.bytes.rows x lt);
+      queued = queued_same a (owner_of w) m n shape stays.queues flat.bytes.queued;
+      uncached = uncached_by a (owner_of w) m n shape (λ x over none. (stays.places x).line ∙ none) flat.bytes.uncached;
+      unfenced = λ g. ap (list_any is_full) (stays.queues g) ∙ flat.bytes.unfenced g;
+    }
+
+-- ---- a load
+
+loan_area : (o : Option Loan) (owner : ℕ → Owner) (s x : ℕ) → LoanIsDirect o owner s x → area_of o ≡ false
+loan_area None owner s x direct = refl
+loan_area (Some l) owner s x direct = direct.area
+
+no_area : (a : Book) (o : Owner) (owner : ℕ → Owner) (s x : ℕ) → OwnerIsDirect a owner s x o → is_lent_area a o ≡ false
+no_area a (Lending n) owner s x direct = loan_area (a.loan n) owner s x direct
+no_area a (Thread h) owner s x direct = refl
+no_area a (Passing h g) owner s x direct = refl
+no_area a (Device n) owner s x direct = refl
+no_area a (Returning n) owner s x direct = refl
+no_area a (Synced n) owner s x direct = refl
+no_area a Pool owner s x direct = refl
+
+-- one that brings no block of the coherent pool
+pub load_stands : (sc : Scenario) (f : List ℕ) (w : WorldState) (n : MachineState) (h : ℕ) (span : Span) (kind : MemType) → Flatness sc f w → SameShape w.machine n → Loads w.machine n h span kind
+    → ((x : ℕ) → covers w.machine.pool x ≡ true → x / w.machine.size ≢ block_at span.at w.machine.size) → StandsIn sc f w n
+load_stands sc f w n h span kind flat shape loads beside =
+    let m = w.machine in
+    let a = book_of w in
+    record {
+      flat_size = flat.bytes.flat_size;
+      rows = λ x lt.
+          let o = owner_of w x in
+          rows_issue.loaded a o (byte f x) m n h span kind x shape loads (λ area. absurd (false≢true (sym (no_area a o (owner_of w) m.size x (direct_at sc f w x flat lt)) ∙ area))) (flat.bytes.rows x lt);
+      queued = queued_same a (owner_of w) m n shape loads.queues flat.bytes.queued;
+      uncached = uncached_by a (owner_of w) m n shape (λ x over none. (loads.apart x (λ pma. beside x over)).line ∙ none) flat.bytes.uncached;
+      unfenced = λ g. ap (list_any is_full) (loads.queues g) ∙ flat.bytes.unfenced g;
+    }
+
+-- ---- an entry
+
+bare_full : (e : Entry) → is_full (bare e) ≡ is_full e
+bare_full (Store span bytes kind) = refl
+bare_full (Cbo block op) = refl
+bare_full (Reg chan off width value) = refl
+bare_full (Mail buf to) = refl
+bare_full (Lend label first count) = refl
+bare_full (Mark pred succ) = refl
+
+pub plain_unfenced : (e : Entry) → IsPlain e → is_full e ≡ false
+plain_unfenced e plain = sym (bare_full e) ∙ plain.fence
+
+pub queued_more : (a : Book) (owner : ℕ → Owner) (m k : MachineState) (h : ℕ) (e : Entry) → Enters m k h e → IsQueued a owner m.pool m.size h e → Queued a owner m → Queued a owner k
+queued_more a owner m k h e by is queued = λ g. rw (by.shape.pool, by.shape.size) (elim (cases_eq g h) [
+  | inl same ↦
+      let here : queue_of k g ≡ queue_of m h ++ e ∷ [] = ap (queue_of k) same ∙ by.pushes.queues.own in
+      subst (λ (j : ℕ). All (IsQueued a owner m.pool m.size j) (queue_of k g)) (sym same)
+      (subst (λ (q : List Entry). All (IsQueued a owner m.pool m.size h) q) (sym here) (All-push (IsQueued a owner m.pool m.size h) (queue_of m h) e (queued h) is))
+  | inr ne ↦ subst (λ (q : List Entry). All (IsQueued a owner m.pool m.size g) q) (sym (by.pushes.queues.others g ne)) (queued g)
+])
+
+-- flat memory g has the bytes that the entry gives
+pub entry_stands : (sc : Scenario) (f g : List ℕ) (w : WorldState) (k : MachineState) (h : ℕ) (e : Entry) → Flatness sc f w → Enters w.machine k h e → Comes (book_of w) (owner_of w) w.machine h e → IsNoMail e → All IsStill (driver_of w h).lots
+    → IsQueued (book_of w) (owner_of w) w.machine.pool w.machine.size h e → length g ≡ length f → ((x : ℕ) → byte g x ≡ unwrap_or (entry_gives w.machine.size e x) (byte f x)) → StandsIn sc g w k
+entry_stands sc f g w k h e flat by comes quiet still is long bytes =
+    let m = w.machine in
+    let a = book_of w in
+    record {
+      flat_size = long ∙ flat.bytes.flat_size;
+      rows = λ x lt.
+          subst (λ (v : ℕ). Row a (owner_of w x) v k x) (sym (bytes x))
+          (row_entered a (owner_of w) (byte f x) m k h e x by comes (direct_at sc f w x flat lt) (unlent_at sc f w h x flat still lt) (λ j g passing own. quiet (a.buffer x)) (flat.bytes.rows x lt));
+      queued = queued_more a (owner_of w) m k h e by is flat.bytes.queued;
+      uncached = uncached_by a (owner_of w) m k by.shape (λ x over none. (by.pushes.places x).line ∙ none) flat.bytes.uncached;
+      unfenced = λ g. by.pushes.queues.none is_full g (plain_unfenced e comes.plain) (flat.bytes.unfenced g);
+    }
