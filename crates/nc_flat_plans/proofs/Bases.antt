@@ -1,30 +1,28 @@
 -- The lots of a hart just before a turn of one of them: those that it has, and one that map makes.
-use Rattle.std.specs.Prelude.{Option, Some, None, All, ◌&&◌, ◌==◌, ◌||◌, not, Bool, true, false, if◌then◌else◌, map, filter, option_map}
-use Rattle.std.specs.List.{list_any, find}
-use Rattle.std.proofs.Common.{◌≡◌, ◌⊎◌, ℕ, ◌<◌, List, [], ◌∷◌, ◌++◌, length, refl, sym, ap, ◌∙◌, inl, inr, subst}
-use Rattle.std.proofs.lemmas.Bool.{cases_Bool, both_ways, cond-true, cond-false, eqb-true, eq-eqb, and_from, or_parts, not_from_true, not_from_false}
+use Rattle.std.specs.Prelude.{All, not, true, false, option_map}
+use Rattle.std.specs.List.{list_any}
+use Rattle.std.proofs.Common.{◌≡◌, ℕ, List, [], ◌∷◌, ◌++◌, refl, sym, ap, ◌∙◌, inl, inr, subst}
+use Rattle.std.proofs.lemmas.Bool.{cases_Bool, both_ways, cond-true, cond-false, eq-eqb, not_from_true, not_from_false}
 use Rattle.std.proofs.lemmas.List.Elements.{All-nil, All-cons, All-head, All-tail, All-append}
-use Rattle.nc_num.specs.declared.names.HartNo.{HartNo}
 use Rattle.nc_num.specs.declared.names.Label.{Label}
 use Rattle.nc_num.specs.declared.names.MapId.{MapId}
 use Rattle.nc_plan.specs.Plans.{In}
 use Rattle.nc_sg.specs.declared.list.Entry.{Entry}
-use Rattle.nc_rules.specs.declared.lots.Kind.TheVariants.{Single}
 use Rattle.nc_rules.specs.declared.lots.Lot.{Lot}
 use Rattle.nc_rules.specs.declared.lots.LotId.{LotId}
 use Rattle.nc_rules.specs.declared.lots.Side.{Side}
-use Rattle.nc_rules.specs.Lots.{Fixed, is_lot, is_labelled, is_named, is_wanted, lot_named}
+use Rattle.nc_rules.specs.Lots.{Fixed, is_lot, is_labelled, is_wanted}
 use Rattle.nc_rules.specs.Turns.{with_side, set_side}
 use Rattle.nc_rules.specs.Driver.{DriverState}
 use Rattle.nc_scripts.specs.Drivers.{IsLotIn, AreApart}
-use Rattle.nc_scripts.proofs.Lists.{found, all_in, none_any, all_to}
+use Rattle.nc_scripts.proofs.Lists.{all_in, all_to}
 use Rattle.nc_scripts.proofs.LotLaws.{its_name}
 use Rattle.nc_holds.proofs.OwnerLots.{same_lot}
 use Rattle.nc_flatness.specs.Books.{loan_by, loan_of}
 use Rattle.nc_flatness.specs.Flatness.{IsDirect, IsStill}
 use Rattle.nc_flatness.proofs.Loans.{IsDirectLot, direct_lot}
-use Rattle.nc_flat_plans.proofs.Elements.{all_at, in_left, in_right, of_append, none_at}
-use Rattle.nc_flat_plans.proofs.Lots.{loan_in, without_lot, IsSingle, IsAlone, other_set, more_wanted}
+use Rattle.nc_flat_plans.proofs.Elements.{all_at, in_right, of_append, none_at}
+use Rattle.nc_flat_plans.proofs.Lots.{loan_in, without_lot, IsSingle, IsAlone, more_wanted}
 
 -- ---- the base of a turn
 

@@ -1,7 +1,7 @@
 -- A lot is lent: by map, or by a sync back to the device.
-use Rattle.std.specs.Prelude.{Option, Some, None, All, ◌/◌, ◌-◌, Bool, true, false, option_map, flat_map}
+use Rattle.std.specs.Prelude.{Option, Some, ◌/◌, true, false, option_map, flat_map}
 use Rattle.std.specs.List.{list_any}
-use Rattle.std.proofs.Common.{◌≡◌, ◌≢◌, ◌⊎◌, ℕ, ◌+◌, ◌<◌, ◌≤◌, List, [], ◌∷◌, ◌++◌, length, refl, sym, ap, ◌∙◌, inl, inr, subst, arith}
+use Rattle.std.proofs.Common.{◌≡◌, ℕ, ◌<◌, List, [], ◌∷◌, length, refl, sym, ap, ◌∙◌, inl, inr, subst, arith}
 use Rattle.std.proofs.lemmas.Bool.{both_ways}
 use Rattle.nc_num.specs.Memory.{byte}
 use Rattle.nc_num.specs.Places.{covers}
@@ -9,37 +9,32 @@ use Rattle.nc_num.specs.declared.names.HartNo.{HartNo}
 use Rattle.nc_num.specs.declared.names.Label.{Label}
 use Rattle.nc_num.specs.declared.names.MapId.{MapId}
 use Rattle.nc_num.specs.declared.places.Span.{Span}
-use Rattle.nc_env.specs.declared.CboOp.{CboOp}
 use Rattle.nc_env.specs.declared.CboOp.TheVariants as cbos
 use Rattle.nc_queue.specs.declared.entry.Entry.{Entry as QueueEntry}
 use Rattle.nc_queue.specs.declared.entry.Entry.TheVariants as entries
 use Rattle.nc_plan.specs.Parts.{comes_back}
-use Rattle.nc_plan.specs.Plans.{In, written_back, dropped}
+use Rattle.nc_plan.specs.Plans.{In, written_back}
 use Rattle.nc_plan.specs.declared.ops.HartOp.{HartOp}
 use Rattle.nc_plan.specs.declared.parts.Part.{Part}
 use Rattle.nc_model.proofs.Faults.{covers-low, covers-high}
 use Rattle.nc_model.specs.declared.owners.Owner.{Owner}
-use Rattle.nc_model.specs.declared.owners.Owner.TheVariants.{Thread, Passing, Lending, Device, Returning, Synced, Pool}
-use Rattle.nc_own.specs.Books.{owner_in}
-use Rattle.nc_ops.specs.declared.ops.Op.{Op}
+use Rattle.nc_model.specs.declared.owners.Owner.TheVariants.{Lending, Returning, Pool}
 use Rattle.nc_scen.specs.declared.scenario.Scenario.{Scenario}
 use Rattle.nc_sg.specs.declared.list.Entry.{Entry}
 use Rattle.nc_sg.specs.Lists as sg
 use Rattle.nc_rules.specs.declared.lots.Kind.TheVariants.{Single}
 use Rattle.nc_rules.specs.declared.lots.Lot.{Lot}
-use Rattle.nc_rules.specs.declared.lots.LotId.{LotId}
-use Rattle.nc_rules.specs.declared.lots.Side.{Side}
 use Rattle.nc_rules.specs.declared.lots.Side.TheVariants as sides
 use Rattle.nc_rules.specs.declared.steps.Phase.TheVariants.{Work}
 use Rattle.nc_rules.specs.declared.steps.Seen.{Seen}
 use Rattle.nc_rules.specs.declared.steps.Step.{Step}
 use Rattle.nc_rules.specs.declared.steps.Turn.{Turn}
 use Rattle.nc_rules.specs.declared.steps.Turn.TheVariants as turns
-use Rattle.nc_rules.specs.Lots.{Fixed, is_named, parts, owner_of_side}
-use Rattle.nc_rules.specs.Machine.{MachineState, queue_of}
+use Rattle.nc_rules.specs.Lots.{Fixed, is_named, parts}
+use Rattle.nc_rules.specs.Machine.{queue_of}
 use Rattle.nc_rules.specs.Plans.{lend_steps}
 use Rattle.nc_rules.specs.Turns.{set_side}
-use Rattle.nc_rules.specs.Driver.{DriverState, Went, in_hand, went_to, stands, with_lots}
+use Rattle.nc_rules.specs.Driver.{DriverState, Went, went_to, stands, with_lots}
 use Rattle.nc_rules.specs.Watched.{owner_of}
 use Rattle.nc_rules.specs.World.{WorldState, driver_of}
 use Rattle.nc_scripts.specs.Drivers.{IsEntryIn, IsLotIn, BouncesSo}
@@ -47,26 +42,25 @@ use Rattle.nc_scripts.proofs.Lists.{all_in, all_to}
 use Rattle.nc_scripts.proofs.LotLaws.{its_name}
 use Rattle.nc_rows.specs.Ahead.{names, is_full, coming, sending}
 use Rattle.nc_rows.specs.Places.{ThreadRow, Alone}
-use Rattle.nc_rows.specs.Rows.{Loan, Book, device_place, gives_here, gives_block, back, ahead_of, LentRow, Row}
+use Rattle.nc_rows.specs.Rows.{Loan, Book, gives_here, gives_block, back, ahead_of, LentRow, Row}
 use Rattle.nc_rows.specs.Parts.{IsQueued, rest_last}
-use Rattle.nc_rows.proofs.Steps.{steps_ahead}
 use Rattle.nc_row_plans.specs.Begins.{LendsAhead, NoneQueued}
 use Rattle.nc_row_plans.specs.Plans.{IsEntryOf, IsPlaceOf}
 use Rattle.nc_row_plans.proofs.LendingPlans.{plans_lend}
-use Rattle.nc_flatness.specs.Books.{loan_by, loan_of, book_of, mapping_in, LiesIn}
-use Rattle.nc_flatness.specs.Flatness.{IsDirect, IsStill, IsPlanOf, PlanIs, PlanOf, Drives, Flatness}
+use Rattle.nc_flatness.specs.Books.{loan_by, loan_of, book_of, LiesIn}
+use Rattle.nc_flatness.specs.Flatness.{IsPlanOf, Drives}
 use Rattle.nc_flatness.proofs.Outcomes.{gone}
 use Rattle.nc_flat_plans.specs.Turning.{IsDirectAt, IsLentBy}
 use Rattle.nc_flat_plans.proofs.Turning.{plans_turn}
 use Rattle.nc_flat_plans.proofs.Elements.{all_at}
-use Rattle.nc_flat_plans.proofs.Lots.{loan_in, IsSingle, IsAlone, its_id, its_loan, loan_here, other_set, side_one}
+use Rattle.nc_flat_plans.proofs.Lots.{its_id, its_loan, loan_here, other_set, side_one}
 use Rattle.nc_flat_plans.proofs.Frames.{loan_hart, rest_hart}
 use Rattle.nc_flat_plans.proofs.LotTurns.{IsLotTurn}
-use Rattle.nc_flat_plans.proofs.PlanLists.{left_of, AreCbos, the_part, parts_is, direct_device, lend_left, left_sends, left_last, written_cbos}
+use Rattle.nc_flat_plans.proofs.PlanLists.{left_of, the_part, parts_is, direct_device, lend_left, left_sends, left_last, written_cbos}
 use Rattle.nc_flat_plans.proofs.Starts.{GoesSo}
 use Rattle.nc_flat_plans.proofs.Blocks.{none_in_block, whole_range}
-use Rattle.nc_flat_plans.proofs.Bases.{IsBase, turned_lot, set_direct, set_here, set_alone, set_single, set_others}
-use Rattle.nc_flat_plans.proofs.Harts.{IsAt, driven, holds, sizes, writing, full_fences, no_areas, unnamed, queues_fit, its_hart}
+use Rattle.nc_flat_plans.proofs.Bases.{IsBase, turned_lot, set_here, set_alone, set_single, set_others}
+use Rattle.nc_flat_plans.proofs.Harts.{IsAt, driven, sizes, writing, full_fences, no_areas, unnamed, queues_fit, its_hart}
 
 -- ---- what is common to all turns
 

@@ -1,5 +1,5 @@
 -- A queue that gives no byte of a block has no entry that gives in it.
-use Rattle.std.specs.Prelude.{Option, Some, None, ◌&&◌, ◌||◌, ◌==◌, ◌-◌, ◌/◌, ◌%◌, not, nat_lt, Bool, true, false, if◌then◌else◌, is_some}
+use Rattle.std.specs.Prelude.{Option, Some, None, ◌&&◌, ◌||◌, ◌==◌, ◌-◌, ◌/◌, ◌%◌, not, nat_lt, Bool, true, false, is_some}
 use Rattle.std.specs.List.{list_any}
 use Rattle.std.proofs.Common.{◌≡◌, ℕ, ◌*◌, ◌+◌, ◌<◌, ◌≤◌, List, [], ◌∷◌, refl, sym, ap, ◌∙◌, subst, arith}
 use Rattle.std.proofs.lemmas.Bool.{and_parts, both_ways, or_parts, or_from, cond-true, eqb-true, eq-eqb, false_from_ne_true, not-false}
@@ -9,10 +9,9 @@ use Rattle.nc_num.specs.Sizes.{IsBlockSize}
 use Rattle.nc_num.specs.declared.places.Block.{Block}
 use Rattle.nc_num.specs.declared.places.Span.{Span}
 use Rattle.nc_num.specs.declared.names.MemType.{MemType}
-use Rattle.nc_env.specs.declared.CboOp.{CboOp}
 use Rattle.nc_env.specs.declared.CboOp.TheVariants as cbos
 use Rattle.nc_model.proofs.Faults.{covers-from, covers-low, covers-high}
-use Rattle.nc_queue.specs.Entries.{entry_gives, gives_in, Fits, AllFit}
+use Rattle.nc_queue.specs.Entries.{gives_in, Fits, AllFit}
 use Rattle.nc_queue.specs.Rules.{gives}
 use Rattle.nc_queue.specs.declared.entry.Entry.{Entry}
 use Rattle.nc_queue.specs.declared.entry.Entry.TheVariants as entries

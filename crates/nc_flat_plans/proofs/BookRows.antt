@@ -1,20 +1,17 @@
 -- A row stays where its books say the same of it.
 use Rattle.std.specs.Prelude.{Option, Some, None}
 use Rattle.std.specs.List.{list_any}
-use Rattle.std.proofs.Common.{◌≡◌, ℕ, Bool, true, false, List, refl, sym, ap, ◌∙◌, subst}
+use Rattle.std.proofs.Common.{◌≡◌, ℕ, Bool, List, sym, ap, ◌∙◌, subst}
 use Rattle.nc_num.specs.declared.names.MapId.{MapId}
 use Rattle.nc_queue.specs.declared.entry.Entry.{Entry}
-use Rattle.nc_queue.specs.Entries.{is_wo}
-use Rattle.nc_queue.specs.Laws.{Covered}
-use Rattle.nc_lines.specs.Lines.{line}
 use Rattle.nc_model.specs.declared.owners.Owner.{Owner}
 use Rattle.nc_model.specs.declared.owners.Owner.TheVariants.{Thread, Passing, Lending, Device, Returning, Synced, Pool}
 use Rattle.nc_rules.specs.declared.steps.Step.{Step}
-use Rattle.nc_rules.specs.Machine.{MachineState, queue_of}
-use Rattle.nc_rows.specs.Ahead.{is_full, is_mail, settling, sending}
+use Rattle.nc_rules.specs.Machine.{MachineState}
+use Rattle.nc_rows.specs.Ahead.{is_full, settling, sending}
 use Rattle.nc_rows.specs.Places.{ThreadRow}
-use Rattle.nc_rows.specs.Rows.{Loan, Book, device_place, gives_here, PassingRow, LendingTo, LendingFrom, AllocatingRow, GivingRow, DeviceTo, DroppingRow, ComingRow, Either, ByDir, ahead_of, LentRow, DeviceRow, BackRow, SyncedRow, Row}
-use Rattle.nc_flat_plans.specs.Books.{SameComing, SameLoan, ReadsAlike, BooksCarry}
+use Rattle.nc_rows.specs.Rows.{Loan, Book, device_place, PassingRow, LendingTo, LendingFrom, AllocatingRow, GivingRow, DeviceTo, DroppingRow, ComingRow, Either, ByDir, ahead_of, LentRow, DeviceRow, BackRow, SyncedRow, Row}
+use Rattle.nc_flat_plans.specs.Books.{SameLoan, ReadsAlike, BooksCarry}
 
 passing_same : (h v b d : ℕ) (rest left : List Step) (m : MachineState) (x : ℕ) → d ≡ b → sending b left ≡ sending b rest → PassingRow h v b rest m x → PassingRow h v d left m x
 passing_same h v b d rest left m x buffer same row =

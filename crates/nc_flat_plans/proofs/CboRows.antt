@@ -1,33 +1,19 @@
 -- A cache operation of a plan is issued: it leaves each row, and goes off from what the plan of its lot is still to put.
-use Rattle.std.specs.Prelude.{Option, Some, None, All, Bool, true, false, ◌||◌, ◌/◌}
-use Rattle.std.specs.List.{list_any}
-use Rattle.std.proofs.Common.{◌≡◌, ◌≢◌, ◌⊎◌, ℕ, ◌<◌, ◌≤◌, List, [], ◌∷◌, ◌++◌, length, refl, sym, ap, ◌∙◌, inl, inr, subst, arith}
-use Rattle.std.proofs.lemmas.Bool.{cases_Bool, cases_eq, both_ways, or_left, or_right, true≢false, false≢true}
-use Rattle.std.proofs.lemmas.List.Elements.{All-head, All-nil, All-append, All-cons}
-use Rattle.nc_num.specs.Memory.{byte}
-use Rattle.nc_num.specs.Places.{covers}
+use Rattle.std.specs.Prelude.{Option, Some, None, All, Bool, true, false}
+use Rattle.std.proofs.Common.{◌≡◌, ◌⊎◌, ℕ, ◌<◌, List, [], ◌∷◌, length, refl, sym, ap, ◌∙◌, inl, inr, subst, arith}
+use Rattle.std.proofs.lemmas.Bool.{cases_eq}
+use Rattle.std.proofs.lemmas.List.Elements.{All-head, All-cons}
 use Rattle.nc_num.specs.declared.names.HartNo.{HartNo}
-use Rattle.nc_num.specs.declared.names.Label.{Label}
 use Rattle.nc_num.specs.declared.names.MapId.{MapId}
 use Rattle.nc_num.specs.declared.places.Block.{Block}
-use Rattle.nc_num.specs.declared.places.Span.{Span}
 use Rattle.nc_env.specs.declared.CboOp.{CboOp}
-use Rattle.nc_env.specs.declared.CboOp.TheVariants as cbos
-use Rattle.nc_queue.specs.Entries.{writes_back}
 use Rattle.nc_queue.specs.declared.entry.Entry.{Entry}
 use Rattle.nc_queue.specs.declared.entry.Entry.TheVariants as entries
-use Rattle.nc_plan.specs.Parts.{comes_back}
-use Rattle.nc_plan.specs.Plans.{In, blocks, written_back, dropped, lend_op, return_op}
-use Rattle.nc_plan.specs.declared.effects.Effects.{Effects}
+use Rattle.nc_plan.specs.Plans.{In}
 use Rattle.nc_plan.specs.declared.ops.HartOp.{HartOp}
 use Rattle.nc_plan.specs.declared.ops.HartOp.TheVariants as hart_ops
-use Rattle.nc_plan.specs.declared.parts.Part.{Part}
-use Rattle.nc_plan.proofs.PlanLaws.{blocks_are_met}
-use Rattle.nc_hart.specs.Issue.{entry_of}
-use Rattle.nc_model.proofs.Faults.{covers-from}
 use Rattle.nc_model.specs.declared.owners.Owner.{Owner}
 use Rattle.nc_model.specs.declared.owners.Owner.TheVariants.{Thread, Passing, Lending, Device, Returning, Synced, Pool}
-use Rattle.nc_scen.specs.Regions.{pool_of}
 use Rattle.nc_scen.specs.declared.scenario.Scenario.{Scenario}
 use Rattle.nc_rules.specs.declared.lots.Lot.{Lot}
 use Rattle.nc_rules.specs.declared.lots.LotId.{LotId}
@@ -35,42 +21,33 @@ use Rattle.nc_rules.specs.declared.lots.Side.{Side}
 use Rattle.nc_rules.specs.declared.lots.Side.TheVariants as sides
 use Rattle.nc_rules.specs.declared.steps.Step.{Step}
 use Rattle.nc_rules.specs.declared.steps.Turn.{Turn}
-use Rattle.nc_rules.specs.declared.steps.Turn.TheVariants as turns
-use Rattle.nc_rules.specs.Lots.{Fixed, is_lot, is_wanted, parts, owner_of_side}
-use Rattle.nc_rules.specs.Machine.{MachineState, hart_of, queue_of}
+use Rattle.nc_rules.specs.Lots.{is_lot, owner_of_side}
 use Rattle.nc_rules.specs.Calls.{may_issue, issue_next}
 use Rattle.nc_rules.specs.Plans.{hart_step}
-use Rattle.nc_rules.specs.Driver.{DriverState, Went}
+use Rattle.nc_rules.specs.Driver.{Went}
 use Rattle.nc_rules.specs.Sound.{OpIsThere}
 use Rattle.nc_rules.specs.Watched.{owner_of}
-use Rattle.nc_rules.specs.World.{WorldState, driver_of, owners_moved, hart}
-use Rattle.nc_calls.specs.MachineLaws.{SameShape}
-use Rattle.nc_calls.specs.PlaceLaws.{NotHeld, Pushes, drops_copies}
+use Rattle.nc_rules.specs.World.{WorldState, driver_of, owners_moved}
 use Rattle.nc_calls.proofs.CallProofs.{issues_by_place}
 use Rattle.nc_calls.proofs.SoundLaws.{calls_keep_shape}
-use Rattle.nc_scripts.specs.Drivers.{IsDriver, StepIsThere}
-use Rattle.nc_scripts.proofs.Lists.{all_to}
+use Rattle.nc_scripts.specs.Drivers.{StepIsThere}
 use Rattle.nc_scripts.proofs.LotLaws.{named_so}
-use Rattle.nc_holds.specs.Holds.{DriverHolds}
 use Rattle.nc_holds.proofs.ListsA.{all_at}
-use Rattle.nc_rows.specs.Ahead.{turns_lot, is_full, op_coming, coming, sending, settling}
-use Rattle.nc_rows.specs.Rows.{Loan, Book, device_place, ahead_of, LentRow, BackRow, Row}
-use Rattle.nc_rows.specs.Parts.{IsDropped, IsZeroed, OpIsQueued, IsQueued, Queued, Uncached}
+use Rattle.nc_rows.specs.Ahead.{turns_lot, coming, sending, settling}
+use Rattle.nc_rows.specs.Rows.{Loan, Book, ahead_of, LentRow, BackRow, Row}
 use Rattle.nc_row_issues.specs.Laws.{Enters}
-use Rattle.nc_flatness.specs.Books.{loan_of, book_of, mapping_in, LiesIn, loan_by}
-use Rattle.nc_flatness.specs.Flatness.{IsStill, IsPlanOf, Drives, BytesStand, Flatness}
+use Rattle.nc_flatness.specs.Books.{book_of, mapping_in}
+use Rattle.nc_flatness.specs.Flatness.{IsStill, Drives, Flatness}
 use Rattle.nc_flatness.proofs.Outcomes.{gone}
-use Rattle.nc_flatness.proofs.Loans.{IsLoan, IsDirectLot, lot_direct, loan_is, device_same}
-use Rattle.nc_flatness.proofs.Owned.{id_of, IsMapped, mapped, lot_owned, lot_loan}
-use Rattle.nc_flatness.proofs.Rests.{lasts_of}
-use Rattle.nc_flatness.proofs.BookReads.{driver_here, driver_away, loan_gone, rest_away, rest_here, entry_to, none_zeroed, pool_unheld, uncached_of}
+use Rattle.nc_flatness.proofs.Loans.{loan_is}
+use Rattle.nc_flatness.proofs.Owned.{mapped}
+use Rattle.nc_flatness.proofs.BookReads.{loan_gone, rest_away, rest_here}
 use Rattle.nc_flat_plans.specs.Books.{SameLoan, ReadsAlike}
-use Rattle.nc_flat_plans.specs.Turning.{is_kept_op, is_plan_entry, IsDirectAt, LendsNot, HasNoArea}
+use Rattle.nc_flat_plans.specs.Turning.{is_kept_op, LendsNot, HasNoArea}
 use Rattle.nc_flat_plans.proofs.BookRows.{row_same}
-use Rattle.nc_flat_plans.proofs.Effects.{writes_kept, drops_kept}
 use Rattle.nc_flat_plans.proofs.Frames.{buffer_same}
-use Rattle.nc_flat_plans.proofs.PlanLists.{left_of, is_cbo, AreCbos, coming_next, coming_last, left_sends, same_id, of_written, of_dropped, written_cbos, dropped_cbos, IsOn}
-use Rattle.nc_flat_plans.proofs.Turning.{plans_turn, op_quiet}
+use Rattle.nc_flat_plans.proofs.PlanLists.{left_of, is_cbo, AreCbos, coming_next, left_sends}
+use Rattle.nc_flat_plans.proofs.Turning.{plans_turn}
 
 -- ---- the step
 

@@ -1,9 +1,9 @@
 -- The bytes of flat memory stand behind a cache operation of a plan.
-use Rattle.std.specs.Prelude.{Option, Some, None, All, flat_map, ◌-◌, slice_index_or, Bool, true, false, ◌||◌, ◌/◌}
+use Rattle.std.specs.Prelude.{Option, Some, All, flat_map, ◌-◌, slice_index_or, true, ◌/◌}
 use Rattle.std.specs.List.{list_any}
-use Rattle.std.proofs.Common.{◌≡◌, ◌≢◌, ◌⊎◌, ℕ, ◌+◌, ◌<◌, ◌≤◌, List, [], ◌∷◌, ◌++◌, length, refl, sym, ap, ◌∙◌, inl, inr, subst, arith}
+use Rattle.std.proofs.Common.{◌≡◌, ℕ, ◌+◌, ◌<◌, List, [], ◌∷◌, ◌++◌, length, refl, sym, ap, ◌∙◌, inl, inr, subst, arith}
 use Rattle.std.proofs.lemmas.List.{get_or_past, length-set}
-use Rattle.std.proofs.lemmas.Bool.{cases_eq, cases_lt, or_left, or_right, both_ways}
+use Rattle.std.proofs.lemmas.Bool.{cases_eq, cases_lt, or_right}
 use Rattle.std.proofs.lemmas.List.Elements.{All-head, All-tail, All-nil, All-append, All-cons}
 use Rattle.nc_num.specs.Memory.{byte}
 use Rattle.nc_num.specs.Places.{covers}
@@ -16,7 +16,6 @@ use Rattle.nc_env.specs.declared.CboOp.{CboOp}
 use Rattle.nc_env.specs.declared.CboOp.TheVariants as cbos
 use Rattle.nc_queue.specs.Entries.{writes_back}
 use Rattle.nc_queue.specs.declared.entry.Entry.{Entry}
-use Rattle.nc_queue.specs.declared.entry.Entry.TheVariants as entries
 use Rattle.nc_plan.specs.Parts.{comes_back}
 use Rattle.nc_plan.specs.Plans.{In, blocks, cbo, written_back, dropped, lend_op, return_op}
 use Rattle.nc_plan.specs.declared.ops.HartOp.{HartOp}
@@ -30,36 +29,32 @@ use Rattle.nc_sg.specs.declared.list.Entry.{Entry as SgEntry}
 use Rattle.nc_scen.specs.declared.scenario.Scenario.{Scenario}
 use Rattle.nc_rules.specs.declared.lots.Lot.{Lot}
 use Rattle.nc_rules.specs.declared.lots.LotId.{LotId}
-use Rattle.nc_rules.specs.declared.lots.Side.{Side}
 use Rattle.nc_rules.specs.declared.lots.Side.TheVariants as sides
 use Rattle.nc_rules.specs.declared.steps.Step.{Step}
 use Rattle.nc_rules.specs.declared.steps.Turn.{Turn}
 use Rattle.nc_rules.specs.declared.steps.Turn.TheVariants as turns
 use Rattle.nc_rules.specs.Lots.{Fixed, is_wanted, parts, owner_of_side, no_entry}
-use Rattle.nc_rules.specs.Machine.{MachineState, queue_of}
+use Rattle.nc_rules.specs.Machine.{queue_of}
 use Rattle.nc_rules.specs.Calls.{may_issue, issue_next}
 use Rattle.nc_rules.specs.Driver.{DriverState, Went}
 use Rattle.nc_rules.specs.Watched.{owner_of}
-use Rattle.nc_rules.specs.World.{WorldState, driver_of, hart}
-use Rattle.nc_calls.specs.PlaceLaws.{NotHeld, drops_copies}
+use Rattle.nc_rules.specs.World.{WorldState, driver_of}
+use Rattle.nc_calls.specs.PlaceLaws.{drops_copies}
 use Rattle.nc_scripts.proofs.Lists.{all_to}
-use Rattle.nc_rows.specs.Ahead.{turns_lot, gives_lot, is_full, op_coming, coming}
-use Rattle.nc_rows.specs.Rows.{Loan, ahead_of, Row, device_place}
-use Rattle.nc_rows.specs.Parts.{IsDropped, OpIsQueued, IsQueued, Queued, Uncached}
-use Rattle.nc_row_issues.specs.Laws.{Enters}
-use Rattle.nc_row_plans.specs.Plans.{WritesBack, DropsBlocks}
+use Rattle.nc_rows.specs.Ahead.{turns_lot, is_full, op_coming, coming}
+use Rattle.nc_rows.specs.Rows.{Loan, ahead_of, Row}
+use Rattle.nc_rows.specs.Parts.{IsDropped, OpIsQueued, IsQueued, Queued}
 use Rattle.nc_flatness.specs.Books.{book_of, mapping_in, LiesIn, loan_by}
-use Rattle.nc_flatness.specs.Flatness.{IsStill, IsPlanOf, Drives, BytesStand, Flatness}
+use Rattle.nc_flatness.specs.Flatness.{IsPlanOf, Drives, BytesStand}
 use Rattle.nc_flatness.proofs.Outcomes.{gone}
 use Rattle.nc_flatness.proofs.Loans.{IsDirectLot, lot_direct, loan_is, device_same}
 use Rattle.nc_flatness.proofs.Owned.{id_of, mapped, lot_owned, lot_loan}
 use Rattle.nc_flatness.proofs.Rests.{lasts_of}
 use Rattle.nc_flatness.proofs.BookReads.{driver_here, driver_away, rest_away, rest_here, entry_to, none_zeroed, pool_unheld, uncached_of}
-use Rattle.nc_flat_plans.specs.Turning.{is_kept_op}
-use Rattle.nc_flat_plans.proofs.CboRows.{IsOpStep, entry, behind, short, driven, enters, owner_same, loans, its_lot, returning_moves, goes_off, row_on}
+use Rattle.nc_flat_plans.proofs.CboRows.{IsOpStep, entry, behind, driven, enters, owner_same, loans, its_lot, returning_moves, row_on}
 use Rattle.nc_flat_plans.proofs.Effects.{writes_kept, drops_kept}
 use Rattle.nc_flat_plans.proofs.Harts.{IsAt, sizes, writing, dropping}
-use Rattle.nc_flat_plans.proofs.PlanLists.{left_of, is_cbo, AreCbos, coming_next, coming_last, same_id, of_written, of_dropped, written_cbos, dropped_cbos, IsOn}
+use Rattle.nc_flat_plans.proofs.PlanLists.{left_of, is_cbo, AreCbos, coming_next, coming_last, same_id, of_written, of_dropped, written_cbos, dropped_cbos}
 use Rattle.nc_flat_plans.proofs.Turning.{op_quiet}
 
 -- ---- what is queued

@@ -2,8 +2,7 @@
 -- an invalidate, or the flush in its place, drops.
 use Rattle.std.specs.Prelude.{◌||◌, Bool, true, false, if◌then◌else◌, Result, Ok, Err}
 use Rattle.std.specs.Result.{result_unwrap_or}
-use Rattle.std.proofs.Common.{◌≡◌, ℕ, refl, sym, ap, ◌∙◌, subst}
-use Rattle.nc_num.specs.declared.names.Dir.{Dir}
+use Rattle.std.proofs.Common.{◌≡◌, ℕ, refl}
 use Rattle.nc_num.specs.declared.names.Dir.TheVariants.{Both, ToDev, FromDev}
 use Rattle.nc_env.specs.declared.Mode.{Mode}
 use Rattle.nc_env.specs.declared.Mode.TheVariants.{M, S, U}
@@ -12,12 +11,8 @@ use Rattle.nc_env.specs.declared.CboOp.TheVariants.{Clean, Flush, Inval, Zero}
 use Rattle.nc_env.specs.declared.Illegal.{Illegal}
 use Rattle.nc_env.specs.Enables.{forbids, as_flush, performed, m_field, s_field, decided}
 use Rattle.nc_plan.specs.Effects.{effects_of}
-use Rattle.nc_plan.specs.Plans.{lend_op, return_op}
-use Rattle.nc_plan.specs.declared.effects.Effects.{Effects}
 use Rattle.nc_queue.specs.Entries.{writes_back}
 use Rattle.nc_calls.specs.PlaceLaws.{drops_copies}
-use Rattle.nc_scen.specs.declared.scenario.HartSpec.{HartSpec}
-use Rattle.nc_rules.specs.Lots.{Fixed}
 use Rattle.nc_row_plans.specs.Plans.{WritesBack, DropsBlocks}
 use Rattle.nc_flat_plans.specs.Turning.{is_kept_op}
 

@@ -1,8 +1,8 @@
 -- The full fence of a plan: the lot is its channel's, or its hart's again.
-use Rattle.std.specs.Prelude.{Option, Some, None, All, ◌/◌, ◌||◌, ◌==◌, Bool, true, false, option_map}
+use Rattle.std.specs.Prelude.{Option, Some, All, ◌==◌, true, false, option_map}
 use Rattle.std.specs.List.{list_any}
-use Rattle.std.proofs.Common.{◌≡◌, ◌≢◌, ◌⊎◌, ℕ, ◌<◌, List, [], ◌∷◌, ◌++◌, length, refl, sym, ap, ◌∙◌, inl, inr, subst}
-use Rattle.std.proofs.lemmas.Bool.{both_ways, or_parts, and_left, false_from_ne_true, eqb-true}
+use Rattle.std.proofs.Common.{◌≡◌, ℕ, ◌<◌, List, [], ◌∷◌, length, refl, sym, ap, ◌∙◌, inl, inr, subst}
+use Rattle.std.proofs.lemmas.Bool.{or_parts, and_left, false_from_ne_true, eqb-true}
 use Rattle.std.proofs.lemmas.List.Elements.{All-nil, All-cons}
 use Rattle.nc_num.specs.Places.{covers}
 use Rattle.nc_num.specs.declared.names.HartNo.{HartNo}
@@ -12,12 +12,12 @@ use Rattle.nc_num.specs.declared.places.Span.{Span}
 use Rattle.nc_queue.specs.Entries.{is_w}
 use Rattle.nc_queue.specs.declared.entry.Entry.{Entry as QueueEntry}
 use Rattle.nc_queue.specs.declared.entry.Entry.TheVariants as entries
-use Rattle.nc_plan.specs.Plans.{In, full}
+use Rattle.nc_plan.specs.Plans.{full}
 use Rattle.nc_plan.specs.declared.effects.Effects.{Effects}
 use Rattle.nc_plan.specs.declared.ops.HartOp.{HartOp}
 use Rattle.nc_plan.specs.declared.parts.Part.{Part}
 use Rattle.nc_model.specs.declared.owners.Owner.{Owner}
-use Rattle.nc_model.specs.declared.owners.Owner.TheVariants.{Thread, Passing, Lending, Device, Returning, Synced, Pool}
+use Rattle.nc_model.specs.declared.owners.Owner.TheVariants.{Thread, Lending, Device, Returning, Synced, Pool}
 use Rattle.nc_scen.specs.declared.scenario.Scenario.{Scenario}
 use Rattle.nc_sg.specs.declared.list.Entry.{Entry}
 use Rattle.nc_rules.specs.declared.lots.Lot.{Lot}
@@ -27,29 +27,29 @@ use Rattle.nc_rules.specs.declared.lots.Side.TheVariants as sides
 use Rattle.nc_rules.specs.declared.steps.Step.{Step}
 use Rattle.nc_rules.specs.declared.steps.Turn.{Turn}
 use Rattle.nc_rules.specs.declared.steps.Turn.TheVariants as turns
-use Rattle.nc_rules.specs.Lots.{Fixed, is_lot, is_wanted, owner_of_side}
-use Rattle.nc_rules.specs.Machine.{MachineState, queue_of}
+use Rattle.nc_rules.specs.Lots.{is_lot, is_wanted}
+use Rattle.nc_rules.specs.Machine.{queue_of}
 use Rattle.nc_rules.specs.Calls.{may_issue}
 use Rattle.nc_rules.specs.Turns.{lots_after, transfers_of, set_side}
 use Rattle.nc_rules.specs.Driver.{DriverState, Went, over}
 use Rattle.nc_rules.specs.Watched.{owner_of}
 use Rattle.nc_rules.specs.World.{WorldState, driver_of}
-use Rattle.nc_scripts.proofs.Lists.{all_in, all_to}
+use Rattle.nc_scripts.proofs.Lists.{all_to}
 use Rattle.nc_scripts.proofs.LotLaws.{its_name}
-use Rattle.nc_rows.specs.Ahead.{is_full, token, coming, sending}
+use Rattle.nc_rows.specs.Ahead.{token, coming, sending}
 use Rattle.nc_rows.specs.Places.{ThreadRow}
 use Rattle.nc_rows.specs.Rows.{Loan, Book, ahead_of, LentRow, DeviceRow, BackRow, SyncedRow, Row}
 use Rattle.nc_rows.specs.Parts.{IsQueued, rest_last}
 use Rattle.nc_flatness.specs.Books.{loan_by, loan_of, book_of, mapping_in, LiesIn}
-use Rattle.nc_flatness.specs.Flatness.{IsDirect, IsStill, IsPlanOf, Drives, Flatness}
+use Rattle.nc_flatness.specs.Flatness.{IsDirect, IsStill, IsPlanOf, Drives}
 use Rattle.nc_flatness.proofs.Outcomes.{gone}
 use Rattle.nc_flat_plans.proofs.Turning.{plans_turn}
 use Rattle.nc_flat_plans.proofs.Elements.{all_at}
-use Rattle.nc_flat_plans.proofs.Lots.{without_lot, IsSingle, its_id, its_loan, loan_here, other_set, other_without, side_one, end_one}
+use Rattle.nc_flat_plans.proofs.Lots.{its_id, its_loan, loan_here, other_set, other_without, side_one, end_one}
 use Rattle.nc_flat_plans.proofs.Frames.{loan_hart}
 use Rattle.nc_flat_plans.proofs.LotTurns.{IsLotTurn}
 use Rattle.nc_flat_plans.proofs.PlanLists.{left_of, same_id, coming_given, coming_back, left_sends}
-use Rattle.nc_flat_plans.proofs.Bases.{IsHere, IsBase, lot_at, base_here, turned_lot, set_direct, set_alone, set_single, set_still, without_all}
+use Rattle.nc_flat_plans.proofs.Bases.{IsBase, lot_at, base_here, turned_lot, set_direct, set_alone, set_single, set_still, without_all}
 use Rattle.nc_flat_plans.proofs.Harts.{IsAt, driven, here, emptied, its_hart}
 use Rattle.nc_flat_plans.proofs.Begins.{direct_at, same_map}
 use Rattle.nc_flat_plans.proofs.Returns.{known_now, was_so}

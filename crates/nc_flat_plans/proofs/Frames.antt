@@ -1,16 +1,14 @@
 -- A driver goes on while the machine's bytes stay, and one mapping's places change their owner, or none do.
-use Rattle.std.specs.Prelude.{Option, Some, None, All, slice_set, Bool, true, false}
-use Rattle.std.specs.List.{list_any, find}
-use Rattle.std.proofs.Common.{◌≡◌, ◌≢◌, ◌⊎◌, ℕ, ◌/◌, ◌<◌, List, [], ◌∷◌, length, refl, sym, ap, ◌∙◌, inl, inr, subst, arith}
-use Rattle.std.proofs.lemmas.Bool.{cases_Bool, cases_eq, both_ways, true≢false}
+use Rattle.std.specs.Prelude.{Option, Some, None, All, true, false}
+use Rattle.std.specs.List.{list_any}
+use Rattle.std.proofs.Common.{◌≡◌, ◌≢◌, ℕ, ◌<◌, List, length, refl, sym, ap, ◌∙◌, inl, inr, subst}
+use Rattle.std.proofs.lemmas.Bool.{cases_Bool, cases_eq, both_ways}
 use Rattle.std.proofs.lemmas.List.{get_or-set_same, get_or-set_other}
 use Rattle.nc_num.specs.Memory.{byte}
 use Rattle.nc_num.specs.Places.{covers}
 use Rattle.nc_num.specs.declared.names.HartNo.{HartNo}
 use Rattle.nc_num.specs.declared.names.MapId.{MapId}
-use Rattle.nc_num.specs.declared.names.MemType.{MemType}
 use Rattle.nc_num.specs.declared.places.Span.{Span}
-use Rattle.nc_env.specs.declared.CboOp.{CboOp}
 use Rattle.nc_env.specs.declared.CboOp.TheVariants as cbos
 use Rattle.nc_queue.specs.declared.entry.Entry.{Entry}
 use Rattle.nc_queue.specs.declared.entry.Entry.TheVariants as entries
@@ -27,8 +25,8 @@ use Rattle.nc_rules.specs.Watched.{owner_of}
 use Rattle.nc_rules.specs.World.{WorldState, driver_of, no_driver, owners_moved}
 use Rattle.nc_scripts.proofs.Lists.{all_to}
 use Rattle.nc_rows.specs.Ahead.{is_full, settling, sending, coming}
-use Rattle.nc_rows.specs.Rows.{Loan, Book, ahead_of, Row}
-use Rattle.nc_rows.specs.Parts.{IsDropped, IsZeroed, IsBeside, OpIsQueued, IsQueued, Queued, MayBeHeld, Uncached, rest_last, IsPiece, LastIs, Lasts}
+use Rattle.nc_rows.specs.Rows.{Loan, Book, Row}
+use Rattle.nc_rows.specs.Parts.{IsQueued, MayBeHeld, rest_last, LastIs}
 use Rattle.nc_calls.specs.PlaceLaws.{NotHeld}
 use Rattle.nc_flatness.specs.Books.{loan_of, number_in, book_of, mapping_in, LiesIn}
 use Rattle.nc_flatness.specs.Flatness.{Drives, BytesStand, Flatness}

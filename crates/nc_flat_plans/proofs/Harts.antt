@@ -1,28 +1,25 @@
 -- What is known of a hart whose driver maps, unmaps or syncs.
-use Rattle.std.specs.Prelude.{Option, Some, None, All, ◌&&◌, ◌||◌, ◌==◌, not, nat_le, nat_lt, Bool, true, false, slice_get}
+use Rattle.std.specs.Prelude.{Some, ◌&&◌, ◌||◌, ◌==◌, not, Bool, true, false, slice_get}
 use Rattle.std.specs.List.{list_any}
-use Rattle.std.proofs.Common.{◌≡◌, ◌⊎◌, ℕ, ◌+◌, ◌<◌, ◌≤◌, List, [], ◌∷◌, length, refl, sym, ap, ◌∙◌, inl, inr, subst, arith}
-use Rattle.std.proofs.lemmas.Bool.{and_parts, or_parts, both_ways, cases_Bool, cases_lt, eqb-true, false_from_ne_true, not-true}
+use Rattle.std.proofs.Common.{◌≡◌, ℕ, ◌<◌, ◌≤◌, List, [], ◌∷◌, length, refl, sym, ap, ◌∙◌, inl, inr, subst, arith}
+use Rattle.std.proofs.lemmas.Bool.{and_parts, or_parts, both_ways, cases_lt, eqb-true, false_from_ne_true}
 use Rattle.std.proofs.lemmas.List.{get_or_past}
 use Rattle.nc_num.specs.Places.{covers}
 use Rattle.nc_num.specs.declared.names.HartNo.{HartNo}
 use Rattle.nc_num.specs.declared.names.MapId.{MapId}
 use Rattle.nc_plan.specs.Plans.{In, full}
-use Rattle.nc_plan.specs.Effects.{effects_of}
-use Rattle.nc_plan.specs.declared.effects.Effects.{Effects}
-use Rattle.nc_queue.specs.Entries.{is_w, is_o, in_set, AllFit}
+use Rattle.nc_queue.specs.Entries.{is_w, in_set, AllFit}
 use Rattle.nc_queue.specs.Rules.{any_in}
 use Rattle.nc_queue.specs.declared.entry.Entry.{Entry}
 use Rattle.nc_queue.specs.declared.entry.Entry.TheVariants as entries
-use Rattle.nc_hart.specs.Issue.{can_issue, has_room, fence_clear, load_clear, waits}
+use Rattle.nc_hart.specs.Issue.{can_issue, has_room, fence_clear, load_clear}
 use Rattle.nc_hart.specs.HartState.{HartState}
-use Rattle.nc_model.specs.declared.owners.Owner.{Owner}
 use Rattle.nc_sg.specs.declared.list.Entry.{Entry as SgEntry}
 use Rattle.nc_scen.specs.declared.scenario.Scenario.{Scenario}
 use Rattle.nc_rules.specs.declared.lots.Lot.{Lot}
 use Rattle.nc_rules.specs.declared.lots.LotId.{LotId}
-use Rattle.nc_rules.specs.Lots.{Fixed, map_id, owner_of_side}
-use Rattle.nc_rules.specs.Machine.{MachineState, no_hart, hart_of, queue_of}
+use Rattle.nc_rules.specs.Lots.{Fixed, owner_of_side}
+use Rattle.nc_rules.specs.Machine.{MachineState, no_hart, queue_of}
 use Rattle.nc_rules.specs.Calls.{may_issue}
 use Rattle.nc_rules.specs.Start.{fixed_of, hart_spec}
 use Rattle.nc_rules.specs.Watched.{owner_of}
@@ -30,12 +27,11 @@ use Rattle.nc_rules.specs.World.{WorldState, driver_of, hart}
 use Rattle.nc_holds.specs.Holds.{DriverHolds}
 use Rattle.nc_holds.specs.Tokens.{token_of}
 use Rattle.nc_rows.specs.Ahead.{names}
-use Rattle.nc_rows.specs.Rows.{Loan}
 use Rattle.nc_row_plans.specs.Begins.{NoneQueued}
 use Rattle.nc_row_plans.specs.Plans.{WritesBack, DropsBlocks}
 use Rattle.nc_flatness.specs.Covered.{is_direct}
 use Rattle.nc_flatness.specs.Books.{book_of}
-use Rattle.nc_flatness.specs.Flatness.{IsDirect, Flatness}
+use Rattle.nc_flatness.specs.Flatness.{Flatness}
 use Rattle.nc_flatness.proofs.Loans.{loan_is}
 use Rattle.nc_flat_plans.specs.Turning.{HasNoArea}
 use Rattle.nc_flat_plans.proofs.Effects.{writes, drops}

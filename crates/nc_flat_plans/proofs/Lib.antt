@@ -6,6 +6,7 @@ pub mod Frames
 pub mod LotTurns
 pub mod PlanLists
 pub mod Effects
+pub mod Lendings
 pub mod Starts
 pub mod Blocks
 pub mod Bases
@@ -17,3 +18,4 @@ pub mod StartEvents
 pub mod PlanEvents
 pub mod CboRows
 pub mod CboSteps
+pub mod CboEvents

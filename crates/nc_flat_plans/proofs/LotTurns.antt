@@ -1,34 +1,30 @@
 -- A turn of one lot with one entry: the frame of it.
-use Rattle.std.specs.Prelude.{Option, Some, None, All, Bool, true, false}
-use Rattle.std.proofs.Common.{◌≡◌, ◌≢◌, ◌⊎◌, ℕ, ◌<◌, List, [], ◌∷◌, length, refl, sym, ap, ◌∙◌, inl, inr, subst, arith}
-use Rattle.std.proofs.lemmas.Bool.{cases_Bool, cases_eq, both_ways}
+use Rattle.std.specs.Prelude.{Some, None, All, true, false}
+use Rattle.std.proofs.Common.{◌≡◌, ℕ, ◌<◌, List, [], ◌∷◌, length, sym, ap, ◌∙◌, inl, inr, subst, arith}
+use Rattle.std.proofs.lemmas.Bool.{cases_Bool, both_ways}
 use Rattle.nc_num.specs.Places.{covers}
 use Rattle.nc_num.specs.declared.names.HartNo.{HartNo}
 use Rattle.nc_num.specs.declared.names.MapId.{MapId}
 use Rattle.nc_num.specs.declared.places.Span.{Span}
 use Rattle.nc_plan.specs.Plans.{In}
-use Rattle.nc_queue.specs.declared.entry.Entry as queues
 use Rattle.nc_model.specs.declared.owners.Owner.{Owner}
-use Rattle.nc_model.specs.declared.owners.Owner.TheVariants.{Thread, Passing, Lending, Device, Returning, Synced, Pool}
+use Rattle.nc_model.specs.declared.owners.Owner.TheVariants.{Returning, Pool}
 use Rattle.nc_own.specs.Books.{owner_in}
-use Rattle.nc_scen.specs.Regions.{pool_of}
 use Rattle.nc_scen.specs.declared.scenario.Scenario.{Scenario}
 use Rattle.nc_sg.specs.declared.list.Entry.{Entry}
 use Rattle.nc_rules.specs.declared.lots.Lot.{Lot}
 use Rattle.nc_rules.specs.declared.lots.Side.{Side}
-use Rattle.nc_rules.specs.declared.lots.Side.TheVariants as sides
 use Rattle.nc_rules.specs.Lots.{owner_of_side}
 use Rattle.nc_rules.specs.Machine.{queue_of}
-use Rattle.nc_rules.specs.Driver.{DriverState, Went}
+use Rattle.nc_rules.specs.Driver.{Went}
 use Rattle.nc_rules.specs.Watched.{owner_of}
 use Rattle.nc_rules.specs.World.{WorldState, driver_of, owners_moved}
 use Rattle.nc_rows.specs.Ahead.{sending}
 use Rattle.nc_rows.specs.Rows.{Row}
 use Rattle.nc_rows.specs.Parts.{IsQueued, rest_last}
 use Rattle.nc_flatness.specs.Books.{loan_of, book_of, mapping_in, LiesIn}
-use Rattle.nc_flatness.specs.Flatness.{IsStill, Drives, BytesStand, Flatness}
-use Rattle.nc_flatness.proofs.Loans.{IsLoan}
-use Rattle.nc_flatness.proofs.Owned.{IsMapped, mapped}
+use Rattle.nc_flatness.specs.Flatness.{IsStill, Drives, Flatness}
+use Rattle.nc_flatness.proofs.Owned.{mapped}
 use Rattle.nc_flatness.proofs.Outcomes.{gone}
 use Rattle.nc_flat_plans.proofs.Elements.{transferred_on, transferred_off}
 use Rattle.nc_flat_plans.proofs.Frames.{IsRestful, Turns}

@@ -1,13 +1,10 @@
 -- The lots of a hart before and behind a turn of one of them: what each mapping is, and whose its bytes are.
-use Rattle.std.specs.Prelude.{Option, Some, None, ◌&&◌, ◌==◌, ◌+◌, ◌-◌, not, nat_le, nat_lt, Bool, true, false, if◌then◌else◌, map, filter, option_map, slice_index_or}
+use Rattle.std.specs.Prelude.{Option, Some, ◌==◌, ◌+◌, ◌-◌, not, nat_le, nat_lt, Bool, true, false, if◌then◌else◌, filter, option_map, slice_index_or}
 use Rattle.std.specs.List.{find}
-use Rattle.std.proofs.Common.{◌≡◌, ◌⊎◌, ℕ, ◌<◌, ◌≤◌, List, [], ◌∷◌, ◌++◌, length, refl, sym, ap, ◌∙◌, inl, inr, subst, arith}
+use Rattle.std.proofs.Common.{◌≡◌, ◌≤◌, List, [], ◌∷◌, ◌++◌, length, refl, sym, ap, ◌∙◌, inl, inr, arith}
 use Rattle.std.proofs.lemmas.Bool.{and_parts, and_from, and_left, and_right, cases_Bool, cond-true, cond-false, both_ways, eqb-true, eq-eqb, false_from_ne_true, le-leb, lt-ltb}
-use Rattle.nc_num.specs.declared.names.HartNo.{HartNo}
 use Rattle.nc_num.specs.declared.names.MapId.{MapId}
-use Rattle.nc_num.specs.declared.places.Span.{Span}
 use Rattle.nc_plan.specs.Plans.{In}
-use Rattle.nc_model.specs.declared.owners.Owner.{Owner}
 use Rattle.nc_model.specs.declared.owners.Owner.TheVariants.{Thread}
 use Rattle.nc_sg.specs.declared.list.Entry.{Entry}
 use Rattle.nc_rules.specs.declared.lots.Kind.TheVariants.{Single}

@@ -1,118 +1,54 @@
 -- A step of an operation that maps, unmaps or syncs: its start, a cache operation of its plan, or the full fence.
-use Rattle.std.specs.Prelude.{Option, Some, None, All, ◌&&◌, Bool, true, false, if◌then◌else◌, flat_map}
-use Rattle.std.proofs.Common.{◌≡◌, ◌⊎◌, ℕ, ◌<◌, List, [], ◌∷◌, ◌++◌, length, refl, sym, ap, ◌∙◌, inl, inr, subst}
-use Rattle.std.proofs.lemmas.Bool.{and_parts, cond-true, false≢true}
-use Rattle.std.proofs.lemmas.List.Elements.{All-head, All-tail}
+use Rattle.std.specs.Prelude.{Some, None, Bool, true}
+use Rattle.std.proofs.Common.{◌≡◌, ℕ, List, [], ◌∷◌, ◌++◌, refl, sym, ap, ◌∙◌, subst}
+use Rattle.std.proofs.lemmas.Bool.{and_parts, cond-true}
 use Rattle.nc_num.specs.declared.names.HartNo.{HartNo}
 use Rattle.nc_num.specs.declared.names.Label.{Label}
-use Rattle.nc_plan.specs.Plans.{In, full, written_back, dropped}
+use Rattle.nc_plan.specs.Plans.{full, written_back, dropped}
 use Rattle.nc_plan.specs.declared.effects.Effects.{Effects}
 use Rattle.nc_plan.specs.declared.ops.HartOp.{HartOp}
-use Rattle.nc_plan.specs.declared.ops.HartOp.TheVariants as hart
 use Rattle.nc_plan.specs.declared.parts.Part.{Part}
-use Rattle.nc_model.specs.Flat.{Mark}
 use Rattle.nc_model.specs.declared.owners.Owner.{Owner}
 use Rattle.nc_ops.specs.declared.ops.Op.{Op}
-use Rattle.nc_ops.specs.declared.ops.Op.TheVariants as ops
 use Rattle.nc_scen.specs.declared.events.Event.TheVariants as events
 use Rattle.nc_scen.specs.declared.scenario.Scenario.{Scenario}
-use Rattle.nc_rules.specs.declared.answers.Answer.{Answer}
-use Rattle.nc_rules.specs.declared.answers.Refusal.{Refusal}
 use Rattle.nc_rules.specs.declared.lots.Lot.{Lot}
 use Rattle.nc_rules.specs.declared.lots.LotId.{LotId}
 use Rattle.nc_rules.specs.declared.lots.Side.{Side}
 use Rattle.nc_rules.specs.declared.lots.Side.TheVariants as sides
-use Rattle.nc_rules.specs.declared.records.Record.{Record}
 use Rattle.nc_rules.specs.declared.steps.Next.{Next}
 use Rattle.nc_rules.specs.declared.steps.Next.TheVariants as nexts
-use Rattle.nc_rules.specs.declared.steps.Phase.{Phase}
-use Rattle.nc_rules.specs.declared.steps.Phase.TheVariants.{Steps, Search, Work}
+use Rattle.nc_rules.specs.declared.steps.Phase.TheVariants.{Steps, Work}
 use Rattle.nc_rules.specs.declared.steps.Seen.{Seen}
-use Rattle.nc_rules.specs.declared.steps.Seen.TheVariants as seen
 use Rattle.nc_rules.specs.declared.steps.Step.{Step}
 use Rattle.nc_rules.specs.declared.steps.Turn.{Turn}
 use Rattle.nc_rules.specs.declared.steps.Turn.TheVariants as turns
 use Rattle.nc_rules.specs.Machine.{MachineState}
 use Rattle.nc_rules.specs.Calls.{may_issue, issue_next, issue_answer}
 use Rattle.nc_rules.specs.Plans.{hart_step, turning}
-use Rattle.nc_rules.specs.Turns.{Moved, lots_after, lots_after_both, transfers_of, turned, turned_by}
+use Rattle.nc_rules.specs.Turns.{lots_after, lots_after_both, transfers_of, turned_by}
 use Rattle.nc_rules.specs.Operations.{has_start}
-use Rattle.nc_rules.specs.Driver.{DriverState, Went, in_hand, next_of, next_of_op, next_in, next_rest, kept, busy, went_to, answered, over, stands, started, done, done_of, done_unless, done_in, worked, is_script}
-use Rattle.nc_rules.specs.Events.{enabled, may_issue_step, may_go_on, is_out}
+use Rattle.nc_rules.specs.Driver.{DriverState, Went, in_hand, next_of, next_of_op, next_in, next_rest, kept, busy, went_to, started, done, done_of, done_unless, done_in, worked, is_script}
+use Rattle.nc_rules.specs.Events.{enabled, may_go_on, is_out}
 use Rattle.nc_rules.specs.Flat.{all_marks}
-use Rattle.nc_rules.specs.Outcomes.{Outcome, goes, seen_of, start_outcome, op_outcome, step_outcome, outcome}
+use Rattle.nc_rules.specs.Outcomes.{seen_of, start_outcome, op_outcome, step_outcome, outcome}
 use Rattle.nc_rules.specs.Records.{op_records}
 use Rattle.nc_rules.specs.Watched.{issue_touch}
 use Rattle.nc_rules.specs.World.{WorldState, driver_of}
 use Rattle.nc_calls.proofs.CallProofs.{issues_by_place}
-use Rattle.nc_flatness.specs.Covered.{is_lending, is_covered_op, is_direct}
-use Rattle.nc_flatness.specs.Flatness.{IsPlanOf, PlanIs, PlanOf, StandsAt, Drives, BytesStand, Flatness}
-use Rattle.nc_flatness.specs.Steps.{IsNow, Goes, StepsAreFlat}
-use Rattle.nc_flatness.proofs.Marks.{fence_silent}
+use Rattle.nc_flatness.specs.Covered.{is_lending, is_direct}
+use Rattle.nc_flatness.specs.Flatness.{IsPlanOf, BytesStand}
+use Rattle.nc_flatness.specs.Steps.{IsNow, Goes}
 use Rattle.nc_flatness.proofs.Outcomes.{gone, goes_go, goes_silent}
 use Rattle.nc_flatness.proofs.Owned.{covered_op}
 use Rattle.nc_flat_plans.proofs.Frames.{turn_bytes}
+use Rattle.nc_flat_plans.proofs.Lendings.{lending_starts, direct_now}
 use Rattle.nc_flat_plans.proofs.LotTurns.{IsLotTurn, lot_turns}
-use Rattle.nc_flat_plans.proofs.PlanLists.{left_of}
-use Rattle.nc_flat_plans.proofs.Begins.{went_left}
 use Rattle.nc_flat_plans.proofs.Harts.{IsAt, driven, no_areas}
 use Rattle.nc_flat_plans.proofs.Fences.{plan_entry, plan_base, IsFenced, give_fence, sync_fence, end_fence}
 use Rattle.nc_flat_plans.proofs.StartEvents.{at_steps, start_bytes}
 
 -- ---- where the driver stands
-
--- scripts may lend
-direct_now : (direct : Bool) (o : Op) → is_lending o ≡ true → is_covered_op direct o ≡ true → direct ≡ true
-direct_now direct (ops.Map label buf off len dir chan) is covered = covered
-direct_now direct (ops.Unmap label) is covered = covered
-direct_now direct (ops.ToCpu label) is covered = covered
-direct_now direct (ops.ToDev label) is covered = covered
-direct_now direct (ops.Ld spot off len) is covered = absurd cc
-direct_now direct (ops.St spot off bytes) is covered = absurd cc
-direct_now direct (ops.Cbo op buf off) is covered = absurd cc
-direct_now direct (ops.Fence pred succ) is covered = absurd cc
-direct_now direct (ops.MapSg label entries dir chan) is covered = absurd cc
-direct_now direct (ops.UnmapSg label count) is covered = absurd cc
-direct_now direct (ops.Calloc label count chan) is covered = absurd cc
-direct_now direct (ops.Cgive label) is covered = absurd cc
-direct_now direct (ops.Ctake label) is covered = absurd cc
-direct_now direct (ops.Cfree label) is covered = absurd cc
-direct_now direct (ops.Hand buf to) is covered = absurd cc
-direct_now direct (ops.Take buf) is covered = absurd cc
-direct_now direct (ops.Claim chan) is covered = absurd cc
-direct_now direct (ops.Free chan) is covered = absurd cc
-direct_now direct (ops.Regs chan src dst len cfg) is covered = absurd cc
-direct_now direct (ops.Run chan) is covered = absurd cc
-direct_now direct (ops.Poll chan) is covered = absurd cc
-direct_now direct (ops.Regr chan off width) is covered = absurd cc
-direct_now direct (ops.Regw chan off width value) is covered = absurd cc
-direct_now direct (ops.Copy chan src src_off dst dst_off len cfg) is covered = absurd cc
-
-starts_so : (o : Op) → is_lending o ≡ true → has_start o ≡ true
-starts_so (ops.Map label buf off len dir chan) is = refl
-starts_so (ops.Unmap label) is = refl
-starts_so (ops.ToCpu label) is = refl
-starts_so (ops.ToDev label) is = refl
-starts_so (ops.Ld spot off len) is = absurd cc
-starts_so (ops.St spot off bytes) is = absurd cc
-starts_so (ops.Cbo op buf off) is = absurd cc
-starts_so (ops.Fence pred succ) is = absurd cc
-starts_so (ops.MapSg label entries dir chan) is = absurd cc
-starts_so (ops.UnmapSg label count) is = absurd cc
-starts_so (ops.Calloc label count chan) is = absurd cc
-starts_so (ops.Cgive label) is = absurd cc
-starts_so (ops.Ctake label) is = absurd cc
-starts_so (ops.Cfree label) is = absurd cc
-starts_so (ops.Hand buf to) is = absurd cc
-starts_so (ops.Take buf) is = absurd cc
-starts_so (ops.Claim chan) is = absurd cc
-starts_so (ops.Free chan) is = absurd cc
-starts_so (ops.Regs chan src dst len cfg) is = absurd cc
-starts_so (ops.Run chan) is = absurd cc
-starts_so (ops.Poll chan) is = absurd cc
-starts_so (ops.Regr chan off width) is = absurd cc
-starts_so (ops.Regw chan off width value) is = absurd cc
-starts_so (ops.Copy chan src src_off dst dst_off len cfg) is = absurd cc
 
 pub at_now : (sc : Scenario) (f : List ℕ) (w : WorldState) (h : HartNo) (o : Op) → IsNow sc f w (events.Issue h) → in_hand (driver_of w h.0) ≡ Some o → is_lending o ≡ true → IsAt sc f w h
 at_now sc f w h o now hand is = record { flat = now.flat; lt = now.there; direct = direct_now (is_direct sc) o is (covered_op sc w h.0 o now.covered now.flat.world now.there hand) }
@@ -120,7 +56,7 @@ at_now sc f w h o now hand is = record { flat = now.flat; lt = now.there; direct
 next_start : (d : DriverState) (o : Op) (n : ℕ) → in_hand d ≡ Some o → is_lending o ≡ true → d.phase ≡ Steps n → next_of d ≡ nexts.Start
 unfolding next_of
 next_start d o n hand is phase =
-    ap (next_of_op d) hand ∙ ap (next_in d o) phase ∙ cond-true (has_start o) nexts.Start _ (starts_so o is)
+    ap (next_of_op d) hand ∙ ap (next_in d o) phase ∙ cond-true (has_start o) nexts.Start _ (lending_starts o is)
 
 next_work : (d : DriverState) (o : Op) (op : HartOp) (s : Step) (rest : List Step) → in_hand d ≡ Some o → d.phase ≡ Work → d.rest ≡ s ∷ rest → next_rest (s ∷ rest) ≡ nexts.Op op → next_of d ≡ nexts.Op op
 unfolding next_of
@@ -136,7 +72,7 @@ may_so w h nx may is = sym (ap (may_go_on w h) is) ∙ (and_parts (is_out w.mach
 
 -- ---- a start
 
-start_goes : (sc : Scenario) (f : List ℕ) (w : WorldState) (h : HartNo) (o : Op) (n : ℕ) → IsNow sc f w (events.Issue h) → in_hand (driver_of w h.0) ≡ Some o → is_lending o ≡ true → (driver_of w h.0).phase ≡ Steps n → Goes sc f w (events.Issue h)
+pub start_goes : (sc : Scenario) (f : List ℕ) (w : WorldState) (h : HartNo) (o : Op) (n : ℕ) → IsNow sc f w (events.Issue h) → in_hand (driver_of w h.0) ≡ Some o → is_lending o ≡ true → (driver_of w h.0).phase ≡ Steps n → Goes sc f w (events.Issue h)
 unfolding step_outcome start_outcome
 start_goes sc f w h o n now hand is phase =
     let d = driver_of w h.0 in
@@ -204,12 +140,12 @@ fenced_so sc f w h o lot turn k =
     record { rest = k.rest_is; may = step_may sc f w h o full (turning turn (hart_step full)) [] k; driver = so.driver; transfers = so.transfers }
 
 -- by its turn
-abbrev FenceTurns : Scenario → List ℕ → WorldState → HartNo → Label → Side → (Effects → ℕ → Part → List HartOp) → (LotId → Turn) → Type 0
+abbrev pub FenceTurns : Scenario → List ℕ → WorldState → HartNo → Label → Side → (Effects → ℕ → Part → List HartOp) → (LotId → Turn) → Type 0
 FenceTurns sc f w h label side each turn =
     (at : IsAt sc f w h) (plan : IsPlanOf (driver_of w h.0) label side each turn) (went : Went) → IsFenced w h went plan.lot (turn plan.lot.id)
     → (was now : Owner) × IsLotTurn sc w h went plan.lot (plan_entry sc f w h label side each turn at plan) was now
 
-fence_goes : (sc : Scenario) (f : List ℕ) (w : WorldState) (h : HartNo) (o : Op) (label : Label) (side : Side) (each : Effects → ℕ → Part → List HartOp) (turn : LotId → Turn) → FenceTurns sc f w h label side each turn → (plan : IsPlanOf (driver_of w h.0) label side each turn)
+pub fence_goes : (sc : Scenario) (f : List ℕ) (w : WorldState) (h : HartNo) (o : Op) (label : Label) (side : Side) (each : Effects → ℕ → Part → List HartOp) (turn : LotId → Turn) → FenceTurns sc f w h label side each turn → (plan : IsPlanOf (driver_of w h.0) label side each turn)
     → IsStep sc f w h o full (turning (turn plan.lot.id) (hart_step full)) [] → Goes sc f w (events.Issue h)
 fence_goes sc f w h o label side each turn turns_so plan k =
     let d = driver_of w h.0 in
@@ -219,14 +155,14 @@ fence_goes sc f w h o label side each turn turns_so plan k =
     let bytes = turn_bytes sc f w h went e.span t.1 k.at.flat (driven sc f w h k.at) (no_areas sc f w k.at.flat) (lot_turns sc f w h went plan.lot e t.0 t.1 k.at.flat t.2) in
     step_goes sc f w h o full (turning (turn plan.lot.id) (hart_step full)) [] k (fence_marks w h (is_script d.phase)) (subst (λ (m : MachineState). BytesStand sc f (gone w h m went)) (sym (fence_stays w.machine h.0)) bytes)
 
-gives_so : (sc : Scenario) (f : List ℕ) (w : WorldState) (h : HartNo) (label : Label) → FenceTurns sc f w h label sides.Lending written_back turns.Give
+pub gives_so : (sc : Scenario) (f : List ℕ) (w : WorldState) (h : HartNo) (label : Label) → FenceTurns sc f w h label sides.Lending written_back turns.Give
 gives_so sc f w h label at plan went fence =
     (_, _, give_fence sc f w h went plan.lot (plan_entry sc f w h label sides.Lending written_back turns.Give at plan) at (plan_base sc f w h label sides.Lending written_back turns.Give at plan) plan.side_is fence)
 
-syncs_so : (sc : Scenario) (f : List ℕ) (w : WorldState) (h : HartNo) (label : Label) → FenceTurns sc f w h label sides.Returning dropped turns.Sync
+pub syncs_so : (sc : Scenario) (f : List ℕ) (w : WorldState) (h : HartNo) (label : Label) → FenceTurns sc f w h label sides.Returning dropped turns.Sync
 syncs_so sc f w h label at plan went fence =
     (_, _, sync_fence sc f w h went plan.lot (plan_entry sc f w h label sides.Returning dropped turns.Sync at plan) at (plan_base sc f w h label sides.Returning dropped turns.Sync at plan) plan.side_is fence)
 
-ends_so : (sc : Scenario) (f : List ℕ) (w : WorldState) (h : HartNo) (label : Label) → FenceTurns sc f w h label sides.Returning dropped turns.End
+pub ends_so : (sc : Scenario) (f : List ℕ) (w : WorldState) (h : HartNo) (label : Label) → FenceTurns sc f w h label sides.Returning dropped turns.End
 ends_so sc f w h label at plan went fence =
     (_, _, end_fence sc f w h went plan.lot (plan_entry sc f w h label sides.Returning dropped turns.End at plan) at (plan_base sc f w h label sides.Returning dropped turns.End at plan) plan.side_is fence)

@@ -1,20 +1,17 @@
 -- A plan of a direct lot: cache operations, and then a full fence with its turn. What of it is to come.
-use Rattle.std.specs.Prelude.{Option, Some, None, All, ◌&&◌, ◌==◌, ◌||◌, not, Bool, true, false, if◌then◌else◌, map, flat_map}
+use Rattle.std.specs.Prelude.{None, All, ◌&&◌, ◌==◌, ◌||◌, not, Bool, true, false, if◌then◌else◌, map, flat_map}
 use Rattle.std.specs.List.{list_any}
-use Rattle.std.proofs.Common.{◌≡◌, ◌⊎◌, ℕ, List, [], ◌∷◌, ◌++◌, refl, sym, ap, ◌∙◌, inl, inr, subst}
+use Rattle.std.proofs.Common.{◌≡◌, ℕ, List, [], ◌∷◌, ◌++◌, refl, sym, ap, ◌∙◌, inl, inr, subst}
 use Rattle.std.proofs.lemmas.Bool.{and_from, eq-eqb, or_left, or_right, cond-true, cond-false}
 use Rattle.std.proofs.lemmas.List.{append-nil}
-use Rattle.std.proofs.lemmas.List.Elements.{All-nil, All-cons, All-head, All-tail}
-use Rattle.nc_num.specs.declared.names.Dir.{Dir}
+use Rattle.std.proofs.lemmas.List.Elements.{All-head, All-tail}
 use Rattle.nc_num.specs.declared.names.MapId.{MapId}
-use Rattle.nc_num.specs.declared.places.Block.{Block}
 use Rattle.nc_num.specs.declared.places.Span.{Span}
 use Rattle.nc_queue.specs.declared.entry.Entry.{Entry}
 use Rattle.nc_queue.specs.declared.entry.Entry.TheVariants as entries
 use Rattle.nc_env.specs.declared.CboOp.{CboOp}
 use Rattle.nc_plan.specs.Plans.{In, full, copied_in, copied_back, written_back, dropped, returning, lend_op, return_op, blocks, cbo, cbos, copies}
 use Rattle.nc_plan.specs.Parts.{is_bounced, comes_back}
-use Rattle.nc_plan.specs.declared.effects.Effects.{Effects}
 use Rattle.nc_plan.specs.declared.ops.HartOp.{HartOp}
 use Rattle.nc_plan.specs.declared.ops.HartOp.TheVariants as hart
 use Rattle.nc_plan.specs.declared.parts.Part.{Part}
@@ -22,14 +19,13 @@ use Rattle.nc_sg.specs.declared.list.Entry.{Entry as SgEntry}
 use Rattle.nc_sg.specs.Lists as sg
 use Rattle.nc_rules.specs.declared.lots.Lot.{Lot}
 use Rattle.nc_rules.specs.declared.lots.LotId.{LotId}
-use Rattle.nc_rules.specs.declared.steps.Act.TheVariants as acts
 use Rattle.nc_rules.specs.declared.steps.Step.{Step}
 use Rattle.nc_rules.specs.declared.steps.Turn.{Turn}
 use Rattle.nc_rules.specs.declared.steps.Turn.TheVariants as turns
 use Rattle.nc_rules.specs.Lots.{Fixed, parts}
 use Rattle.nc_rules.specs.Plans.{hart_step, op_steps, turning, ending, carried, lending_end, lend_steps, return_steps, token_steps}
 use Rattle.nc_scripts.proofs.Lists.{all_to}
-use Rattle.nc_rows.specs.Ahead.{turns_lot, gives_lot, ends, posts, op_coming, token, coming, sending, step_coming}
+use Rattle.nc_rows.specs.Ahead.{turns_lot, gives_lot, ends, posts, op_coming, token, coming, sending}
 use Rattle.nc_rows.specs.Parts.{rest_last}
 use Rattle.nc_rows.proofs.Steps.{steps_ahead}
 use Rattle.nc_flat_plans.proofs.Elements.{of_append}

@@ -1,8 +1,8 @@
 -- A lot is taken back, or ends as it was synced; and a start that changes nothing.
-use Rattle.std.specs.Prelude.{Option, Some, None, All, ◌/◌, Bool, true, false, option_map, flat_map}
+use Rattle.std.specs.Prelude.{Option, Some, All, true, false, option_map, flat_map}
 use Rattle.std.specs.List.{list_any}
-use Rattle.std.proofs.Common.{◌≡◌, ◌≢◌, ◌⊎◌, ℕ, ◌+◌, ◌<◌, ◌≤◌, List, [], ◌∷◌, ◌++◌, length, refl, sym, ap, ◌∙◌, inl, inr, subst, arith}
-use Rattle.std.proofs.lemmas.Bool.{both_ways, false_from_ne_true}
+use Rattle.std.proofs.Common.{◌≡◌, ℕ, List, [], ◌∷◌, ◌++◌, length, refl, sym, ap, ◌∙◌, inr, subst, arith}
+use Rattle.std.proofs.lemmas.Bool.{false_from_ne_true}
 use Rattle.nc_num.specs.Places.{covers}
 use Rattle.nc_num.specs.declared.names.HartNo.{HartNo}
 use Rattle.nc_num.specs.declared.names.Label.{Label}
@@ -11,11 +11,10 @@ use Rattle.nc_num.specs.declared.places.Span.{Span}
 use Rattle.nc_queue.specs.Laws.{Stands}
 use Rattle.nc_queue.specs.declared.entry.Entry.{Entry as QueueEntry}
 use Rattle.nc_queue.specs.declared.entry.Entry.TheVariants as entries
-use Rattle.nc_plan.specs.Parts.{comes_back}
-use Rattle.nc_plan.specs.Plans.{In, dropped, copied_back}
+use Rattle.nc_plan.specs.Plans.{In, dropped}
 use Rattle.nc_model.proofs.Faults.{covers-low, covers-high}
 use Rattle.nc_model.specs.declared.owners.Owner.{Owner}
-use Rattle.nc_model.specs.declared.owners.Owner.TheVariants.{Thread, Passing, Lending, Device, Returning, Synced, Pool}
+use Rattle.nc_model.specs.declared.owners.Owner.TheVariants.{Thread, Device, Returning, Synced, Pool}
 use Rattle.nc_own.specs.Books.{owner_in}
 use Rattle.nc_scen.specs.declared.scenario.Scenario.{Scenario}
 use Rattle.nc_sg.specs.declared.list.Entry.{Entry}
@@ -28,8 +27,8 @@ use Rattle.nc_rules.specs.declared.steps.Phase.TheVariants.{Work}
 use Rattle.nc_rules.specs.declared.steps.Step.{Step}
 use Rattle.nc_rules.specs.declared.steps.Turn.{Turn}
 use Rattle.nc_rules.specs.declared.steps.Turn.TheVariants as turns
-use Rattle.nc_rules.specs.Lots.{Fixed, is_lot, is_named, is_wanted, parts, owner_of_side}
-use Rattle.nc_rules.specs.Machine.{MachineState, queue_of}
+use Rattle.nc_rules.specs.Lots.{is_lot, is_named, is_wanted, parts, owner_of_side}
+use Rattle.nc_rules.specs.Machine.{queue_of}
 use Rattle.nc_rules.specs.Plans.{return_steps, ending}
 use Rattle.nc_rules.specs.Turns.{set_side}
 use Rattle.nc_rules.specs.Driver.{DriverState, Went, went_to, stands, over, with_lots}
@@ -37,27 +36,25 @@ use Rattle.nc_rules.specs.Watched.{owner_of}
 use Rattle.nc_rules.specs.World.{WorldState, driver_of, owners_moved}
 use Rattle.nc_scripts.proofs.Lists.{all_in, all_to}
 use Rattle.nc_scripts.proofs.LotLaws.{its_name}
-use Rattle.nc_rows.specs.Ahead.{turns_lot, gives_lot, is_full, op_coming, coming, sending}
-use Rattle.nc_rows.specs.Places.{ThreadRow}
-use Rattle.nc_rows.specs.Rows.{Loan, Book, drop, ahead_of, DeviceRow, BackRow, SyncedRow, Row}
+use Rattle.nc_rows.specs.Ahead.{is_full, coming, sending}
+use Rattle.nc_rows.specs.Rows.{Loan, drop, ahead_of, DeviceRow, BackRow, SyncedRow}
 use Rattle.nc_rows.specs.Parts.{IsQueued, rest_last}
-use Rattle.nc_row_plans.specs.Begins.{NoneQueued}
 use Rattle.nc_row_plans.specs.Plans.{TurnsBack}
 use Rattle.nc_row_plans.proofs.LendingPlans.{some_append}
 use Rattle.nc_row_plans.proofs.ReturningPlans.{plans_return}
-use Rattle.nc_flatness.specs.Books.{loan_by, loan_of, book_of, mapping_in, LiesIn}
-use Rattle.nc_flatness.specs.Flatness.{IsDirect, IsStill, IsPlanOf, Drives, Flatness}
+use Rattle.nc_flatness.specs.Books.{loan_by, loan_of, book_of, LiesIn}
+use Rattle.nc_flatness.specs.Flatness.{IsDirect, IsStill, IsPlanOf, Drives}
 use Rattle.nc_flatness.proofs.Owned.{mapped}
 use Rattle.nc_flatness.proofs.Outcomes.{gone}
 use Rattle.nc_flat_plans.proofs.Turning.{plans_turn}
 use Rattle.nc_flat_plans.proofs.Elements.{all_at}
-use Rattle.nc_flat_plans.proofs.Lots.{without_lot, IsSingle, its_id, its_loan, loan_here, other_set, other_without, side_one, end_one}
+use Rattle.nc_flat_plans.proofs.Lots.{without_lot, its_id, its_loan, loan_here, other_set, other_without, side_one, end_one}
 use Rattle.nc_flat_plans.proofs.Frames.{IsRestful, Turns, loan_hart, rest_hart}
 use Rattle.nc_flat_plans.proofs.LotTurns.{IsLotTurn, side_restful}
 use Rattle.nc_flat_plans.proofs.PlanLists.{left_of, the_part, return_left, left_sends, left_last, dropped_cbos}
 use Rattle.nc_flat_plans.proofs.Starts.{GoesQuiet, GoesSo}
-use Rattle.nc_flat_plans.proofs.Bases.{IsBase, turned_lot, set_direct, set_here, set_alone, set_single, set_others, without_all}
-use Rattle.nc_flat_plans.proofs.Harts.{IsAt, driven, holds, sizes, dropping, no_areas, owned_so, its_hart}
+use Rattle.nc_flat_plans.proofs.Bases.{IsBase, turned_lot, set_here, set_alone, set_single, set_others, without_all}
+use Rattle.nc_flat_plans.proofs.Harts.{IsAt, driven, sizes, dropping, no_areas, owned_so, its_hart}
 use Rattle.nc_flat_plans.proofs.Begins.{went_left, direct_at, place_is, queue_idle, same_map}
 
 -- ---- a lot that the hart has

@@ -1,22 +1,19 @@
 -- The start of an operation that maps, unmaps or syncs: flat memory's bytes stand behind it.
-use Rattle.std.specs.Prelude.{Option, Some, None, All, ◌&&◌, ◌||◌, ◌==◌, is_none, is_some, Bool, true, false, map, flat_map, Ok}
-use Rattle.std.specs.List.{list_any, find}
-use Rattle.std.proofs.Common.{◌≡◌, ◌⊎◌, ℕ, ◌+◌, ◌<◌, ◌≤◌, List, [], ◌∷◌, ◌++◌, length, refl, sym, ap, ◌∙◌, inl, inr, subst, arith}
-use Rattle.std.proofs.lemmas.Bool.{eqb-true, both_ways, false_from_ne_true}
+use Rattle.std.specs.Prelude.{Option, Some, None, All, ◌&&◌, ◌||◌, is_none, Bool, true, false, flat_map, Ok}
+use Rattle.std.specs.List.{list_any}
+use Rattle.std.proofs.Common.{◌≡◌, ℕ, List, [], ◌∷◌, ◌++◌, length, refl, sym, ap, ◌∙◌, subst, arith}
+use Rattle.std.proofs.lemmas.Bool.{eqb-true, false_from_ne_true}
 use Rattle.std.proofs.lemmas.List.{append-nil}
-use Rattle.std.proofs.lemmas.List.Elements.{All-nil, All-cons, All-head}
-use Rattle.nc_num.specs.Places.{covers}
+use Rattle.std.proofs.lemmas.List.Elements.{All-head}
 use Rattle.nc_num.specs.declared.names.ChanNo.{ChanNo}
 use Rattle.nc_num.specs.declared.names.Dir.{Dir}
 use Rattle.nc_num.specs.declared.names.HartNo.{HartNo}
 use Rattle.nc_num.specs.declared.names.Label.{Label}
-use Rattle.nc_num.specs.declared.names.MapId.{MapId}
 use Rattle.nc_num.specs.declared.places.Span.{Span}
-use Rattle.nc_plan.specs.Plans.{In, written_back, dropped}
+use Rattle.nc_plan.specs.Plans.{In, dropped}
 use Rattle.nc_model.specs.Rights.{is_thread}
 use Rattle.nc_model.specs.declared.owners.Owner.{Owner}
 use Rattle.nc_model.specs.declared.owners.Owner.TheVariants.{Thread, Passing, Lending, Device, Returning, Synced, Pool}
-use Rattle.nc_own.specs.Books.{owner_in}
 use Rattle.nc_ops.specs.declared.ops.Op.{Op}
 use Rattle.nc_ops.specs.declared.ops.Op.TheVariants as ops
 use Rattle.nc_scen.specs.declared.scenario.Scenario.{Scenario}
@@ -27,39 +24,37 @@ use Rattle.nc_rules.specs.declared.lots.Lot.{Lot}
 use Rattle.nc_rules.specs.declared.lots.LotId.{LotId}
 use Rattle.nc_rules.specs.declared.lots.Side.TheVariants as sides
 use Rattle.nc_rules.specs.declared.steps.Phase.{Phase}
-use Rattle.nc_rules.specs.declared.steps.Phase.TheVariants.{Steps, Search, Work}
+use Rattle.nc_rules.specs.declared.steps.Phase.TheVariants.{Steps}
 use Rattle.nc_rules.specs.declared.steps.Turn.{Turn}
 use Rattle.nc_rules.specs.declared.steps.Turn.TheVariants as turns
 use Rattle.nc_rules.specs.Lots.{Fixed, lot_id, lot_named, is_named, is_labelled, is_wanted, lot_waits, some_lot_waits}
 use Rattle.nc_rules.specs.Operations.{begin}
-use Rattle.nc_rules.specs.Driver.{DriverState, Went, in_hand, started, stands, with_lots}
+use Rattle.nc_rules.specs.Driver.{DriverState, Went, in_hand, started}
 use Rattle.nc_rules.specs.Plans.{lend_steps, return_steps, ending}
-use Rattle.nc_rules.specs.Turns.{set_side}
 use Rattle.nc_rules.specs.Watched.{owner_of}
 use Rattle.nc_rules.specs.World.{WorldState, driver_of}
-use Rattle.nc_scripts.specs.Drivers.{IsEntryIn, IsLotIn, FitsKind, IsSettled, IsPhase, AreApart}
+use Rattle.nc_scripts.specs.Drivers.{IsEntryIn, IsLotIn, IsSettled, IsPhase}
 use Rattle.nc_scripts.specs.NewLots.{AreOwned, own_ranges}
 use Rattle.nc_scripts.proofs.Lists.{all_to, all_both, all_in, found, none_any, position_any}
-use Rattle.nc_scripts.proofs.NewLots.{AreNew, new_is}
+use Rattle.nc_scripts.proofs.NewLots.{new_is}
 use Rattle.nc_scripts.proofs.EveryDriver.{in_hand_is}
 use Rattle.nc_scripts.proofs.FreeLots.{new_lots_are_free}
 use Rattle.nc_holds.specs.Rests.{RestAt}
 use Rattle.nc_rows.specs.Places.{ThreadRow}
-use Rattle.nc_rows.specs.Rows.{Loan, SyncedRow, Row}
+use Rattle.nc_rows.specs.Rows.{Loan, SyncedRow}
 use Rattle.nc_row_plans.specs.Plans.{TurnsBack}
 use Rattle.nc_flatness.specs.Covered.{is_lending}
-use Rattle.nc_flatness.specs.Books.{book_of}
-use Rattle.nc_flatness.specs.Flatness.{IsDirect, IsStill, IsPlanOf, PlanOf, StandsAt, Drives, BytesStand, Flatness}
+use Rattle.nc_flatness.specs.Flatness.{IsDirect, IsStill, IsPlanOf, PlanOf, StandsAt, Drives, BytesStand}
 use Rattle.nc_flatness.proofs.Loans.{direct_lot}
 use Rattle.nc_flatness.proofs.Outcomes.{gone}
 use Rattle.nc_flat_plans.proofs.Elements.{all_at}
-use Rattle.nc_flat_plans.proofs.Lots.{its_id, its_loan}
+use Rattle.nc_flat_plans.proofs.Lots.{its_id}
 use Rattle.nc_flat_plans.proofs.Frames.{turn_bytes}
 use Rattle.nc_flat_plans.proofs.LotTurns.{IsLotTurn, lot_turns}
 use Rattle.nc_flat_plans.proofs.PlanLists.{same_id}
 use Rattle.nc_flat_plans.proofs.Starts.{GoesSo, IsIdle, StartSo, Quiet, Maps, Relends, Unmaps, Syncs, Ends, new_lot, new_named, start_so}
-use Rattle.nc_flat_plans.proofs.Bases.{IsHere, IsBase, lot_at, base_here, base_made, set_direct}
-use Rattle.nc_flat_plans.proofs.Harts.{IsAt, short, driven, holds, here, full_fences, unslotted, no_areas, its_hart}
+use Rattle.nc_flat_plans.proofs.Bases.{IsBase, lot_at, base_here, base_made, set_direct}
+use Rattle.nc_flat_plans.proofs.Harts.{IsAt, driven, holds, here, full_fences, unslotted, no_areas, its_hart}
 use Rattle.nc_flat_plans.proofs.Begins.{IsLentFrom, lending_driver, lends_plan, lend_turn}
 use Rattle.nc_flat_plans.proofs.Returns.{known_now, was_so, returning_driver, returns_plan, return_turn, end_turn, quiet_turn}
 

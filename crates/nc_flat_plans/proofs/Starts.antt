@@ -1,50 +1,41 @@
 -- The start of an operation that maps, unmaps or syncs: what its driver and its moves are behind it.
-use Rattle.std.specs.Prelude.{Option, Some, None, All, Result, Ok, Err, ◌&&◌, ◌==◌, not, is_none, is_some, Bool, true, false, if◌then◌else◌, filter, map, length as len_of}
+use Rattle.std.specs.Prelude.{Option, Some, None, All, Result, Ok, Err, ◌==◌, not, Bool, true, false, if◌then◌else◌}
 use Rattle.std.specs.List.{list_any, find}
-use Rattle.std.proofs.Common.{◌≡◌, ◌⊎◌, ℕ, ◌<◌, ◌≤◌, List, [], ◌∷◌, ◌++◌, length, refl, sym, ap, ◌∙◌, inl, inr, subst, arith}
-use Rattle.std.proofs.lemmas.Bool.{cases_Bool, both_ways, cond-true, cond-false, false_from_ne_true, or_parts, or_from, and_parts, and_left, and_from, eq-eqb, not_from_false}
+use Rattle.std.proofs.Common.{◌≡◌, ℕ, List, [], ◌∷◌, ◌++◌, refl, sym, ap, ◌∙◌, inl, inr, subst, arith}
+use Rattle.std.proofs.lemmas.Bool.{cond-true, cond-false, false_from_ne_true, or_parts, or_from, and_left, and_from, eq-eqb, not_from_false}
 use Rattle.std.proofs.lemmas.List.{append-nil}
 use Rattle.std.proofs.lemmas.List.Folds.{list_any-append, list_any_none}
-use Rattle.std.proofs.lemmas.List.Elements.{All-nil, All-cons, All-head, All-tail}
+use Rattle.std.proofs.lemmas.List.Elements.{All-head, All-tail}
 use Rattle.nc_num.specs.declared.names.ChanNo.{ChanNo}
 use Rattle.nc_num.specs.declared.names.Dir.{Dir}
-use Rattle.nc_num.specs.declared.names.HartNo.{HartNo}
 use Rattle.nc_num.specs.declared.names.Label.{Label}
 use Rattle.nc_num.specs.declared.places.Span.{Span}
-use Rattle.nc_num.specs.Places.{covers}
-use Rattle.nc_model.specs.Rights.{is_thread}
 use Rattle.nc_model.specs.declared.owners.Owner.{Owner}
-use Rattle.nc_model.specs.declared.owners.Owner.TheVariants as owners
-use Rattle.nc_own.specs.Books.{owner_in}
 use Rattle.nc_coherent.specs.Pages.{PageMap}
 use Rattle.nc_ops.specs.declared.ops.Op.{Op}
 use Rattle.nc_ops.specs.declared.ops.Op.TheVariants as ops
 use Rattle.nc_ops.specs.declared.ops.SgEntry.{SgEntry}
-use Rattle.nc_plan.specs.Plans.{In}
-use Rattle.nc_sg.specs.declared.list.Entry.{Entry}
-use Rattle.nc_sg.specs.Lists.{waits, next_waiting}
 use Rattle.nc_rules.specs.declared.answers.Refusal.{Refusal}
 use Rattle.nc_rules.specs.declared.answers.Refusal.TheVariants as refusals
 use Rattle.nc_rules.specs.declared.lots.Kind.TheVariants.{Single}
 use Rattle.nc_rules.specs.declared.lots.Lot.{Lot}
-use Rattle.nc_rules.specs.declared.lots.LotId.{LotId}
-use Rattle.nc_rules.specs.declared.lots.Side.{Side}
 use Rattle.nc_rules.specs.declared.lots.Side.TheVariants as sides
 use Rattle.nc_rules.specs.declared.steps.Step.{Step}
 use Rattle.nc_rules.specs.declared.steps.Turn.{Turn}
 use Rattle.nc_rules.specs.declared.steps.Turn.TheVariants as turns
 use Rattle.nc_rules.specs.Lots.{Fixed, lot_id, lot_named, is_named, is_labelled, is_synced, is_wanted, ranges_lot, lot_waits, some_lot_waits}
-use Rattle.nc_rules.specs.Refusals.{◌>>=◌, all_some, ranges_of, unused, named, owned_from, lendable, placeable, wanted}
-use Rattle.nc_rules.specs.Turns.{Moved, moved, lots_after, transfers_of, turned, turned_by, without_wanted}
+use Rattle.nc_rules.specs.Refusals.{◌>>=◌, all_some, ranges_of, unused, named, owned_from, lendable, placeable}
+use Rattle.nc_rules.specs.Turns.{lots_after, transfers_of, turned_by, without_wanted}
 use Rattle.nc_rules.specs.Plans.{lend_steps, return_steps, ending}
 use Rattle.nc_rules.specs.Mappings as mappings
 use Rattle.nc_rules.specs.Mappings.{with_lot, needs_lot, map_begin, unmap_turn, unmap_steps, to_cpu_turn, to_cpu_steps, to_dev_turn, to_dev_steps}
 use Rattle.nc_rules.specs.Operations.{meaning, has_start, begin, opening, plan_of, step_at}
 use Rattle.nc_rules.specs.Driver.{DriverState, Went, stays, searches, with_lots, opened, placed, begun, give_up, went_to, in_hand, started, started_of, refused_step, steps_done}
 use Rattle.nc_scripts.proofs.DriverSteps.{passed, wanted_is}
-use Rattle.nc_scripts.proofs.Lists.{all_to, none_any, position_any, found}
+use Rattle.nc_scripts.proofs.Lists.{found}
 use Rattle.nc_scripts.proofs.NewLots.{behind_ranges, placeable_is, some_is}
 use Rattle.nc_flatness.specs.Covered.{is_lending}
+use Rattle.nc_flat_plans.proofs.Lendings.{lending_starts}
 use Rattle.nc_flatness.specs.Flatness.{IsStill}
 
 -- ---- what a start leaves
@@ -276,32 +267,6 @@ begun_so d os pages (ops.Poll chan) idle is = absurd cc
 begun_so d os pages (ops.Regr chan off width) idle is = absurd cc
 begun_so d os pages (ops.Regw chan off width value) idle is = absurd cc
 begun_so d os pages (ops.Copy chan src src_off dst dst_off len cfg) idle is = absurd cc
-
-lending_starts : (o : Op) → is_lending o ≡ true → has_start o ≡ true
-lending_starts (ops.Map label buf off len dir chan) is = refl
-lending_starts (ops.Unmap label) is = refl
-lending_starts (ops.ToCpu label) is = refl
-lending_starts (ops.ToDev label) is = refl
-lending_starts (ops.Ld spot off len) is = absurd cc
-lending_starts (ops.St spot off bytes) is = absurd cc
-lending_starts (ops.Cbo op buf off) is = absurd cc
-lending_starts (ops.Fence pred succ) is = absurd cc
-lending_starts (ops.MapSg label entries dir chan) is = absurd cc
-lending_starts (ops.UnmapSg label count) is = absurd cc
-lending_starts (ops.Calloc label count chan) is = absurd cc
-lending_starts (ops.Cgive label) is = absurd cc
-lending_starts (ops.Ctake label) is = absurd cc
-lending_starts (ops.Cfree label) is = absurd cc
-lending_starts (ops.Hand buf to) is = absurd cc
-lending_starts (ops.Take buf) is = absurd cc
-lending_starts (ops.Claim chan) is = absurd cc
-lending_starts (ops.Free chan) is = absurd cc
-lending_starts (ops.Regs chan src dst len cfg) is = absurd cc
-lending_starts (ops.Run chan) is = absurd cc
-lending_starts (ops.Poll chan) is = absurd cc
-lending_starts (ops.Regr chan off width) is = absurd cc
-lending_starts (ops.Regw chan off width value) is = absurd cc
-lending_starts (ops.Copy chan src src_off dst dst_off len cfg) is = absurd cc
 
 started_if : (d : DriverState) (os : List Owner) (pages : PageMap) (o : Op) (t : Bool) → t ≡ true → IsIdle d → is_lending o ≡ true
     → StartSo d os pages o (if t then begun d o (begin d.fixed d.lots os pages o) else refused_step d o (step_at d.fixed d.lots o (steps_done d.phase)))

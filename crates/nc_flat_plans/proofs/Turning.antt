@@ -1,12 +1,10 @@
 -- The plan of a direct mapping, at its own places and at all others.
 use Rattle.std.specs.Prelude.{Option, Some, None, ◌/◌, ◌||◌}
 use Rattle.std.specs.List.{list_any}
-use Rattle.std.proofs.Common.{◌≡◌, ◌⊎◌, ℕ, Bool, true, false, List, [], ◌∷◌, refl, sym, ap, ◌∙◌, inl, inr, subst}
-use Rattle.std.proofs.lemmas.Bool.{cases_Bool, both_ways, or_from}
+use Rattle.std.proofs.Common.{◌≡◌, ℕ, Bool, true, false, List, [], ◌∷◌, refl, sym, ap, ◌∙◌, inl, inr, subst}
 use Rattle.nc_num.specs.declared.names.Dir.{Dir}
 use Rattle.nc_num.specs.declared.names.Dir.TheVariants.{Both, ToDev, FromDev}
 use Rattle.nc_num.specs.declared.names.MapId.{MapId}
-use Rattle.nc_env.specs.declared.CboOp.{CboOp}
 use Rattle.nc_env.specs.declared.CboOp.TheVariants as cbos
 use Rattle.nc_plan.specs.Parts.{comes_back}
 use Rattle.nc_queue.specs.Entries.{is_w, gives_in, entry_gives}
@@ -18,16 +16,16 @@ use Rattle.nc_model.specs.declared.owners.Owner.{Owner}
 use Rattle.nc_model.specs.declared.owners.Owner.TheVariants.{Thread, Passing, Lending, Device, Returning, Synced, Pool}
 use Rattle.nc_rules.specs.Machine.{MachineState, queue_of}
 use Rattle.nc_rules.specs.Sound.{IsMachine}
-use Rattle.nc_rows.specs.Ahead.{names, token, is_full, is_mail, settling}
+use Rattle.nc_rows.specs.Ahead.{names, token, is_full, is_mail}
 use Rattle.nc_rows.specs.Places.{ThreadRow, Alone}
-use Rattle.nc_rows.specs.Rows.{Loan, Book, device_place, back, drop, gives_here, gives_block, Either, ByDir, LendingTo, LendingFrom, DeviceTo, DeviceFrom, DroppingRow, ComingRow, ahead_of, LentRow, DeviceRow, BackRow, SyncedRow, Row}
-use Rattle.nc_row_issues.specs.Laws.{Enters, NoByte, NoBlock, PassesTo, PassesFrom, PassesLent, PassesLoan, PassesBack, Passes}
+use Rattle.nc_rows.specs.Rows.{Loan, Book, device_place, drop, Either, ByDir, LendingTo, LendingFrom, DroppingRow, ComingRow, ahead_of, LentRow, DeviceRow, BackRow}
+use Rattle.nc_row_issues.specs.Laws.{Enters, PassesTo, PassesLent, PassesLoan, PassesBack, Passes}
 use Rattle.nc_row_issues.proofs.LentPushes.{device_to_pushed}
 use Rattle.nc_row_issues.proofs.RowIssues.{rows_issue}
 use Rattle.nc_row_plans.specs.Begins.{NoneQueued}
 use Rattle.nc_row_plans.proofs.PlanEnds.{rows_plan}
 use Rattle.nc_row_plans.proofs.PlanBegins.{rows_begin}
-use Rattle.nc_flat_plans.specs.Turning.{is_kept_op, is_plan_entry, IsDirectAt, LendsNot, HasNoArea, IsLentBy, PlansTurn}
+use Rattle.nc_flat_plans.specs.Turning.{is_plan_entry, IsDirectAt, LendsNot, HasNoArea, IsLentBy, PlansTurn}
 
 -- ---- an entry of a plan
 

@@ -1,5 +1,5 @@
 -- What a plan of a direct mapping does to the rows of its own places and of all others, as statements.
-use Rattle.std.specs.Prelude.{ℕ, ◌≡◌, Bool, true, false, List, [], ◌∷◌, Option, Some, None}
+use Rattle.std.specs.Prelude.{ℕ, ◌≡◌, Bool, true, false, List, [], ◌∷◌, Some}
 use Rattle.std.specs.List.{list_any}
 use Rattle.nc_num.specs.declared.names.MapId.{MapId}
 use Rattle.nc_env.specs.declared.CboOp.{CboOp}
@@ -15,7 +15,7 @@ use Rattle.nc_rules.specs.Machine.{MachineState, queue_of}
 use Rattle.nc_rules.specs.Sound.{IsMachine}
 use Rattle.nc_rows.specs.Ahead.{names, token, is_full}
 use Rattle.nc_rows.specs.Places.{ThreadRow, Alone}
-use Rattle.nc_rows.specs.Rows.{Loan, Book, device_place, drop, back, gives_here, gives_block, ahead_of, LentRow, DeviceRow, BackRow, SyncedRow, Row}
+use Rattle.nc_rows.specs.Rows.{Loan, Book, device_place, drop, back, gives_here, gives_block, ahead_of, LentRow, DeviceRow, BackRow, Row}
 use Rattle.nc_row_issues.specs.Laws.{Enters}
 use Rattle.nc_row_plans.specs.Begins.{LendsAhead, NoneQueued}
 
