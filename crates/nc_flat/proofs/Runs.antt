@@ -1,80 +1,68 @@
--- Whole runs.
-use Rattle.std.specs.Prelude.{Bool, true, false, if◌then◌else◌}
-use Rattle.std.proofs.Common.{◌≡◌, ℕ, ◌<◌, List, [], ◌∷◌, ◌++◌, length, refl, sym, ap, ◌∙◌, inl, inr, arith, subst}
-use Rattle.std.proofs.lemmas.Bool.{and_parts}
-use Rattle.std.proofs.lemmas.List.Elements.{All-head, All-tail}
-use Rattle.nc_num.specs.declared.names.HartNo.{HartNo}
+-- Whole runs, where each event goes.
+use Rattle.std.specs.Prelude.{Bool, true, false, List, take, is_some, unwrap_or, Option, Some, None}
+use Rattle.std.specs.List.{list_any, range_with_len}
+use Rattle.std.proofs.Common.{◌≡◌, ℕ, zero, suc, ◌+◌, ◌<◌, ◌≤◌, [], ◌∷◌, ◌++◌, length, refl, sym, ap, ◌∙◌, inl, inr, arith, subst}
+use Rattle.std.proofs.lemmas.Bool.{or_parts, cases_eq, cases_lt, false≢true}
+use Rattle.std.proofs.lemmas.List.{get_or_past}
+use Rattle.std.proofs.lemmas.List.Elements.{All-head, All-tail, All-take}
+use Rattle.nc_num.specs.Memory.{byte}
+use Rattle.nc_num.specs.declared.names.MapId.{MapId}
+use Rattle.nc_queue.specs.Rules.{gives}
+use Rattle.nc_hart.specs.HartState.{HartState}
 use Rattle.nc_model.specs.Flat.{Mark, Did, Touched, Latest, Untouched, flat, deeds}
+use Rattle.nc_model.specs.Kept.{is_kept}
 use Rattle.nc_model.proofs.FlatLaws.{in_order}
 use Rattle.nc_model.proofs.LatestLaws.{Latest-append, deeds-append}
+use Rattle.nc_model.specs.declared.owners.Owner.{Owner}
+use Rattle.nc_model.specs.declared.owners.Owner.TheVariants.{Thread, Passing, Lending, Device, Returning, Synced, Pool}
 use Rattle.nc_scen.specs.Accepted.{IsAccepted}
 use Rattle.nc_scen.specs.Events.{IsThere}
 use Rattle.nc_scen.specs.declared.events.Event.{Event}
-use Rattle.nc_scen.specs.declared.events.Event.TheVariants as events
 use Rattle.nc_scen.specs.declared.scenario.Scenario.{Scenario}
-use Rattle.nc_rules.specs.declared.records.Record.TheVariants as records
-use Rattle.nc_rules.specs.Driver.{next_of, waits_for}
-use Rattle.nc_rules.specs.Events.{may_go_on, is_out, may_issue_step, enabled}
-use Rattle.nc_rules.specs.Flat.{all_marks, event_marks, run_marks, AreThere}
-use Rattle.nc_rules.specs.Next.{performed, counted, next, event_records}
+use Rattle.nc_rules.specs.Events.{enabled}
+use Rattle.nc_rules.specs.Flat.{event_marks, run_marks, is_given, flat_after, AreThere, IsLatest, IsKept, IsKeptAfter}
+use Rattle.nc_rules.specs.Machine.{MachineState, no_hart}
+use Rattle.nc_rules.specs.Next.{next, event_records}
 use Rattle.nc_rules.specs.Run.{after}
-use Rattle.nc_rules.specs.Outcomes.{step_outcome, try_outcome, told_outcome, outcome}
-use Rattle.nc_rules.specs.World.{WorldState, driver_of}
-use Rattle.nc_scripts.proofs.DriverLaws.{drivers_stay}
-use Rattle.nc_flat.specs.Invariant.{Inv}
-use Rattle.nc_flat.proofs.Steps.{Follows, Before}
-use Rattle.nc_flat.proofs.Situations.{situation}
-use Rattle.nc_flat.proofs.ActSteps.{issues}
-use Rattle.nc_flat.specs.Laws.{IsTouch, EventGoes, EachEventIsFlat}
-use Rattle.nc_flat.proofs.WorldEvents.{goes_silently, drain_goes, word_goes, fill_goes, evict_goes, read_goes, write_goes}
+use Rattle.nc_rules.specs.Start.{memory}
+use Rattle.nc_rules.specs.View.{middle, view, seen}
+use Rattle.nc_rules.specs.Watched.{owner_of}
+use Rattle.nc_rules.specs.World.{WorldState, start}
+use Rattle.nc_rows.specs.Places.{given, ThreadRow, PoolRow}
+use Rattle.nc_rows.specs.Rows.{Book, Loan, SyncedRow, Row}
+use Rattle.nc_flatness.specs.Books.{book_of}
+use Rattle.nc_flatness.specs.Covered.{IsCovered}
+use Rattle.nc_flatness.specs.Flatness.{Flatness}
+use Rattle.nc_flatness.specs.Steps.{IsTouch, GoesTo, Goes, EachGoes}
+use Rattle.nc_flatness.proofs.Starts.{start_flat}
+use Rattle.nc_flatness.proofs.Worlds.{worlds_stay}
 
 -- ---- one event
 
-before : (sc : Scenario) (f : List ℕ) (w : WorldState) (h : HartNo) → IsAccepted sc → Inv sc f w → h.0 < length sc.harts → Before sc f w h
-before sc f w h a inv lt = record {
-  accepted = a;
-  flatness = inv.flatness;
-  grants = inv.grants;
-  lt = lt;
-  stays = drivers_stay sc.ram (length sc.harts) (driver_of w h.0) (inv.flatness.drives h.0 lt).driver;
-}
+-- one that may not happen has no marks, and changes nothing
+off_marks : (w : WorldState) (e : Event) (t : Bool) → enabled w e ≡ t → t ≡ false → event_marks w e ≡ []
+unfolding event_marks event_records
+off_marks w e true on off = absurd (false≢true (sym off))
+off_marks w e false on off = rw on refl
 
-step_goes : (sc : Scenario) (f : List ℕ) (w : WorldState) (h : HartNo) → Before sc f w h → may_issue_step w h ≡ true → Follows sc f w (step_outcome w h (next_of (driver_of w h.0)))
-step_goes sc f w h b on =
-    let d = driver_of w h.0 in
-    issues sc f w h b (situation d (b.flatness.drives h.0 b.lt).plan) (and_parts (is_out w.machine h (waits_for d)) (may_go_on w h (next_of d)) on).1
+off_next : (w : WorldState) (e : Event) → enabled w e ≡ false → next w e ≡ w
+unfolding next
+off_next w e off = rw off refl
 
-outcome_goes : (sc : Scenario) (f : List ℕ) (w : WorldState) (e : Event) → IsAccepted sc → Inv sc f w → IsThere (length sc.harts) sc.block_size sc.ram e → enabled w e ≡ true → Follows sc f w (outcome w e)
-unfolding outcome enabled
-outcome_goes sc f w (events.Issue h) a inv there on = step_goes sc f w h (before sc f w h a inv there) on
-outcome_goes sc f w (events.Try h) a inv there on = word_goes sc f w h (try_outcome w h) (before sc f w h a inv there)
-outcome_goes sc f w (events.Told h got) a inv there on = word_goes sc f w h (told_outcome w h got) (before sc f w h a inv there)
-outcome_goes sc f w (events.Drain h i) a inv there on = drain_goes sc f w h i (before sc f w h a inv there)
-outcome_goes sc f w (events.Fill h b) a inv there on =
-    let of = inv.flatness.of_scenario in fill_goes sc f w h b inv (omega (arith, of.harts, there.0)) (rw (of.size, of.ram) there.1)
-outcome_goes sc f w (events.Evict h b) a inv there on =
-    let of = inv.flatness.of_scenario in evict_goes sc f w h b inv (omega (arith, of.harts, there.0)) (rw (of.size, of.ram) there.1)
-outcome_goes sc f w (events.ChanRead chan) a inv there on = read_goes sc f w chan inv there
-outcome_goes sc f w (events.ChanWrite chan) a inv there on = write_goes sc f w chan inv there
+off_goes : (sc : Scenario) (f : List ℕ) (w : WorldState) (e : Event) → enabled w e ≡ false → Flatness sc f w → Goes sc f w e
+off_goes sc f w e off flat =
+    inr (subst (λ (v : WorldState). GoesTo sc f (event_marks w e) v) (sym (off_next w e off))
+    (subst (λ (ms : List Mark). GoesTo sc f ms w) (sym (off_marks w e (enabled w e) refl off)) (record { untouched = tt; latest = tt; bytes = flat.bytes })))
 
-performed_goes : (sc : Scenario) (f : List ℕ) (w : WorldState) (e : Event) → IsAccepted sc → Inv sc f w → IsThere (length sc.harts) sc.block_size sc.ram e → enabled w e ≡ true
-    → EventGoes sc f (all_marks w.machine.size w.grants (outcome w e).records) (performed w e)
-unfolding performed
-performed_goes sc f w e a inv there on = outcome_goes sc f w e a inv there on
+event_if : (sc : Scenario) (f : List ℕ) (w : WorldState) (e : Event) (t : Bool) → EachGoes → enabled w e ≡ t → IsAccepted sc → IsCovered sc → Flatness sc f w → IsThere (length sc.harts) sc.block_size sc.ram e → Goes sc f w e
+event_if sc f w e true law may a c flat there = law sc f w e (record { accepted = a; covered = c; flat = flat; there = there; may = may })
+event_if sc f w e false law may a c flat there = off_goes sc f w e may flat
 
--- one event more was counted
-counted_goes : (sc : Scenario) (f : List ℕ) (ms : List Mark) (w : WorldState) → EventGoes sc f ms w → EventGoes sc f ms (counted w)
-counted_goes sc f ms w (inl touch) = inl touch
-counted_goes sc f ms w (inr goes) = inr (record { untouched = goes.untouched; latest = goes.latest; inv = record { flatness = goes.inv.flatness; grants = goes.inv.grants } })
+pub event_goes : (sc : Scenario) (f : List ℕ) (w : WorldState) (e : Event) → EachGoes → IsAccepted sc → IsCovered sc → Flatness sc f w → IsThere (length sc.harts) sc.block_size sc.ram e → Goes sc f w e
+event_goes sc f w e law a c flat there = event_if sc f w e (enabled w e) law refl a c flat there
 
-event_by : (sc : Scenario) (f : List ℕ) (w : WorldState) (e : Event) (t : Bool) → IsAccepted sc → Inv sc f w → IsThere (length sc.harts) sc.block_size sc.ram e → enabled w e ≡ t
-    → EventGoes sc f (all_marks w.machine.size w.grants (if t then records.Event e ∷ (outcome w e).records else [])) (if t then counted (performed w e) else w)
-event_by sc f w e true a inv there on = counted_goes sc f _ (performed w e) (performed_goes sc f w e a inv there on)
-event_by sc f w e false a inv there on = goes_silently sc f [] w refl inv
-
-pub event_goes : EachEventIsFlat
-unfolding event_marks event_records next
-event_goes sc f w e a inv there = event_by sc f w e (enabled w e) a inv there refl
+flat_next : (sc : Scenario) (f : List ℕ) (w : WorldState) (e : Event) → Flatness sc f w → IsThere (length sc.harts) sc.block_size sc.ram e → GoesTo sc f (event_marks w e) (next w e) → Flatness sc (flat f (deeds (event_marks w e))) (next w e)
+flat_next sc f w e flat there goes = record { world = worlds_stay sc w e flat.world there; bytes = goes.bytes }
 
 -- ---- all of them
 
@@ -89,28 +77,91 @@ untouched_rest [] ns u v = v
 untouched_rest (Did d ∷ ms) ns u v = untouched_rest ms ns u v
 untouched_rest (Touched ∷ ms) ns u v = absurd u
 
-pub latest_run : (sc : Scenario) (f : List ℕ) (w : WorldState) (es : List Event) → IsAccepted sc → Inv sc f w → AreThere sc es → Latest f (run_marks w es)
+pub latest_run : (sc : Scenario) (f : List ℕ) (w : WorldState) (es : List Event) → EachGoes → IsAccepted sc → IsCovered sc → Flatness sc f w → AreThere sc es → Latest f (run_marks w es)
 unfolding run_marks
-latest_run sc f w [] a inv there = tt
-latest_run sc f w (e ∷ es) a inv there =
-    elim (event_goes sc f w e a inv (All-head (IsThere (length sc.harts) sc.block_size sc.ram) e es there)) [
+latest_run sc f w [] law a c now there = tt
+latest_run sc f w (e ∷ es) law a c now there =
+    let here = All-head (IsThere (length sc.harts) sc.block_size sc.ram) e es there in
+    elim (event_goes sc f w e law a c now here) [
       | inl touch ↦ touched_latest f (event_marks w e) (run_marks (next w e) es) touch
       | inr goes ↦
           Latest-append f (event_marks w e) (run_marks (next w e) es) goes.latest
-          (λ _. latest_run sc (flat f (deeds (event_marks w e))) (next w e) es a goes.inv (All-tail (IsThere (length sc.harts) sc.block_size sc.ram) e es there))
+          (λ _. latest_run sc (flat f (deeds (event_marks w e))) (next w e) es law a c (flat_next sc f w e now here goes) (All-tail (IsThere (length sc.harts) sc.block_size sc.ram) e es there))
     ]
 
 flat_on : (f : List ℕ) (ms ns : List Mark) → flat f (deeds (ms ++ ns)) ≡ flat (flat f (deeds ms)) (deeds ns)
 flat_on f ms ns = ap (flat f) (deeds-append ms ns) ∙ in_order f (deeds ms) (deeds ns)
 
-pub inv_run : (sc : Scenario) (f : List ℕ) (w : WorldState) (es : List Event) → IsAccepted sc → Inv sc f w → AreThere sc es → Untouched (run_marks w es) → Inv sc (flat f (deeds (run_marks w es))) (after w es)
+pub flat_run : (sc : Scenario) (f : List ℕ) (w : WorldState) (es : List Event) → EachGoes → IsAccepted sc → IsCovered sc → Flatness sc f w → AreThere sc es → Untouched (run_marks w es) → Flatness sc (flat f (deeds (run_marks w es))) (after w es)
 unfolding run_marks after
-inv_run sc f w [] a inv there none = inv
-inv_run sc f w (e ∷ es) a inv there none =
-    elim (event_goes sc f w e a inv (All-head (IsThere (length sc.harts) sc.block_size sc.ram) e es there)) [
+flat_run sc f w [] law a c flat there none = flat
+flat_run sc f w (e ∷ es) law a c now there none =
+    let here = All-head (IsThere (length sc.harts) sc.block_size sc.ram) e es there in
+    elim (event_goes sc f w e law a c now here) [
       | inl touch ↦ absurd (touched_not (event_marks w e) (run_marks (next w e) es) touch none)
       | inr goes ↦
-          subst (λ (k : List ℕ). Inv sc k (after (next w e) es)) (sym (flat_on f (event_marks w e) (run_marks (next w e) es)))
-          (inv_run sc (flat f (deeds (event_marks w e))) (next w e) es a goes.inv (All-tail (IsThere (length sc.harts) sc.block_size sc.ram) e es there)
+          subst (λ (k : List ℕ). Flatness sc k (after (next w e) es)) (sym (flat_on f (event_marks w e) (run_marks (next w e) es)))
+          (flat_run sc (flat f (deeds (event_marks w e))) (next w e) es law a c (flat_next sc f w e now here goes) (All-tail (IsThere (length sc.harts) sc.block_size sc.ram) e es there)
           (untouched_rest (event_marks w e) (run_marks (next w e) es) goes.untouched none))
     ]
+
+-- ---- where no queue has a byte
+
+none_in : (p : ℕ → Bool) (at n x : ℕ) → list_any p (range_with_len at n) ≡ false → at ≤ x → x < at + n → p x ≡ false
+none_in p at zero x none le lt = absurd (omega (arith, le, lt))
+none_in p at (suc n) x none le lt =
+    let parts = or_parts (p at) (list_any p (range_with_len (at + 1) n)) none in
+    elim (cases_eq x at) [ inl e ↦ rw e parts.0 | inr ne ↦ none_in p (at + 1) n x parts.1 (omega (arith, le, ne)) (omega (arith, lt)) ]
+
+none_if : (o : Option ℕ) → is_some o ≡ false → o ≡ None
+none_if None none = refl
+none_if (Some v) none = absurd cc
+
+given_none : (m : MachineState) (h x : ℕ) → is_given m x ≡ false → given m h x ≡ None
+unfolding gives
+given_none m h x none = elim (cases_lt h (length m.harts)) [
+  | inl lt ↦ none_if (given m h x) (none_in (λ g. is_some (given m g x)) 0 (length m.harts) h none (omega arith) (omega (arith, lt)))
+  | inr past ↦ ap (λ (s : HartState). gives m.size s.queue.entries x) (get_or_past m.harts h no_hart past)
+]
+
+view_is : (m : MachineState) (h x : ℕ) → view m h x ≡ unwrap_or (given m h x) (middle m x)
+unfolding seen
+view_is m h x = refl
+
+below : (m : MachineState) (h v x : ℕ) → is_given m x ≡ false → ThreadRow h v m x → middle m x ≡ v
+below m h v x none row = sym (ap (λ (o : Option ℕ). unwrap_or o (middle m x)) (given_none m h x none)) ∙ sym (view_is m h x) ∙ row.shows
+
+pool_below : (m : MachineState) (v x : ℕ) → PoolRow v m x → middle m x ≡ v
+unfolding middle
+pool_below m v x row = row.both.copy
+
+synced_below : (m : MachineState) (n : MapId) (o : Option Loan) (v x : ℕ) → is_given m x ≡ false → SyncedRow n o v m x → middle m x ≡ v
+synced_below m n None v x none row = absurd row
+synced_below m n (Some l) v x none row = below m n.hart.0 v x none row
+
+kept_by : (a : Book) (o : Owner) (v : ℕ) (m : MachineState) (x : ℕ) → is_kept o ≡ true → is_given m x ≡ false → Row a o v m x → middle m x ≡ v
+kept_by a (Thread h) v m x kept none row = below m h.0 v x none row
+kept_by a (Passing h g) v m x kept none row = below m h.0 v x none row.giver
+kept_by a (Synced n) v m x kept none row = synced_below m n (a.loan n) v x none row
+kept_by a Pool v m x kept none row = pool_below m v x row
+kept_by a (Lending n) v m x kept none row = absurd (false≢true kept)
+kept_by a (Device n) v m x kept none row = absurd (false≢true kept)
+kept_by a (Returning n) v m x kept none row = absurd (false≢true kept)
+
+-- ---- the laws
+
+pub latest_of : EachGoes → (sc : Scenario) → IsAccepted sc → IsCovered sc → (es : List Event) → AreThere sc es → IsLatest sc es
+latest_of law sc a c es there = latest_run sc (memory sc) (start sc) es law a c (start_flat sc a c) there
+
+pub flat_of : EachGoes → (sc : Scenario) (es : List Event) → IsAccepted sc → IsCovered sc → AreThere sc es → Untouched (run_marks (start sc) es) → Flatness sc (flat (memory sc) (deeds (run_marks (start sc) es))) (after (start sc) es)
+flat_of law sc es a c there none = flat_run sc (memory sc) (start sc) es law a c (start_flat sc a c) there none
+
+kept_after : EachGoes → (sc : Scenario) → IsAccepted sc → IsCovered sc → (es : List Event) → AreThere sc es → IsKeptAfter sc es
+kept_after law sc a c es there untouched =
+    let w = after (start sc) es in
+    let flat = flat_of law sc es a c there untouched in
+    record { at = λ x lt off kept none. kept_by (book_of w) (owner_of w x) (byte (flat_after sc es) x) w.machine x kept none (flat.bytes.rows x lt) }
+
+-- a front of a run is a run
+pub kept_of : EachGoes → (sc : Scenario) → IsAccepted sc → IsCovered sc → (es : List Event) → AreThere sc es → IsKept sc es
+kept_of law sc a c es there n = kept_after law sc a c (take n es) (All-take (IsThere (length sc.harts) sc.block_size sc.ram) n es there)

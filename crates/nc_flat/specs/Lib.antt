@@ -1,4 +1,1 @@
-pub mod Rows
-pub mod Messages
-pub mod Invariant
 pub mod Laws

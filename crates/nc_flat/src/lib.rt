@@ -3,9 +3,10 @@
 //! The crate has no code. It proves, over the definitions of the written machine, that whatever events happen in
 //! whatever order, each load and each channel read before the first touch shows the byte that was last written to its
 //! place, and that after each front of the run without a touch memory below the queues has the same byte outside the
-//! bounce slots, wherever no queue holds a newer one. The contract for the layers above: `latest_law` and `kept_law`.
+//! bounce slots, wherever no queue holds a newer one and no mapping lends the place. The contract for the layers above:
+//! `latest_law` and `kept_law`.
 #![tactic(auto)]
 
 mod laws;
 
-pub use laws::{events_keep_flat, kept_law, latest_law, runs_keep_flat, start_is_flat};
+pub use laws::{events_keep_flat, kept_law, latest_law, runs_keep_flat};

@@ -10,5 +10,3 @@ pub mod BookReads
 pub mod Regions
 pub mod StartOwners
 pub mod Starts
-pub mod Runs
-pub mod Dispatch

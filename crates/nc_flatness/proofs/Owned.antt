@@ -27,7 +27,7 @@ use Rattle.nc_holds.specs.Holds.{Holds}
 use Rattle.nc_holds.proofs.ListsA.{all_at, at_get}
 use Rattle.nc_holds.proofs.OwnerLots.{same_named}
 use Rattle.nc_rows.specs.Rows.{Loan, device_place}
-use Rattle.nc_flatness.specs.Covered.{is_direct, is_covered_op, IsCoveredNow, IsCoveredScript}
+use Rattle.nc_flatness.specs.Covered.{is_direct, is_covered_op, IsCovered, IsCoveredScript}
 use Rattle.nc_flatness.specs.Books.{is_entry_of, loan_by, book_of, mapping_in, LiesIn}
 use Rattle.nc_flatness.specs.Flatness.{IsWorldOf, Flatness}
 use Rattle.nc_flatness.proofs.Loans.{IsDirectLot, IsLoan, named_by, hart_of_lot, lot_direct, loan_is, device_same}
@@ -150,7 +150,7 @@ script_by direct specs h all lt = all_or specs h all lt
     all_or (s ∷ specs) (suc h) all lt = all_or specs h (All-tail (IsCoveredScript direct) s specs all) (omega (arith, lt))
 
 -- the operation in hand is covered
-pub covered_op : (sc : Scenario) (w : WorldState) (h : ℕ) (o : Op) → IsCoveredNow sc → IsWorldOf sc w → h < length sc.harts → in_hand (driver_of w h) ≡ Some o → is_covered_op (is_direct sc) o ≡ true
+pub covered_op : (sc : Scenario) (w : WorldState) (h : ℕ) (o : Op) → IsCovered sc → IsWorldOf sc w → h < length sc.harts → in_hand (driver_of w h) ≡ Some o → is_covered_op (is_direct sc) o ≡ true
 covered_op sc w h o c world lt e =
     covered_by (is_direct sc) (hart_spec sc h).script (driver_of w h).op o (script_by (is_direct sc) sc.harts h c.scripts lt)
     (ap (λ (f : Fixed). slice_get f.script (driver_of w h).op) (sym (world.fixed h lt)) ∙ e)

@@ -48,7 +48,7 @@ is_covered_op direct (Copy chan src src_off dst dst_off len cfg) = false
 abbrev pub IsCoveredScript : Bool → HartSpec → Type 0
 IsCoveredScript direct h = All (λ o. is_covered_op direct o ≡ true) h.script
 
-pub record IsCoveredNow (sc : Scenario) : Type 0 where
+pub record IsCovered (sc : Scenario) : Type 0 where
   pub scripts : All (IsCoveredScript (is_direct sc)) sc.harts
 
 -- the operation is one of those that lend and take back

@@ -16,7 +16,7 @@ use Rattle.nc_rules.specs.Start.{memory}
 use Rattle.nc_ops.specs.declared.ops.Op.{Op}
 use Rattle.nc_rules.specs.Driver.{in_hand}
 use Rattle.nc_rules.specs.World.{WorldState, driver_of, start}
-use Rattle.nc_flatness.specs.Covered.{IsCoveredNow, is_lending}
+use Rattle.nc_flatness.specs.Covered.{IsCovered, is_lending}
 use Rattle.nc_flatness.specs.Flatness.{IsWorldOf, BytesStand, Flatness}
 
 -- a touch comes before all else
@@ -36,7 +36,7 @@ EventGoes sc f ms w = IsTouch ms ⊎ GoesTo sc f ms w
 -- an event that may happen, in a world with flat memory f of a scenario that is covered
 pub record IsNow (sc : Scenario) (f : List ℕ) (w : WorldState) (e : Event) : Type 0 where
   pub accepted : IsAccepted sc
-  pub covered : IsCoveredNow sc
+  pub covered : IsCovered sc
   pub flat : Flatness sc f w
   pub there : IsThere (length sc.harts) sc.block_size sc.ram e
   pub may : enabled w e ≡ true
@@ -52,7 +52,7 @@ abbrev pub WorldsStart : Type 0
 WorldsStart = (sc : Scenario) → IsAccepted sc → IsWorldOf sc (start sc)
 
 abbrev pub StartIsFlat : Type 0
-StartIsFlat = (sc : Scenario) → IsAccepted sc → IsCoveredNow sc → Flatness sc (memory sc) (start sc)
+StartIsFlat = (sc : Scenario) → IsAccepted sc → IsCovered sc → Flatness sc (memory sc) (start sc)
 
 -- a world of a scenario stays one
 abbrev pub WorldsStay : Type 0

@@ -6,7 +6,7 @@ use Rattle.nc_migrate.specs.Migrating.{KeepsReading}
 use Rattle.nc_top.specs.Due.{due, due_for, command_of, asks_input}
 use Rattle.nc_scen.specs.Reading.{most_bytes, reading}
 use Rattle.nc_scen.specs.declared.scenario.Scenario.{Scenario}
-use Rattle.nc_scripts.specs.Covered.{IsCovered}
+use Rattle.nc_flatness.specs.Covered.{IsCovered}
 use Rattle.nc_rules.specs.Flat.{IsLatest, IsKept}
 use Rattle.nc_rules.specs.Schedule.{sched}
 

@@ -1,9 +1,12 @@
 //! What no clause says: that the laws are ones that a call meets.
 
-use nc_flat::{events_keep_flat, kept_law, latest_law, runs_keep_flat, start_is_flat};
+use nc_flat::{events_keep_flat, kept_law, latest_law, runs_keep_flat};
+use nc_flatness::{start_is_flat, worlds_start, worlds_stay};
 
 #[test]
 fn laws_are_called() {
+    worlds_start();
+    worlds_stay();
     start_is_flat();
     events_keep_flat();
     runs_keep_flat();

@@ -1,5 +1,8 @@
 //! Each law is called.
 
+use nc_flat_moves::moves_go;
+use nc_flat_plans::{book_rows, plans_go, plans_turn};
+use nc_flat_scripts::steps_go;
 use nc_lines::{lines_cover, lines_drain, lines_gain};
 use nc_row_channels::rows_of_channels;
 use nc_row_issues::rows_issue;
@@ -23,4 +26,9 @@ fn laws_are_called() {
     rows_plan();
     plans_lend();
     plans_return();
+    moves_go();
+    steps_go();
+    book_rows();
+    plans_turn();
+    plans_go();
 }
