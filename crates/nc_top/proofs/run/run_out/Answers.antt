@@ -6,7 +6,7 @@ use Rattle.nc_top.proofs.run.run_out.Goals as goal
 
 pub running-init : goal.running-init
 running-init g c =
-    (go_start (g.K.Sink.held c.args.out.now) c.args.sc.now c.in-Ok.w c.new-sched.result c.requires.accepted c.in-Ok.ensures.at c.in-Ok.ensures.records c.new-sched.ensures.whole, omega arith)
+    (go_start (g.K.Sink.held c.args.out.now) c.args.sc.now c.in-Ok.w c.new-sched.result c.requires c.in-Ok.ensures.at c.in-Ok.ensures.records c.new-sched.ensures.whole, omega arith)
 
 pub running-preserved : goal.running-preserved
 running-preserved g c =
