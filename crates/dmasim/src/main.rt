@@ -5,16 +5,23 @@ use nc_io::{StdSink, StdSource};
 use nc_top::dmasim;
 use std::alloc::{AllocError, Global};
 use std::env;
-use std::io::{BufWriter, Write};
+use std::io::{BufWriter, ErrorKind, Write};
 use std::process::ExitCode;
 use std::rt::Env;
 
-/// The words after the program's name; none where they can't be had.
+/// The words after the program's name; none where one is not UTF-8, which no command is. The error is that memory ran out.
 fn words<R: Env + AllocGlobal>(rt: &R, alloc: Global) -> Result<Vec<String>, AllocError> {
     let mut words = Vec::new(alloc);
-    if let Ok(given) = env::args(rt) {
-        for word in given.skip(1) {
-            words.push(word)?;
+    match env::args(rt) {
+        Ok(given) => {
+            for word in given.skip(1) {
+                words.push(word)?;
+            }
+        }
+        Err(lost) => {
+            if lost.kind() == ErrorKind::OutOfMemory {
+                return Err(AllocError);
+            }
         }
     }
     Ok(words)
