@@ -37,6 +37,10 @@ fn main(rt: HostRuntime) -> ExitCode {
     };
     let mut src = StdSource::new(rt.reader());
     let status = dmasim(alloc, &words, &mut src, &mut StdSink::new(&mut buffered));
+    if status == 2 {
+        // A help beside the answer: where it can't be written, the status stays.
+        let _ = eprintln!(rt; "usage: dmasim run | migrate | pool | gen N");
+    }
     match buffered.flush() {
         Ok(()) => ExitCode::from(status),
         Err(_) => ExitCode::from(5),
