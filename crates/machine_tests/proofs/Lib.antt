@@ -1,2 +1,1 @@
-mod BenchLaws
 mod Benches
