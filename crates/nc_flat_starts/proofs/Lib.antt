@@ -1,0 +1,3 @@
+pub mod BookRows
+pub mod Effects
+pub mod Frames
