@@ -5,3 +5,5 @@ pub mod Pieces
 pub mod PlanComes
 pub mod Sides
 pub mod PlansGo
+pub mod Lots
+pub mod Bases

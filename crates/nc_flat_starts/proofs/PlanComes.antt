@@ -1,5 +1,5 @@
 -- What is to come of operations and the steps behind them.
-use Rattle.std.specs.Prelude.{Option, Some, None, ◌||◌, is_some, Bool, true, false, if◌then◌else◌, All, map, flat_map}
+use Rattle.std.specs.Prelude.{Option, Some, None, ◌||◌, ◌-◌, is_some, Bool, true, false, if◌then◌else◌, All, map, flat_map}
 use Rattle.std.specs.List.{list_any}
 use Rattle.std.proofs.Common.{◌≡◌, ℕ, List, [], ◌∷◌, ◌++◌, refl, sym, ap, ◌∙◌, inl, inr}
 use Rattle.std.proofs.lemmas.Bool.{or_right, cases_Bool, cond-true, cond-false}
@@ -88,8 +88,8 @@ copies_are cut ms = are_flat is_plain (ops_of cut) ms (λ m.
 
 pub store_gives : (s x : ℕ) (span : Span) → gives_at s x (entries.Store span [] Pma) ≡ covers span x
 store_gives s x span = elim (cases_Bool (covers span x)) [
-  | inl on ↦ ap (λ (o : Option ℕ). is_some o) (cond-true (covers span x) (Some (byte [] _)) None on) ∙ sym on
-  | inr off ↦ ap (λ (o : Option ℕ). is_some o) (cond-false (covers span x) (Some (byte [] _)) None off) ∙ sym off
+  | inl on ↦ ap (λ (o : Option ℕ). is_some o) (cond-true (covers span x) (Some (byte [] (x - span.at))) None on) ∙ sym on
+  | inr off ↦ ap (λ (o : Option ℕ). is_some o) (cond-false (covers span x) (Some (byte [] (x - span.at))) None off) ∙ sym off
 ]
 
 -- what they give at a place

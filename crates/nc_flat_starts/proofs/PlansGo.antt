@@ -1,7 +1,7 @@
 -- The plans of a lot go through: what each of their steps is for, at their start.
 use Rattle.std.specs.Prelude.{Option, Some, None, ◌&&◌, ◌||◌, ◌==◌, ◌/◌, Bool, true, false, if◌then◌else◌, All, map, flat_map, slice_get}
 use Rattle.std.specs.List.{list_any}
-use Rattle.std.proofs.Common.{◌≡◌, ◌≢◌, ◌⊎◌, ℕ, ◌+◌, ◌<◌, ◌≤◌, List, [], ◌∷◌, ◌++◌, refl, sym, ap, ◌∙◌, inl, inr, subst, arith}
+use Rattle.std.proofs.Common.{◌≡◌, ◌≢◌, ◌⊎◌, ℕ, suc, ◌+◌, ◌<◌, ◌≤◌, List, [], ◌∷◌, ◌++◌, refl, sym, ap, ◌∙◌, inl, inr, subst, arith}
 use Rattle.std.proofs.lemmas.Bool.{cases_Bool, both_ways, and_from, eq-eqb, or_left, or_right, or_from, false_from_ne_true, cond-true, cond-false}
 use Rattle.std.proofs.lemmas.List.{append-nil}
 use Rattle.std.proofs.lemmas.List.Elements.{All-nil, All-cons, All-head, All-tail}
@@ -100,7 +100,7 @@ ins_are : (f : Fixed) (dir : Dir) (es : List Entry) → ((i : ℕ) (e : Entry) �
 ins_are f dir [] off = refl
 ins_are f dir (e ∷ es) off =
     ap (λ (ops : List HartOp). ops ++ flat_map copied_in (map (sg.part_of dir f.slots_at) es)) (in_one f dir e (off 0 e refl))
-    ∙ ap (λ (ops : List HartOp). flat_map (ops_of (in_cut f)) (if e.bounced then map (piece_of e) (pieces e.span) else []) ++ ops) (ins_are f dir es (λ i d there. off (1 + i) d there))
+    ∙ ap (λ (ops : List HartOp). flat_map (ops_of (in_cut f)) (if e.bounced then map (piece_of e) (pieces e.span) else []) ++ ops) (ins_are f dir es (λ i d there. off (suc i) d there))
     ∙ sym (flat_map-append (ops_of (in_cut f)) (if e.bounced then map (piece_of e) (pieces e.span) else []) (moves_of (in_cut f) es))
 
 -- those that come out, where the direction comes back
@@ -124,10 +124,10 @@ outs_are f dir [] true back off = refl
 outs_are f dir [] false back off = refl
 outs_are f dir (e ∷ es) true back off =
     ap (λ (ops : List HartOp). ops ++ flat_map copied_back (map (sg.part_of dir f.slots_at) es)) (out_one f dir e back (off 0 e refl))
-    ∙ ap (λ (ops : List HartOp). flat_map (ops_of (out_cut f)) (if e.bounced then map (piece_of e) (pieces (device_of f e)) else []) ++ ops) (outs_are f dir es true back (λ i d there. off (1 + i) d there))
+    ∙ ap (λ (ops : List HartOp). flat_map (ops_of (out_cut f)) (if e.bounced then map (piece_of e) (pieces (device_of f e)) else []) ++ ops) (outs_are f dir es true back (λ i d there. off (suc i) d there))
     ∙ sym (flat_map-append (ops_of (out_cut f)) (if e.bounced then map (piece_of e) (pieces (device_of f e)) else []) (moves_of (out_cut f) es))
 outs_are f dir (e ∷ es) false back off =
-    ap (λ (ops : List HartOp). ops ++ flat_map copied_back (map (sg.part_of dir f.slots_at) es)) (out_none f dir e back) ∙ outs_are f dir es false back (λ i d there. off (1 + i) d there)
+    ap (λ (ops : List HartOp). ops ++ flat_map copied_back (map (sg.part_of dir f.slots_at) es)) (out_none f dir e back) ∙ outs_are f dir es false back (λ i d there. off (suc i) d there)
 
 -- ---- cache operations
 
