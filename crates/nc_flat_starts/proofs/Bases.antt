@@ -3,7 +3,7 @@
 use Rattle.std.specs.Prelude.{Option, Some, None, All, ◌&&◌, ◌==◌, ◌+◌, ◌*◌, ◌%◌, not, is_none, unwrap_or, Bool, true, false, slice_get, option_map}
 use Rattle.std.specs.List.{list_any}
 use Rattle.std.proofs.Common.{◌≡◌, ◌≢◌, ◌⊎◌, ℕ, ◌<◌, ◌≤◌, List, [], ◌∷◌, ◌++◌, length, refl, sym, ap, ◌∙◌, inl, inr, subst, arith}
-use Rattle.std.proofs.lemmas.Bool.{cases_Bool, both_ways, cond-true, cond-false, eq-eqb, eqb-true, false_from_ne_true}
+use Rattle.std.proofs.lemmas.Bool.{cases_Bool, cases_eq, both_ways, cond-true, cond-false, eq-eqb, eqb-true, false_from_ne_true}
 use Rattle.nc_num.specs.Places.{covers}
 use Rattle.nc_num.specs.Sizes.{IsBlockSize}
 use Rattle.nc_num.specs.declared.names.HartNo.{HartNo}
@@ -21,7 +21,8 @@ use Rattle.nc_rules.specs.declared.lots.Kind.{Kind}
 use Rattle.nc_rules.specs.declared.lots.Kind.TheVariants as kinds
 use Rattle.nc_rules.specs.declared.lots.Lot.{Lot}
 use Rattle.nc_rules.specs.declared.lots.LotId.{LotId}
-use Rattle.nc_rules.specs.Lots.{Fixed, is_wanted, lot_waits}
+use Rattle.nc_rules.specs.declared.lots.Side.TheVariants as sides
+use Rattle.nc_rules.specs.Lots.{Fixed, is_wanted, owner_of_side, lot_waits}
 use Rattle.nc_rules.specs.Refusals.{buffer_of}
 use Rattle.nc_rules.specs.Turns.{is_area}
 use Rattle.nc_rules.specs.Start.{fixed_of, hart_spec}
@@ -32,11 +33,16 @@ use Rattle.nc_scripts.proofs.Lists.{none_any, position_any}
 use Rattle.nc_holds.specs.Held.{Held, IsEntryOf, FitsSide, LiesInBuffer, slots_span}
 use Rattle.nc_holds.specs.Holds.{held_of}
 use Rattle.nc_holds.proofs.EventFrom.{EveryoneIn}
-use Rattle.nc_holds.proofs.GrantWords.{slot_once}
+use Rattle.nc_holds.proofs.GrantWords.{slot_once, slot_holder, slot_harts}
 use Rattle.nc_holds.proofs.ListsA.{all_at, at_get}
 use Rattle.nc_holds.proofs.OwnerLots.{same_lot, entry_in}
-use Rattle.nc_flatness.specs.Books.{loan_of}
-use Rattle.nc_flatness.specs.Flatness.{is_mapping, IsMapping, IsStillOrWanted, Flatness}
+use Rattle.nc_rules.specs.Watched.{owner_of}
+use Rattle.nc_model.specs.declared.owners.Owner.{Owner}
+use Rattle.nc_rows.specs.Laws.{seen_at}
+use Rattle.nc_rows.specs.Rows.{device_place}
+use Rattle.nc_flatness.specs.Books.{loan_of, book_of}
+use Rattle.nc_flatness.specs.Flatness.{is_mapping, IsMapping, IsStillOrWanted, IsUnseen, Flatness}
+use Rattle.nc_flatness.proofs.Seen.{slot_at, seen, seen_ways, slot_slots, has_slot, of_device}
 use Rattle.nc_flatness.specs.Plans.{IsStill}
 use Rattle.nc_flat_starts.proofs.Lots.{loan_in}
 use Rattle.nc_flat_starts.proofs.PlansGo.{IsPlanned}
@@ -54,9 +60,10 @@ pub record IsBase (sc : Scenario) (f : List ℕ) (w : WorldState) (h : HartNo) (
   pub mappings : All (IsMapping (driver_of w h.0).fixed) lots
   pub here : In lot lots
   pub placed : lot_waits lot ≡ false
-  -- mappings of other labels are as they are, and one of this is the lot
+  -- mappings of other labels are as they are
   pub loans : (k : MapId) → (k.label.0 ≡ lot.id.label.0 → ⊥) → loan_in (driver_of w h.0).fixed lots k ≡ loan_of (driver_of w h.0) k
-  pub same_label : (other : Lot) → In other (driver_of w h.0).lots → is_wanted other.side ≡ false → other.id.label.0 ≡ lot.id.label.0 → other.list.entries ≡ lot.list.entries
+  -- a lot that is lent, or was, is one of them
+  pub kept : (other : Lot) → In other (driver_of w h.0).lots → is_wanted other.side ≡ false → In other lots
   pub still : All IsStillOrWanted (driver_of w h.0).lots
   pub others : Others IsStill lot.id lots
   -- no plan is left
@@ -190,3 +197,44 @@ base_planned sc f w h lots lot b =
           ne (slot_once fx.me b.slots lots kd.0 lot lot i j d e b.each.words (record { lot_in = b.here; entry = at_i }) (record { lot_in = b.here; entry = at_j }) kd.1 (subst (λ (k : ℕ). e.slot ≡ Some k) (sym same) ke.1)).entry;
       buffers = λ i j d e ne at_i at_j db eb x on_d on_e. ne (b.each.mine.apart lot lot i j d e x (record { lot_in = b.here; entry = at_i }) (record { lot_in = b.here; entry = at_j }) on_d on_e).entry;
     }
+
+-- ---- the lots that it had
+
+-- one of this label is the lot
+pub base_one : (sc : Scenario) (f : List ℕ) (w : WorldState) (h : HartNo) (lots : List Lot) (lot other : Lot) → IsBase sc f w h lots lot → In other lots → other.id.label.0 ≡ lot.id.label.0 → other ≡ lot
+base_one sc f w h lots lot other b there same = label_one (length w.machine.cache.ram) (driver_of w h.0).fixed lots other lot b.each.knows.lots b.mappings b.each.knows.names there b.here same
+
+-- a place that is seen in a slot is not of the slot of a lot that waits, or is synced
+pub base_unseen : (sc : Scenario) (f : List ℕ) (w : WorldState) (h : HartNo) (lots : List Lot) (lot : Lot) (i : ℕ) (e : Entry) (k z : ℕ) → IsBase sc f w h lots lot → slice_get lot.list.entries i ≡ Some e → (lot.side ≡ sides.Wanted) ⊎ (lot.side ≡ sides.Synced) → e.bounced ≡ true → e.slot ≡ Some k
+    → covers (slot_at sc k) z ≡ true → IsUnseen (book_of w) (owner_of w) (slots_of sc) z
+base_unseen sc f w h lots lot i e k z b there side bounced slot on x off same =
+    let fx = (driver_of w h.0).fixed in
+    let few : k < sc.slots = subst (λ (n : ℕ). k < n) (ap (λ (j : Fixed). j.slots) (fixed_is sc f w h b.flat b.lt)) ((entry_in (length w.machine.cache.ram) fx lot i e (base_lot sc f w h lots lot b) there).slot k slot).few in
+    let never : seen w x ≡ x → ⊥ = λ at. both_ways (covers (slots_of sc) x) off (ap (covers (slots_of sc)) (sym at ∙ same) ∙ slot_slots sc k z few on) in
+    elim (seen_ways sc f w x b.flat) [
+      | inl at ↦ never at
+      | inr p ↦
+          let m = p.is.is in
+          let its = has_slot sc f w p.id.hart.0 m.lot m.i m.entry b.flat m.here m.lent p.bounced in
+          let inside = subst (λ (y : ℕ). covers (slot_at sc its.k) y ≡ true) (sym p.here ∙ same) (its.inside (device_place p.is.loan x) (of_device w p.id p.is.loan x m p.is.on)) in
+          let word : its.k ≡ k = one_word sc.slots_at its.k k z (covers-low (slot_at sc its.k) z inside) (covers-high (slot_at sc its.k) z inside) (covers-low (slot_at sc k) z on) (covers-high (slot_at sc k) z on) in
+          let its_slot : m.entry.slot ≡ Some k = its.slot ∙ ap Some word in
+          elim (cases_eq p.id.hart.0 h.0) [
+            | inl own ↦
+                let mine : In m.lot (driver_of w h.0).lots = subst (λ (g : ℕ). In m.lot (driver_of w g).lots) own m.here.lot_in in
+                let kept = b.kept m.lot mine m.lent in
+                let one = slot_once fx.me b.slots lots k lot m.lot i m.i e m.entry b.each.words (record { lot_in = b.here; entry = there }) (record { lot_in = kept; entry = m.here.entry }) slot its_slot in
+                let lot_is : lot ≡ m.lot = same_lot lots lot m.lot b.each.knows.names b.here kept one.lot in
+                elim side [
+                  | inl wanted ↦ both_ways (is_wanted m.lot.side) m.lent (ap (λ (l : Lot). is_wanted l.side) (sym lot_is) ∙ ap is_wanted wanted)
+                  | inr synced ↦
+                      let owner : owner_of w x ≡ owner_of_side p.id sides.Synced = p.is.owner ∙ ap (owner_of_side p.id) (ap (λ (l : Lot). l.side) (sym lot_is) ∙ synced) in
+                      never (ap (λ (o : Owner). seen_at (book_of w) o x) owner)
+                ]
+            | inr ne ↦
+                let theirs = b.each.theirs p.id.hart.0 m.hart ne in
+                let my_word = slot_holder fx.me b.slots lots k lot i e b.each.words (record { lot_in = b.here; entry = there }) slot in
+                let their_word = slot_holder (driver_of w p.id.hart.0).fixed.me b.slots (driver_of w p.id.hart.0).lots k m.lot m.i m.entry theirs.words m.here its_slot in
+                ne (sym theirs.me ∙ sym (slot_harts fx.me (driver_of w p.id.hart.0).fixed.me b.slots k my_word their_word) ∙ b.each.me)
+          ]
+    ]

@@ -44,6 +44,25 @@ set_here side (x ∷ lots) lot (inl same) =
     inl (ap (λ (k : Lot). with_side side lot.id k) same ∙ cond-true (is_lot lot.id lot) (turned_lot side lot) lot (its_name lot lot.id refl))
 set_here side (x ∷ lots) lot (inr later) = inr (set_here side lots lot later)
 
+-- each lot behind it was there, or is one of the name
+set_from : (side : Side) (id : LotId) (lots : List Lot) (now : Lot) → In now (set_side side id lots) → (lot : Lot) × In lot lots × (now ≡ with_side side id lot)
+set_from side id [] now here = absurd here
+set_from side id (x ∷ lots) now (inl same) = (x, inl refl, sym same)
+set_from side id (x ∷ lots) now (inr later) = let r = set_from side id lots now later in (r.0, inr r.1, r.2)
+
+with_same : (side : Side) (id : LotId) (lot : Lot) → (with_side side id lot).id ≡ lot.id
+with_same side id lot = elim (cases_Bool (is_lot id lot)) [
+  | inl is ↦ ap (λ (l : Lot). l.id) (cond-true (is_lot id lot) (turned_lot side lot) lot is)
+  | inr off ↦ ap (λ (l : Lot). l.id) (cond-false (is_lot id lot) (turned_lot side lot) lot off)
+]
+
+-- the only lot of its label stays so
+pub set_one : (side : Side) (lots : List Lot) (lot : Lot) → ((other : Lot) → In other lots → other.id.label.0 ≡ lot.id.label.0 → other ≡ lot) → (other : Lot) → In other (set_side side lot.id lots) → other.id.label.0 ≡ lot.id.label.0 → other ≡ turned_lot side lot
+set_one side lots lot only other there same =
+    let from = set_from side lot.id lots other there in
+    let was : from.0 ≡ lot = only from.0 from.1 (sym (ap (λ (i : LotId). i.label.0) (ap (λ (l : Lot). l.id) from.2 ∙ with_same side lot.id from.0)) ∙ same) in
+    from.2 ∙ ap (λ (k : Lot). with_side side lot.id k) was ∙ cond-true (is_lot lot.id lot) (turned_lot side lot) lot (its_name lot lot.id refl)
+
 pub set_others : (P : Lot → Type 0) (side : Side) (id : LotId) (lots : List Lot) → Others P id lots → Others P id (set_side side id lots)
 set_others P side id [] all = All-nil (λ other. is_lot id other ≡ false → P other)
 set_others P side id (x ∷ lots) all =
