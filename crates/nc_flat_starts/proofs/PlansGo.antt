@@ -44,14 +44,14 @@ use Rattle.nc_calls.specs.PlaceLaws.{drops_copies}
 use Rattle.nc_scripts.proofs.Lists.{all_in, all_to}
 use Rattle.nc_holds.specs.Held.{SharesNone, IsEntryOf}
 use Rattle.nc_holds.proofs.ListsA.{of_map, of_flat_map, all_at, get_at}
-use Rattle.nc_rows.specs.Ahead.{turns_lot, gives_lot, ends, is_full, op_coming, step_coming, token, coming}
+use Rattle.nc_rows.specs.Ahead.{turns_lot, gives_lot, ends, posts, is_full, op_coming, step_coming, token, coming}
 use Rattle.nc_rows.specs.Parts.{rest_last}
 use Rattle.nc_rows.proofs.Steps.{next, last}
 use Rattle.nc_row_plans.specs.Plans.{WritesBack, DropsBlocks}
 use Rattle.nc_row_plans.proofs.LendingPlans.{is_plain, Are, are_append}
 use Rattle.nc_flatness.specs.Plans.{IsInHand, IsStill, HasFull, HasByte, LoadsFirst, IsBack, GoesIn, ComesOut, IsCopied, StepGoes, Loads, Stores, WritesBack as WritesBackGoes, Drops, Gives, Fences, Ends, PlanGoes, device_of}
 use Rattle.nc_flat_starts.proofs.Pieces.{Move, stored, piece_of, moves_of, IsMove, MovesApart, AreCutApart, AllCutApart, CutsEven, moves_are, moves_apart, move_at, pairs_apart}
-use Rattle.nc_flat_starts.proofs.PlanComes.{ops_of, ends_behind, comes_ops, full_behind, unfenced_ops, copies_are, copies_give, ending_last, steps_append, append_steps}
+use Rattle.nc_flat_starts.proofs.PlanComes.{ops_of, ends_behind, silent_ops, comes_ops, full_behind, unfenced_ops, copies_are, copies_give, ending_last, steps_append, append_steps}
 use Rattle.nc_flat_starts.proofs.Sides.{given_still, back_still}
 
 -- ---- what the plans of a lot need of it
@@ -80,6 +80,12 @@ in_even f e = device_len f e e.bounced refl
 
 out_even : (f : Fixed) → CutsEven (out_cut f)
 out_even f e = sym (device_len f e e.bounced refl)
+
+-- what is known of a plan at its start beside: it ends the lot's stay, it has no message, and a store comes first nowhere
+pub record IsPlan (id : LotId) (plan : List Step) : Type 0 where
+  pub ended : list_any (ends id) plan ≡ true
+  pub silent : (b : ℕ) → list_any (posts b) plan ≡ false
+  pub first : LoadsFirst plan
 
 -- ---- the operations
 
@@ -333,8 +339,19 @@ give_byte f id x n =
     none true = refl
     none false = refl
 
-pub lend_goes : (f : Fixed) (lots : List Lot) (lot : Lot) → IsInHand lots lot sides.Lending → IsPlanned f lot → WritesBack f.effects → PlanGoes f lots (lend_steps f lot)
-lend_goes f lots lot hand is writes =
+some_gives : (cut : Entry → Span × Span) (ms : List Move) (m : Move) (x : ℕ) → In m ms → covers (stored cut m) x ≡ true → list_any (λ k. covers (stored cut k) x) ms ≡ true
+some_gives cut [] m x here on = absurd here
+some_gives cut (k ∷ ms) m x (inl same) on = or_left (covers (stored cut k) x) (list_any (λ k. covers (stored cut k) x) ms) (subst (λ (j : Move). covers (stored cut j) x ≡ true) (sym same) on)
+some_gives cut (k ∷ ms) m x (inr later) on = or_right (covers (stored cut k) x) (list_any (λ k. covers (stored cut k) x) ms) (some_gives cut ms m x later on)
+
+-- it goes through, and puts each byte into its slot
+pub record Lends (f : Fixed) (lots : List Lot) (lot : Lot) (plan : List Step) : Type 0 where
+  pub goes : PlanGoes f lots plan
+  pub plan : IsPlan lot.id plan
+  pub stores : (i : ℕ) (e : Entry) (y : ℕ) → slice_get lot.list.entries i ≡ Some e → e.bounced ≡ true → covers (device_of f e) y ≡ true → HasByte f lot.id plan y true
+
+pub lend_so : (f : Fixed) (lots : List Lot) (lot : Lot) → IsInHand lots lot sides.Lending → IsPlanned f lot → WritesBack f.effects → Lends f lots lot (lend_steps f lot)
+lend_so f lots lot hand is writes =
     let es = lot.list.entries in
     let cut = in_cut f in
     let ms = moves_of cut es in
@@ -343,21 +360,31 @@ lend_goes f lots lot hand is writes =
     let all = written_are f lot writes in
     let end = give_step lot.id ∷ [] in
     let tail = op_steps backs ++ end in
+    let plain = writing_are_plain backs all in
     let ended = ends_behind lot.id backs end (give_ends lot.id) in
     let given : PlanGoes f lots end = (Gives (record { lot = lot; hand = hand; step = refl; over = refl }), given_still lot.id lots hand.others) in
     let whole : lend_steps f lot ≡ op_steps copied ++ tail =
     ap (λ (ss : List Step). op_steps (carried f.effects f.size (parts f lot)) ++ ss) (cond-false f.light (token_steps lot) end is.light)
     ∙ ap (λ (ops : List HartOp). op_steps (ops ++ backs) ++ end) (ins_are f lot.list.dir es is.off) ∙ ap (λ (ss : List Step). ss ++ end) (steps_append copied backs) ∙ append_steps (op_steps copied) (op_steps backs) end in
-    subst (λ (ss : List Step). PlanGoes f lots ss) (sym whole)
-    (copies_go f lots lot cut ms tail hand.here (λ e ops plain. inl (record { hand = hand; from_is = refl; to_is = refl })) (moves_are cut es) (moves_apart cut es (in_even f) (pairs_apart cut es is.slots)) ended (writes_first backs end all refl)
-    (λ m x there on n.
-    comes_ops (gives_at f.size x) n lot.id backs end (writing_are_plain backs all) (give_ends lot.id)
-    ∙ or_from (list_any (gives_at f.size x) (flat_map op_coming backs)) (list_any (gives_at f.size x) (coming n lot.id end)) (writings_give f.size x backs all) (give_byte f lot.id x n))
-    (writes_go f lots lot backs end hand all refl given))
+    subst (λ (ss : List Step). Lends f lots lot ss) (sym whole) (record {
+      goes = copies_go f lots lot cut ms tail hand.here (λ e ops plain. inl (record { hand = hand; from_is = refl; to_is = refl })) (moves_are cut es) (moves_apart cut es (in_even f) (pairs_apart cut es is.slots)) ended (writes_first backs end all refl)
+          (λ m x there on n.
+          comes_ops (gives_at f.size x) n lot.id backs end plain (give_ends lot.id)
+          ∙ or_from (list_any (gives_at f.size x) (flat_map op_coming backs)) (list_any (gives_at f.size x) (coming n lot.id end)) (writings_give f.size x backs all) (give_byte f lot.id x n))
+          (writes_go f lots lot backs end hand all refl given);
+      plan = record {
+        ended = ends_behind lot.id copied tail ended;
+        silent = λ b. silent_ops b copied tail (copies_are cut ms) (silent_ops b backs end plain refl);
+        first = copies_first cut ms tail (writes_first backs end all refl);
+      };
+      stores = λ i e y there bounced on n.
+          let k = move_at cut es i e y (in_even f) there bounced on in
+          copies_byte f lot.id cut ms tail y n ended ∙ or_left (list_any (λ j. covers (stored cut j) y) ms) (list_any (gives_at f.size y) (coming n lot.id tail)) (some_gives cut ms k.0 y k.1 k.2);
+    })
 
 -- ---- a lot is taken back
 
-back_turns : (id : LotId) (turn : Turn) → IsBack id turn → (turns_lot id turn ≡ true) × (gives_lot id turn ≡ false)
+pub back_turns : (id : LotId) (turn : Turn) → IsBack id turn → (turns_lot id turn ≡ true) × (gives_lot id turn ≡ false)
 back_turns id turn (inl is) = (ap (turns_lot id) is ∙ same_id id, ap (gives_lot id) is)
 back_turns id turn (inr is) = (ap (turns_lot id) is ∙ same_id id, ap (gives_lot id) is)
 
@@ -463,11 +490,6 @@ init_apart cut (k ∷ init) m apart =
     let a = all_init (λ (j : Move). SharesNone (stored cut k) (stored cut j)) init m apart.0 in
     ((a.0, r.0), λ j here. elim here [ inl same ↦ subst (λ (i : Move). SharesNone (stored cut i) (stored cut m)) same a.1 | inr there ↦ r.1 j there ])
 
-some_gives : (cut : Entry → Span × Span) (ms : List Move) (m : Move) (x : ℕ) → In m ms → covers (stored cut m) x ≡ true → list_any (λ k. covers (stored cut k) x) ms ≡ true
-some_gives cut [] m x here on = absurd here
-some_gives cut (k ∷ ms) m x (inl same) on = or_left (covers (stored cut k) x) (list_any (λ k. covers (stored cut k) x) ms) (subst (λ (j : Move). covers (stored cut j) x ≡ true) (sym same) on)
-some_gives cut (k ∷ ms) m x (inr later) on = or_right (covers (stored cut k) x) (list_any (λ k. covers (stored cut k) x) ms) (some_gives cut ms m x later on)
-
 outs_steps : (cut : Entry → Span × Span) (turn : Turn) (init : List Move) (m : Move) (before : List HartOp) → ending turn (op_steps (before ++ flat_map (ops_of cut) (init ++ m ∷ []))) ≡ op_steps before ++ (op_steps (flat_map (ops_of cut) init) ++ last_copy cut turn m)
 outs_steps cut turn init m before =
     let load = hart.Load m.piece Pma in
@@ -535,8 +557,12 @@ no_out f es false init m is = absurd (never init m is)
     never [] m e = absurd cc
     never (k ∷ init) m e = absurd cc
 
+pub record Returns (f : Fixed) (lots : List Lot) (lot : Lot) (plan : List Step) : Type 0 where
+  pub goes : PlanGoes f lots plan
+  pub plan : IsPlan lot.id plan
+
 return_by : (f : Fixed) (lots : List Lot) (lot : Lot) (turn : Turn) (ms : List Move) → IsInHand lots lot sides.Returning → IsPlanned f lot → All (IsDropping f lot) (flat_map (dropped f.effects f.size) (parts f lot)) → IsBack lot.id turn
-    → outs_of f (comes_back lot.list.dir) lot.list.entries ≡ ms → IsSplit ms → flat_map copied_back (parts f lot) ≡ flat_map (ops_of (out_cut f)) ms → PlanGoes f lots (ending turn (return_steps f lot))
+    → outs_of f (comes_back lot.list.dir) lot.list.entries ≡ ms → IsSplit ms → flat_map copied_back (parts f lot) ≡ flat_map (ops_of (out_cut f)) ms → Returns f lots lot (ending turn (return_steps f lot))
 unfolding returning
 return_by f lots lot turn ms hand is all back from (NoMove none) outs =
     let ops = flat_map (dropped f.effects f.size) (parts f lot) in
@@ -544,9 +570,11 @@ return_by f lots lot turn ms hand is all back from (NoMove none) outs =
     let whole : ending turn (return_steps f lot) ≡ op_steps ops ++ end =
     ap (λ (k : List HartOp). ending turn (op_steps ((ops ++ full ∷ []) ++ k))) (outs ∙ ap (flat_map (ops_of (out_cut f))) none)
     ∙ ap (λ (k : List HartOp). ending turn (op_steps k)) (append-nil (ops ++ full ∷ [])) ∙ ending_last ops full turn in
-    subst (λ (ss : List Step). PlanGoes f lots ss) (sym whole)
-    (drops_go f lots lot ops end hand all (or_left (ends lot.id (turning turn (hart_step full))) false (turn_ends lot.id turn full [] back)) (λ n. ap (list_any is_full) (turn_comes n lot.id turn full back)) refl
-    (direct_end f lots lot turn hand back (straight_so f lot (comes_back lot.list.dir) refl is (from ∙ none))))
+    let ended : list_any (ends lot.id) end ≡ true = or_left (ends lot.id (turning turn (hart_step full))) false (turn_ends lot.id turn full [] back) in
+    subst (λ (ss : List Step). Returns f lots lot ss) (sym whole) (record {
+      goes = drops_go f lots lot ops end hand all ended (λ n. ap (list_any is_full) (turn_comes n lot.id turn full back)) refl (direct_end f lots lot turn hand back (straight_so f lot (comes_back lot.list.dir) refl is (from ∙ none)));
+      plan = record { ended = ends_behind lot.id ops end ended; silent = λ b. silent_ops b ops end (dropping_are_plain f lot ops all) refl; first = drops_first f lot ops end all refl };
+    })
 return_by f lots lot turn ms hand is all back from (Before init m sp) outs =
     let cut = out_cut f in
     let ops = flat_map (dropped f.effects f.size) (parts f lot) in
@@ -557,11 +585,17 @@ return_by f lots lot turn ms hand is all back from (Before init m sp) outs =
     let whole : ending turn (return_steps f lot) ≡ op_steps ops ++ (hart_step full ∷ rest) =
     ap (λ (k : List HartOp). ending turn (op_steps ((ops ++ full ∷ []) ++ k))) (outs ∙ ap (flat_map (ops_of cut)) sp)
     ∙ outs_steps cut turn init m (ops ++ full ∷ []) ∙ ap (λ (ss : List Step). ss ++ rest) (steps_append ops (full ∷ [])) ∙ append_steps (op_steps ops) (hart_step full ∷ []) rest in
-    subst (λ (ss : List Step). PlanGoes f lots ss) (sym whole)
-    (drops_go f lots lot ops (hart_step full ∷ rest) hand all (or_right (ends lot.id (hart_step full)) (list_any (ends lot.id) rest) ended) (λ n. fence_comes n lot.id rest ended) refl
-    (outs_go f lots lot turn init m hand is comes.0 back comes.1))
+    let later : list_any (ends lot.id) (hart_step full ∷ rest) ≡ true = or_right (ends lot.id (hart_step full)) (list_any (ends lot.id) rest) ended in
+    subst (λ (ss : List Step). Returns f lots lot ss) (sym whole) (record {
+      goes = drops_go f lots lot ops (hart_step full ∷ rest) hand all later (λ n. fence_comes n lot.id rest ended) refl (outs_go f lots lot turn init m hand is comes.0 back comes.1);
+      plan = record {
+        ended = ends_behind lot.id ops (hart_step full ∷ rest) later;
+        silent = λ b. silent_ops b ops (hart_step full ∷ rest) (dropping_are_plain f lot ops all) (silent_ops b copied (last_copy cut turn m) (copies_are cut init) refl);
+        first = drops_first f lot ops (hart_step full ∷ rest) all refl;
+      };
+    })
 
-pub return_goes : (f : Fixed) (lots : List Lot) (lot : Lot) (turn : Turn) → IsInHand lots lot sides.Returning → IsPlanned f lot → DropsBlocks f.effects → IsBack lot.id turn → PlanGoes f lots (ending turn (return_steps f lot))
-return_goes f lots lot turn hand is drops back =
+pub return_so : (f : Fixed) (lots : List Lot) (lot : Lot) (turn : Turn) → IsInHand lots lot sides.Returning → IsPlanned f lot → DropsBlocks f.effects → IsBack lot.id turn → Returns f lots lot (ending turn (return_steps f lot))
+return_so f lots lot turn hand is drops back =
     let ms = outs_of f (comes_back lot.list.dir) lot.list.entries in
     return_by f lots lot turn ms hand is (dropped_are f lot is.size drops) back refl (split ms) (outs_are f lot.list.dir lot.list.entries (comes_back lot.list.dir) refl is.off)
