@@ -94,7 +94,7 @@ before_end : {s : ℕ} (at len x y : ℕ) → IsBlockSize s → at % s ≡ 0 →
 before_end {s = s} at len x y size low whole same lt = grind arith
 
 -- a range that does not bounce, and comes back, has each place of a block of which it has one
-pub whole_range : (f : Fixed) (lot : Lot) (e : SgEntry) (s x y : ℕ) → IsBlockSize s → f.size ≡ s → BouncesSo f lot.kind lot.list.dir lot.chan e → lot.is_area kind ≡ false → e.bounced ≡ false → comes_back lot.list.dir ≡ true → y / s ≡ x / s
+pub whole_range : (f : Fixed) (lot : Lot) (e : SgEntry) (s x y : ℕ) → IsBlockSize s → f.size ≡ s → BouncesSo f lot.kind lot.list.dir lot.chan e → is_area lot.kind ≡ false → e.bounced ≡ false → comes_back lot.list.dir ≡ true → y / s ≡ x / s
     → covers e.span x ≡ true → covers e.span y ≡ true
 whole_range f lot e s x y z size so single direct back same over =
     let whole = subst (λ (k : ℕ). is_whole k e.span ≡ true) size (whole_by f lot.kind lot.list.dir lot.chan e so single direct back) in

@@ -29,6 +29,7 @@ use Rattle.nc_scen.specs.declared.scenario.Scenario.{Scenario}
 use Rattle.nc_sg.specs.Lists as sg
 use Rattle.nc_sg.specs.declared.list.Entry.{Entry}
 use Rattle.nc_ops.specs.declared.ops.Op.{Op}
+use Rattle.nc_rules.specs.declared.lots.Kind.TheVariants.{Single}
 use Rattle.nc_rules.specs.declared.lots.Lot.{Lot}
 use Rattle.nc_rules.specs.declared.lots.LotId.{LotId}
 use Rattle.nc_rules.specs.declared.lots.Side.{Side}
@@ -37,6 +38,7 @@ use Rattle.nc_rules.specs.declared.steps.Phase.TheVariants.{Work}
 use Rattle.nc_rules.specs.declared.steps.Seen.{Seen}
 use Rattle.nc_rules.specs.declared.steps.Step.{Step}
 use Rattle.nc_rules.specs.declared.steps.Turn.{Turn}
+use Rattle.nc_rules.specs.declared.steps.Turn.TheVariants as turns
 use Rattle.nc_rules.specs.Lots.{Fixed, is_wanted, map_id, owner_of_side, parts}
 use Rattle.nc_rules.specs.Machine.{MachineState, no_hart, queue_of}
 use Rattle.nc_rules.specs.Plans.{lend_steps, return_steps, ending}
@@ -46,6 +48,7 @@ use Rattle.nc_rules.specs.Driver.{DriverState, Went, in_hand, stands, with_lots,
 use Rattle.nc_rules.specs.Watched.{owner_of}
 use Rattle.nc_rules.specs.World.{WorldState, driver_of}
 use Rattle.nc_scripts.specs.Drivers.{IsLotIn, BouncesSo}
+use Rattle.nc_scripts.proofs.LotLaws.{named_so}
 use Rattle.nc_holds.specs.Tokens.{token_of}
 use Rattle.nc_holds.proofs.ListsA.{all_at, at_get, none_of}
 use Rattle.nc_holds.proofs.OwnerLots.{entry_in}
@@ -63,14 +66,14 @@ use Rattle.nc_flatness.specs.Covered.{is_lending}
 use Rattle.nc_flatness.specs.Flatness.{Flatness}
 use Rattle.nc_flatness.specs.Plans.{IsBack, device_of}
 use Rattle.nc_flatness.proofs.Seen.{slot_at, slot_slots, slot_whole}
-use Rattle.nc_flat_starts.proofs.Bases.{IsBase, no_area, fixed_is, base_lot, base_mapping, base_beside, base_planned, base_unseen, waits_not, slot_in, in_slot_so, IsInSlot}
+use Rattle.nc_flat_starts.proofs.Bases.{IsBase, no_area, fixed_is, base_lot, base_mapping, base_beside, base_one, base_planned, base_unseen, waits_not, slot_in, in_slot_so, IsInSlot}
 use Rattle.nc_flat_starts.proofs.Blocks.{none_in_block, whole_range}
 use Rattle.nc_flat_starts.proofs.Effects.{writes, drops}
 use Rattle.nc_flat_starts.proofs.Frames.{IsPlace}
 use Rattle.nc_flat_starts.proofs.Lots.{loan_for}
 use Rattle.nc_flat_starts.proofs.Opens.{Opens, base_owner}
 use Rattle.nc_flat_starts.proofs.PlansGo.{IsPlan, Lends, Returns, lend_so, return_so, back_turns}
-use Rattle.nc_flat_starts.proofs.Sides.{hand_set, turned_lot}
+use Rattle.nc_flat_starts.proofs.Sides.{hand_set, set_one, turned_lot}
 
 -- ---- what is known of the hart
 
@@ -291,10 +294,10 @@ dir_map ToDev p q r s first second row = first refl row
 dir_map Both p q r s first second row = second refl row
 dir_map FromDev p q r s first second row = second refl row
 
-pub return_opens : (sc : Scenario) (f : List ℕ) (w : WorldState) (h : HartNo) (o : Op) (went : Went) (lots : List Lot) (lot : Lot) (turn : Turn) → IsBase sc f w h lots lot → in_hand (driver_of w h.0) ≡ Some o → is_lending o ≡ true → lot.side ≡ sides.Device → AreKnown w h lot → IsBack lot.id turn
+pub return_opens : (sc : Scenario) (f : List ℕ) (w : WorldState) (h : HartNo) (o : Op) (went : Went) (lots : List Lot) (lot : Lot) (turn : Turn) → IsBase sc f w h lots lot → in_hand (driver_of w h.0) ≡ Some o → is_lending o ≡ true → lot.side ≡ sides.Device → AreKnown w h lot → IsBack lot.id turn → (turn ≡ turns.Sync lot.id → lot.kind ≡ Single)
     → went.driver ≡ went_to (with_lots (driver_of w h.0) lots) (set_side sides.Returning lot.id lots) (driver_of w h.0).saw (ending turn (return_steps (driver_of w h.0).fixed lot)) → went.moves.transfers ≡ of_those (to_side (driver_of w h.0).fixed.me sides.Returning) lot.id lots
     → Opens sc f w h o went lots lot sides.Returning (ending turn (return_steps (driver_of w h.0).fixed lot))
-return_opens sc f w h o went lots lot turn b hand lends device before is_back driver transfers =
+return_opens sc f w h o went lots lot turn b hand lends device before is_back single driver transfers =
     let m = w.machine in
     let d = driver_of w h.0 in
     let fx = d.fixed in
@@ -305,7 +308,8 @@ return_opens sc f w h o went lots lot turn b hand lends device before is_back dr
     let size = sizes sc f w h b.flat b.lt in
     let z = b.flat.world.machine.block_size in
     let k : Returns fx now (turned_lot sides.Returning lot) plan =
-    return_so fx now (turned_lot sides.Returning lot) turn (hand_set sides.Returning lots lot b.here b.others) (record { light = planned.light; size = planned.size; some = planned.some; off = planned.off; slots = planned.slots; buffers = planned.buffers }) drops_so is_back in
+    return_so fx now (turned_lot sides.Returning lot) turn (hand_set sides.Returning lots lot b.here b.others) (record { light = planned.light; size = planned.size; some = planned.some; off = planned.off; slots = planned.slots; buffers = planned.buffers }) drops_so is_back
+    (λ sync other there named. ap (λ (l : Lot). l.kind) (set_one sides.Returning lots lot (λ l k same. base_one sc f w h lots lot l b k same) other there (ap (λ (q : LotId). q.label.0) (named_so other lot.id named))) ∙ single sync) in
     record {
       base = b;
       hand = hand;

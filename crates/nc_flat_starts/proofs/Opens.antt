@@ -84,7 +84,7 @@ driven sc f w h flat lt = omega (arith, lt, flat.world.of_scenario.harts, flat.w
 -- the side of a lot that is lent and is not in hand
 pub still_rest : (k : MapId) (lot : Lot) → is_wanted lot.side ≡ false → IsStillOrWanted lot → IsRestful (owner_of_side k lot.side)
 still_rest k lot lent (inl (inl is)) = subst (λ (s : Side). IsRestful (owner_of_side k s)) (sym is) tt
-still_rest k lot lent (inl (inr is)) = subst (λ (s : Side). IsRestful (owner_of_side k s)) (sym is) tt
+still_rest k lot lent (inl (inr is)) = subst (λ (s : Side). IsRestful (owner_of_side k s)) (sym is.0) tt
 still_rest k lot lent (inr is) = absurd (both_ways (is_wanted lot.side) lent (ap is_wanted is))
 
 -- a place of an owner whose mapping stays is seen where it was

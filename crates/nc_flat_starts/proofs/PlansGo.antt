@@ -52,7 +52,7 @@ use Rattle.nc_row_plans.proofs.LendingPlans.{is_plain, Are, are_append}
 use Rattle.nc_flatness.specs.Plans.{IsInHand, IsStill, HasFull, HasByte, LoadsFirst, IsBack, GoesIn, ComesOut, IsCopied, StepGoes, Loads, Stores, WritesBack as WritesBackGoes, Drops, Gives, Fences, Ends, PlanGoes, device_of}
 use Rattle.nc_flat_starts.proofs.Pieces.{Move, stored, piece_of, moves_of, IsMove, MovesApart, AreCutApart, AllCutApart, CutsEven, moves_are, moves_apart, move_at, pairs_apart}
 use Rattle.nc_flat_starts.proofs.PlanComes.{ops_of, ends_behind, silent_ops, comes_ops, full_behind, unfenced_ops, copies_are, copies_give, ending_last, steps_append, append_steps}
-use Rattle.nc_flat_starts.proofs.Sides.{given_still, back_still}
+use Rattle.nc_flat_starts.proofs.Sides.{IsSingly, given_still, back_still}
 
 -- ---- what the plans of a lot need of it
 
@@ -345,10 +345,10 @@ some_gives cut (k ∷ ms) m x (inl same) on = or_left (covers (stored cut k) x) 
 some_gives cut (k ∷ ms) m x (inr later) on = or_right (covers (stored cut k) x) (list_any (λ k. covers (stored cut k) x) ms) (some_gives cut ms m x later on)
 
 -- it goes through, and puts each byte into its slot
-pub record Lends (f : Fixed) (lots : List Lot) (lot : Lot) (plan : List Step) : Type 0 where
-  pub goes : PlanGoes f lots plan
-  pub plan : IsPlan lot.id plan
-  pub stores : (i : ℕ) (e : Entry) (y : ℕ) → slice_get lot.list.entries i ≡ Some e → e.bounced ≡ true → covers (device_of f e) y ≡ true → HasByte f lot.id plan y true
+pub record Lends (f : Fixed) (lots : List Lot) (lot : Lot) (steps : List Step) : Type 0 where
+  pub goes : PlanGoes f lots steps
+  pub plan : IsPlan lot.id steps
+  pub stores : (i : ℕ) (e : Entry) (y : ℕ) → slice_get lot.list.entries i ≡ Some e → e.bounced ≡ true → covers (device_of f e) y ≡ true → HasByte f lot.id steps y true
 
 pub lend_so : (f : Fixed) (lots : List Lot) (lot : Lot) → IsInHand lots lot sides.Lending → IsPlanned f lot → WritesBack f.effects → Lends f lots lot (lend_steps f lot)
 lend_so f lots lot hand is writes =
@@ -412,9 +412,9 @@ straight_so : (f : Fixed) (lot : Lot) (t : Bool) → comes_back lot.list.dir ≡
 straight_so f lot true back is none comes = none_bounces f lot.list.entries is.some none
 straight_so f lot false back is none comes = absurd (both_ways (comes_back lot.list.dir) back comes)
 
-direct_end : (f : Fixed) (lots : List Lot) (lot : Lot) (turn : Turn) → IsInHand lots lot sides.Returning → IsBack lot.id turn → (comes_back lot.list.dir ≡ true → All (λ e. e.bounced ≡ false) lot.list.entries) → PlanGoes f lots (turning turn (hart_step full) ∷ [])
-direct_end f lots lot turn hand back straight =
-    (Ends (record { lot = lot; hand = hand; turn = turn; is_back = back; step = refl; over = refl; straight = straight }), back_still lot.id turn lots back hand.others)
+direct_end : (f : Fixed) (lots : List Lot) (lot : Lot) (turn : Turn) → IsInHand lots lot sides.Returning → IsBack lot.id turn → IsSingly lot.id turn lots → (comes_back lot.list.dir ≡ true → All (λ e. e.bounced ≡ false) lot.list.entries) → PlanGoes f lots (turning turn (hart_step full) ∷ [])
+direct_end f lots lot turn hand back single straight =
+    (Ends (record { lot = lot; hand = hand; turn = turn; is_back = back; step = refl; over = refl; straight = straight }), back_still lot.id turn lots back single hand.others)
 
 -- ---- the last copy
 
@@ -430,8 +430,8 @@ last_comes cut n id turn m back =
     next n id (hart_step (hart.Load m.piece Pma)) (turning turn (hart_step (hart.Store (stored cut m) Pma Last)) ∷ []) refl (or_left (ends id (turning turn (hart_step (hart.Store (stored cut m) Pma Last)))) false (turn_ends id turn (hart.Store (stored cut m) Pma Last) [] back))
     ∙ turn_comes n id turn (hart.Store (stored cut m) Pma Last) back
 
-last_goes : (f : Fixed) (lots : List Lot) (lot : Lot) (turn : Turn) (m : Move) → IsInHand lots lot sides.Returning → comes_back lot.list.dir ≡ true → IsBack lot.id turn → IsMove (out_cut f) lot.list.entries m → PlanGoes f lots (last_copy (out_cut f) turn m)
-last_goes f lots lot turn m hand comes back is =
+last_goes : (f : Fixed) (lots : List Lot) (lot : Lot) (turn : Turn) (m : Move) → IsInHand lots lot sides.Returning → comes_back lot.list.dir ≡ true → IsBack lot.id turn → IsSingly lot.id turn lots → IsMove (out_cut f) lot.list.entries m → PlanGoes f lots (last_copy (out_cut f) turn m)
+last_goes f lots lot turn m hand comes back single is =
     let from = device_of f m.entry in
     let to = m.entry.span in
     (Loads (record {
@@ -462,7 +462,7 @@ last_goes f lots lot turn m hand comes back is =
       next = refl;
       last = inr (back, hand.side_is, refl);
     }),
-    back_still lot.id turn lots back hand.others))
+    back_still lot.id turn lots back single hand.others))
 
 -- ---- behind the full fence
 
@@ -509,9 +509,9 @@ outs_steps cut turn init m before =
     shift (o ∷ a) b load store = ap (λ (k : List HartOp). o ∷ k) (shift a b load store)
 
 -- what comes out, behind a fence that makes no turn
-outs_go : (f : Fixed) (lots : List Lot) (lot : Lot) (turn : Turn) (init : List Move) (m : Move) → IsInHand lots lot sides.Returning → IsPlanned f lot → comes_back lot.list.dir ≡ true → IsBack lot.id turn → moves_of (out_cut f) lot.list.entries ≡ init ++ m ∷ []
+outs_go : (f : Fixed) (lots : List Lot) (lot : Lot) (turn : Turn) (init : List Move) (m : Move) → IsInHand lots lot sides.Returning → IsPlanned f lot → comes_back lot.list.dir ≡ true → IsBack lot.id turn → IsSingly lot.id turn lots → moves_of (out_cut f) lot.list.entries ≡ init ++ m ∷ []
     → PlanGoes f lots (hart_step full ∷ (op_steps (flat_map (ops_of (out_cut f)) init) ++ last_copy (out_cut f) turn m))
-outs_go f lots lot turn init m hand is comes back ms =
+outs_go f lots lot turn init m hand is comes back single ms =
     let es = lot.list.entries in
     let cut = out_cut f in
     let id = lot.id in
@@ -536,7 +536,7 @@ outs_go f lots lot turn init m hand is comes back ms =
           ∙ some_gives cut (init ++ m ∷ []) k.0 x (subst (λ (ks : List Move). In k.0 ks) ms k.1) k.2;
     }),
     copies_go f lots lot cut init end hand.here (λ e before plain. inr (record { hand = hand; back = comes; fenced = λ n. full_behind n id before end false plain ended (unfenced n); from_is = refl; to_is = refl })) all.0 apart.0 ended refl
-    (λ k x there on n. byte x n ∙ false_from_ne_true (covers (stored cut m) x) (λ also. apart.1 k there x on also)) (last_goes f lots lot turn m hand comes back all.1))
+    (λ k x there on n. byte x n ∙ false_from_ne_true (covers (stored cut m) x) (λ also. apart.1 k there x on also)) (last_goes f lots lot turn m hand comes back single all.1))
   where
     or_none : (b : Bool) → (b || false) ≡ b
     or_none true = refl
@@ -557,14 +557,14 @@ no_out f es false init m is = absurd (never init m is)
     never [] m e = absurd cc
     never (k ∷ init) m e = absurd cc
 
-pub record Returns (f : Fixed) (lots : List Lot) (lot : Lot) (plan : List Step) : Type 0 where
-  pub goes : PlanGoes f lots plan
-  pub plan : IsPlan lot.id plan
+pub record Returns (f : Fixed) (lots : List Lot) (lot : Lot) (steps : List Step) : Type 0 where
+  pub goes : PlanGoes f lots steps
+  pub plan : IsPlan lot.id steps
 
-return_by : (f : Fixed) (lots : List Lot) (lot : Lot) (turn : Turn) (ms : List Move) → IsInHand lots lot sides.Returning → IsPlanned f lot → All (IsDropping f lot) (flat_map (dropped f.effects f.size) (parts f lot)) → IsBack lot.id turn
+return_by : (f : Fixed) (lots : List Lot) (lot : Lot) (turn : Turn) (ms : List Move) → IsInHand lots lot sides.Returning → IsPlanned f lot → All (IsDropping f lot) (flat_map (dropped f.effects f.size) (parts f lot)) → IsBack lot.id turn → IsSingly lot.id turn lots
     → outs_of f (comes_back lot.list.dir) lot.list.entries ≡ ms → IsSplit ms → flat_map copied_back (parts f lot) ≡ flat_map (ops_of (out_cut f)) ms → Returns f lots lot (ending turn (return_steps f lot))
 unfolding returning
-return_by f lots lot turn ms hand is all back from (NoMove none) outs =
+return_by f lots lot turn ms hand is all back single from (NoMove none) outs =
     let ops = flat_map (dropped f.effects f.size) (parts f lot) in
     let end = turning turn (hart_step full) ∷ [] in
     let whole : ending turn (return_steps f lot) ≡ op_steps ops ++ end =
@@ -572,10 +572,10 @@ return_by f lots lot turn ms hand is all back from (NoMove none) outs =
     ∙ ap (λ (k : List HartOp). ending turn (op_steps k)) (append-nil (ops ++ full ∷ [])) ∙ ending_last ops full turn in
     let ended : list_any (ends lot.id) end ≡ true = or_left (ends lot.id (turning turn (hart_step full))) false (turn_ends lot.id turn full [] back) in
     subst (λ (ss : List Step). Returns f lots lot ss) (sym whole) (record {
-      goes = drops_go f lots lot ops end hand all ended (λ n. ap (list_any is_full) (turn_comes n lot.id turn full back)) refl (direct_end f lots lot turn hand back (straight_so f lot (comes_back lot.list.dir) refl is (from ∙ none)));
+      goes = drops_go f lots lot ops end hand all ended (λ n. ap (list_any is_full) (turn_comes n lot.id turn full back)) refl (direct_end f lots lot turn hand back single (straight_so f lot (comes_back lot.list.dir) refl is (from ∙ none)));
       plan = record { ended = ends_behind lot.id ops end ended; silent = λ b. silent_ops b ops end (dropping_are_plain f lot ops all) refl; first = drops_first f lot ops end all refl };
     })
-return_by f lots lot turn ms hand is all back from (Before init m sp) outs =
+return_by f lots lot turn ms hand is all back single from (Before init m sp) outs =
     let cut = out_cut f in
     let ops = flat_map (dropped f.effects f.size) (parts f lot) in
     let copied = flat_map (ops_of cut) init in
@@ -587,7 +587,7 @@ return_by f lots lot turn ms hand is all back from (Before init m sp) outs =
     ∙ outs_steps cut turn init m (ops ++ full ∷ []) ∙ ap (λ (ss : List Step). ss ++ rest) (steps_append ops (full ∷ [])) ∙ append_steps (op_steps ops) (hart_step full ∷ []) rest in
     let later : list_any (ends lot.id) (hart_step full ∷ rest) ≡ true = or_right (ends lot.id (hart_step full)) (list_any (ends lot.id) rest) ended in
     subst (λ (ss : List Step). Returns f lots lot ss) (sym whole) (record {
-      goes = drops_go f lots lot ops (hart_step full ∷ rest) hand all later (λ n. fence_comes n lot.id rest ended) refl (outs_go f lots lot turn init m hand is comes.0 back comes.1);
+      goes = drops_go f lots lot ops (hart_step full ∷ rest) hand all later (λ n. fence_comes n lot.id rest ended) refl (outs_go f lots lot turn init m hand is comes.0 back single comes.1);
       plan = record {
         ended = ends_behind lot.id ops (hart_step full ∷ rest) later;
         silent = λ b. silent_ops b ops (hart_step full ∷ rest) (dropping_are_plain f lot ops all) (silent_ops b copied (last_copy cut turn m) (copies_are cut init) refl);
@@ -595,7 +595,7 @@ return_by f lots lot turn ms hand is all back from (Before init m sp) outs =
       };
     })
 
-pub return_so : (f : Fixed) (lots : List Lot) (lot : Lot) (turn : Turn) → IsInHand lots lot sides.Returning → IsPlanned f lot → DropsBlocks f.effects → IsBack lot.id turn → Returns f lots lot (ending turn (return_steps f lot))
-return_so f lots lot turn hand is drops back =
+pub return_so : (f : Fixed) (lots : List Lot) (lot : Lot) (turn : Turn) → IsInHand lots lot sides.Returning → IsPlanned f lot → DropsBlocks f.effects → IsBack lot.id turn → IsSingly lot.id turn lots → Returns f lots lot (ending turn (return_steps f lot))
+return_so f lots lot turn hand is drops back single =
     let ms = outs_of f (comes_back lot.list.dir) lot.list.entries in
-    return_by f lots lot turn ms hand is (dropped_are f lot is.size drops) back refl (split ms) (outs_are f lot.list.dir lot.list.entries (comes_back lot.list.dir) refl is.off)
+    return_by f lots lot turn ms hand is (dropped_are f lot is.size drops) back single refl (split ms) (outs_are f lot.list.dir lot.list.entries (comes_back lot.list.dir) refl is.off)

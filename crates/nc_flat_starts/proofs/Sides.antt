@@ -4,6 +4,7 @@ use Rattle.std.proofs.Common.{◌≡◌, List, [], ◌∷◌, refl, sym, ap, ◌
 use Rattle.std.proofs.lemmas.Bool.{cases_Bool, both_ways, cond-true, cond-false, not_from_true, not_from_false}
 use Rattle.std.proofs.lemmas.List.Elements.{All-nil, All-cons, All-head, All-tail}
 use Rattle.nc_plan.specs.Plans.{In}
+use Rattle.nc_rules.specs.declared.lots.Kind.TheVariants.{Single}
 use Rattle.nc_rules.specs.declared.lots.Lot.{Lot}
 use Rattle.nc_rules.specs.declared.lots.LotId.{LotId}
 use Rattle.nc_rules.specs.declared.lots.Side.{Side}
@@ -78,15 +79,15 @@ pub hand_set : (side : Side) (lots : List Lot) (lot : Lot) → In lot lots → O
 hand_set side lots lot here others = record { here = set_here side lots lot here; side_is = refl; others = set_others IsStill side lot.id lots others }
 
 -- a side that is still leaves them all still
-pub set_still : (side : Side) (id : LotId) (lots : List Lot) → ((lot : Lot) → IsStill (turned_lot side lot)) → Others IsStill id lots → All IsStill (set_side side id lots)
+pub set_still : (side : Side) (id : LotId) (lots : List Lot) → ((lot : Lot) → In lot lots → is_lot id lot ≡ true → IsStill (turned_lot side lot)) → Others IsStill id lots → All IsStill (set_side side id lots)
 set_still side id [] now all = All-nil IsStill
 set_still side id (x ∷ lots) now all =
     let P : Lot → Type 0 = λ other. is_lot id other ≡ false → IsStill other in
     let first : IsStill (with_side side id x) = elim (cases_Bool (is_lot id x)) [
-      | inl is ↦ subst IsStill (sym (cond-true (is_lot id x) (turned_lot side x) x is)) (now x)
+      | inl is ↦ subst IsStill (sym (cond-true (is_lot id x) (turned_lot side x) x is)) (now x (inl refl) is)
       | inr off ↦ subst IsStill (sym (cond-false (is_lot id x) (turned_lot side x) x off)) (All-head P x lots all off)
     ] in
-    All-cons IsStill (with_side side id x) (set_side side id lots) first (set_still side id lots now (All-tail P x lots all))
+    All-cons IsStill (with_side side id x) (set_side side id lots) first (set_still side id lots (λ lot there is. now lot (inr there) is) (All-tail P x lots all))
 
 -- ---- without the lot
 
@@ -104,8 +105,12 @@ without_all P id (x ∷ lots) all =
 -- ---- the turns that leave all still
 
 pub given_still : (id : LotId) (lots : List Lot) → Others IsStill id lots → All IsStill (lots_after (turns.Give id) lots)
-given_still id lots others = set_still sides.Device id lots (λ lot. inl refl) others
+given_still id lots others = set_still sides.Device id lots (λ lot there is. inl refl) others
 
-pub back_still : (id : LotId) (turn : Turn) (lots : List Lot) → IsBack id turn → Others IsStill id lots → All IsStill (lots_after turn lots)
-back_still id turn lots (inl is) others = subst (λ (t : Turn). All IsStill (lots_after t lots)) (sym is) (set_still sides.Synced id lots (λ lot. inr refl) others)
-back_still id turn lots (inr is) others = subst (λ (t : Turn). All IsStill (lots_after t lots)) (sym is) (without_all IsStill id lots others)
+-- a sync is of a single mapping
+abbrev pub IsSingly : LotId → Turn → List Lot → Type 0
+IsSingly id turn lots = turn ≡ turns.Sync id → (lot : Lot) → In lot lots → is_lot id lot ≡ true → lot.kind ≡ Single
+
+pub back_still : (id : LotId) (turn : Turn) (lots : List Lot) → IsBack id turn → IsSingly id turn lots → Others IsStill id lots → All IsStill (lots_after turn lots)
+back_still id turn lots (inl is) single others = subst (λ (t : Turn). All IsStill (lots_after t lots)) (sym is) (set_still sides.Synced id lots (λ lot there named. inr (refl, single is lot there named)) others)
+back_still id turn lots (inr is) single others = subst (λ (t : Turn). All IsStill (lots_after t lots)) (sym is) (without_all IsStill id lots others)
