@@ -158,7 +158,7 @@ pub record IsNew (o : Op) (lots : List Lot) (lot : Lot) : Type 0 where
   pub wanted : lot.side ≡ sides.Wanted
   pub others : Others IsStill lot.id lots
 
-wanted_side : (side : Side) → is_wanted side ≡ true → side ≡ sides.Wanted
+pub wanted_side : (side : Side) → is_wanted side ≡ true → side ≡ sides.Wanted
 wanted_side sides.Wanted e = refl
 wanted_side sides.Lending e = absurd cc
 wanted_side sides.Device e = absurd cc

@@ -6,4 +6,13 @@ pub mod PlanComes
 pub mod Sides
 pub mod PlansGo
 pub mod Lots
+pub mod Blocks
 pub mod Bases
+pub mod Opens
+pub mod OpenRows
+pub mod Quiets
+pub mod Lendings
+pub mod Calls
+pub mod Starts
+pub mod Searches
+pub mod Events
