@@ -7,4 +7,4 @@
 
 mod laws;
 
-pub use laws::{book_rows};
+pub use laws::{book_rows, starts_go};
