@@ -175,7 +175,7 @@ still_of : (o : Option Op) (lot : Lot) → IsStillOrMade o lot → is_wanted lot
 still_of o lot (inl still) lent = still
 still_of o lot (inr is) lent = absurd (both_ways (is_wanted lot.side) lent (ap is_wanted is.0))
 
-kind_of : (o : Op) (lot : Lot) → IsStillOrMade (Some o) lot → is_wanted lot.side ≡ true → makes_kind o lot.kind ≡ true
+pub kind_of : (o : Op) (lot : Lot) → IsStillOrMade (Some o) lot → is_wanted lot.side ≡ true → makes_kind o lot.kind ≡ true
 kind_of o lot (inl (inl is)) wanted = absurd (both_ways (is_wanted lot.side) (ap is_wanted is) wanted)
 kind_of o lot (inl (inr is)) wanted = absurd (both_ways (is_wanted lot.side) (ap is_wanted is.0) wanted)
 kind_of o lot (inr is) wanted = is.1

@@ -50,7 +50,7 @@ use Rattle.nc_scripts.proofs.DriverSteps.{passed}
 use Rattle.nc_scripts.proofs.EveryDriver.{in_hand_is}
 use Rattle.nc_scripts.proofs.Lists.{all_in, all_to, found}
 use Rattle.nc_scripts.proofs.NewLots.{AreNew, ranges_begin, behind_ranges, behind_test, sg_none, some_is, placeable_is, new_is}
-use Rattle.nc_holds.specs.Changes.{Made}
+use Rattle.nc_holds.specs.Changes.{Made, MayMake}
 use Rattle.nc_holds.specs.Held.{IsEntryOf}
 use Rattle.nc_holds.specs.Holds.{held_of, DriverHolds}
 use Rattle.nc_holds.specs.Rests.{RestAt}
@@ -196,7 +196,7 @@ made_call sc f w h o new s makes e =
     let k = holds_here sc f w h s.flat s.lt in
     let n = new_is ram harts fx d.lots new w.owners w.pages o k.driver.fixed s.settled k.driver.apart k.setting.pages (in_hand_is ram harts d o k.driver.fixed s.hand).fits e in
     let plain = plain_new o new makes (new_lots fx d.lots new w.owners w.pages o e) in
-    let may = record { op = o; begins = e; settled = s.settled } in
+    let may : MayMake fx (held_of w h.0) new = record { op = o; begins = e; settled = s.settled } in
     let its = new_kinds o fx d.lots new w.owners w.pages makes e in
     (record {
       flat = s.flat;
