@@ -122,9 +122,10 @@ base_beside sc f w h lots lot i e x b there on =
     let lies = base_lies sc f w h lots lot i e b there in
     let same = fixed_is sc f w h b.flat b.lt in
     let pool : fx.pool ≡ pool_of sc = ap (λ (k : Fixed). k.pool) same in
-    let slots : slots_span fx ≡ slots_of sc = ap (λ (k : Fixed). slots_span k) same in
-    (false_from_ne_true (covers (pool_of sc) x) (λ over. b.each.knows.regions.buffers_off_pool lies.0 x (lies.1 x on) (subst (λ (s : Span). covers s x ≡ true) (sym pool) over)),
-    false_from_ne_true (covers (slots_of sc) x) (λ over. b.each.knows.regions.buffers_off_slots lies.0 x (lies.1 x on) (subst (λ (s : Span). covers s x ≡ true) (sym slots) over)))
+    let slots : slots_span fx ≡ slots_of sc = ap (λ (k : Fixed). slots_span k) same in (
+      false_from_ne_true (covers (pool_of sc) x) (λ over. b.each.knows.regions.buffers_off_pool lies.0 x (lies.1 x on) (subst (λ (s : Span). covers s x ≡ true) (sym pool) over)),
+      false_from_ne_true (covers (slots_of sc) x) (λ over. b.each.knows.regions.buffers_off_slots lies.0 x (lies.1 x on) (subst (λ (s : Span). covers s x ≡ true) (sym slots) over)),
+    )
 
 -- ---- its slots
 

@@ -175,7 +175,7 @@ still_of : (o : Option Op) (lot : Lot) → IsStillOrMade o lot → is_wanted lot
 still_of o lot (inl still) lent = still
 still_of o lot (inr is) lent = absurd (both_ways (is_wanted lot.side) lent (ap is_wanted is.0))
 
-kind_of : (o : Op) (lot : Lot) → IsStillOrMade (Some o) lot → is_wanted lot.side ≡ true → makes_kind o lot.kind ≡ true
+pub kind_of : (o : Op) (lot : Lot) → IsStillOrMade (Some o) lot → is_wanted lot.side ≡ true → makes_kind o lot.kind ≡ true
 kind_of o lot (inl (inl is)) wanted = absurd (both_ways (is_wanted lot.side) (ap is_wanted is) wanted)
 kind_of o lot (inl (inr is)) wanted = absurd (both_ways (is_wanted lot.side) (ap is_wanted is.0) wanted)
 kind_of o lot (inr is) wanted = is.1
@@ -186,18 +186,22 @@ made_lot sc f w h o lots id c made names =
     let lot = one.0 in
     let here_new : In lot made.new = subst (λ (ls : List Lot). In lot ls) (sym one.1) (inl refl) in
     let here : In lot lots = subst (λ (ls : List Lot). In lot ls) (sym made.all) (in_right lot made.old made.new here_new) in
-    let wanted = all_at (λ (l : Lot). is_wanted l.side ≡ true) made.new lot made.wanted here_new in
-    (lot, record {
-      here = here;
-      wanted = wanted_side lot.side wanted;
-      others = all_in (λ other. is_lot lot.id other ≡ false → IsStill other) lots
-          (λ other there off. elim (of_append other made.old made.new (subst (λ (ls : List Lot). In other ls) made.all there)) [
-            | inl old ↦ still_of (Some o) other (all_at (IsStillOrMade (Some o)) lots other c.now there) (all_at IsSettled made.old other made.settled old).lent
-            | inr new ↦
-                let same : lot ≡ other = elim (subst (λ (ls : List Lot). In other ls) one.1 new) [ inl is ↦ is | inr none ↦ absurd none ] in
-                absurd (both_ways (is_lot lot.id other) off (its_name other lot.id (ap (λ (l : Lot). l.id) (sym same))))
-          ]);
-    }, one.2, kind_of o lot (all_at (IsStillOrMade (Some o)) lots lot c.now here) wanted)
+    let wanted = all_at (λ (l : Lot). is_wanted l.side ≡ true) made.new lot made.wanted here_new in (
+      lot,
+      record {
+        here = here;
+        wanted = wanted_side lot.side wanted;
+        others = all_in (λ other. is_lot lot.id other ≡ false → IsStill other) lots
+            (λ other there off. elim (of_append other made.old made.new (subst (λ (ls : List Lot). In other ls) made.all there)) [
+              | inl old ↦ still_of (Some o) other (all_at (IsStillOrMade (Some o)) lots other c.now there) (all_at IsSettled made.old other made.settled old).lent
+              | inr new ↦
+                  let same : lot ≡ other = elim (subst (λ (ls : List Lot). In other ls) one.1 new) [ inl is ↦ is | inr none ↦ absurd none ] in
+                  absurd (both_ways (is_lot lot.id other) off (its_name other lot.id (ap (λ (l : Lot). l.id) (sym same))))
+            ]);
+      },
+      one.2,
+      kind_of o lot (all_at (IsStillOrMade (Some o)) lots lot c.now here) wanted,
+    )
 
 -- the operation opens: its lot is lent
 new_opens : (sc : Scenario) (f : List ℕ) (w : WorldState) (h : HartNo) (o : Op) (lots : List Lot) (lot : Lot) → IsCall sc f w h o lots → IsNew o lots lot → some_lot_waits lots ≡ false → opening (driver_of w h.0).fixed lots o ≡ turns.Lend lot.id → plan_of (driver_of w h.0).fixed lots o ≡ lend_steps (driver_of w h.0).fixed lot
@@ -248,6 +252,7 @@ placed_bytes sc f w h o lots makes c made = by_waits (some_lot_waits lots) refl
         let named = new_named label kinds.List r.0 r.2 (subst (λ (p : Op). makes_kind p r.0.kind ≡ true) is r.3) in
         new_opens sc f w h o lots r.0 c r.1 none (ap (opening (driver_of w h.0).fixed lots) is ∙ list_opening (driver_of w h.0).fixed lots label es dir chan ∙ ap turns.Lend (sym r.2))
         (ap (plan_of (driver_of w h.0).fixed lots) is ∙ list_plan (driver_of w h.0).fixed lots label es dir chan ∙ ap (with_lot [] (lend_steps (driver_of w h.0).fixed)) (call_named sc f w h o lots r.0 label kinds.List c r.1.here named))
+
     by_waits : (t : Bool) → some_lot_waits lots ≡ t → BytesStand sc f (gone w h w.machine (if t then stays (searches (with_lots (driver_of w h.0) lots) 0) else opened (with_lots (driver_of w h.0) lots) o))
     by_waits true waits = search_bytes sc f w h o lots 0 c
     by_waits false none = new_goes makes none

@@ -178,11 +178,12 @@ pub base_others : (sc : Scenario) (f : List ℕ) (w : WorldState) (h : HartNo) (
 base_others sc f w h lots lot x k b there off is own =
     let m = mapped sc f w k x b.flat there is in
     let other = m.is.lot in
-    let here : In other (driver_of w h.0).lots = subst (λ (g : ℕ). In other (driver_of w g).lots) own m.is.here.lot_in in
-    (λ same.
-    let one = base_one sc f w h lots lot other b (b.kept other here m.is.lent) (m.is.label ∙ same) in
-    off m.is.i m.is.entry (record { entry = subst (λ (l : Lot). slice_get l.list.entries m.is.i ≡ Some m.is.entry) one m.is.here.entry; on = subst (λ (s : Span). covers s x ≡ true) m.is.buffer m.on }),
-    subst IsRestful (sym m.owner) (still_rest k other m.is.lent (all_at IsStillOrWanted (driver_of w h.0).lots other b.still here)))
+    let here : In other (driver_of w h.0).lots = subst (λ (g : ℕ). In other (driver_of w g).lots) own m.is.here.lot_in in (
+      λ same.
+          let one = base_one sc f w h lots lot other b (b.kept other here m.is.lent) (m.is.label ∙ same) in
+          off m.is.i m.is.entry (record { entry = subst (λ (l : Lot). slice_get l.list.entries m.is.i ≡ Some m.is.entry) one m.is.here.entry; on = subst (λ (s : Span). covers s x ≡ true) m.is.buffer m.on }),
+      subst IsRestful (sym m.owner) (still_rest k other m.is.lent (all_at IsStillOrWanted (driver_of w h.0).lots other b.still here)),
+    )
 
 pub opens_bytes : (sc : Scenario) (f : List ℕ) (w : WorldState) (h : HartNo) (o : Op) (went : Went) (lots : List Lot) (lot : Lot) (side : Side) (plan : List Step) → Opens sc f w h o went lots lot side plan → BytesStand sc f (gone w h w.machine went)
 opens_bytes sc f w h o went lots lot side plan t =

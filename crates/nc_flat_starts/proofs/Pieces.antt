@@ -184,10 +184,11 @@ move_at cut es i e x even there bounced on =
     let high = covers-high to x on in
     let r = tiled_at from.at from.len (pieces from) (from.at + (x - to.at)) (tiles from) (omega arith) (omega (arith, low, high, even e)) in
     let m = piece_of e r.0 in
-    let in_range = tiled_in from.at from.len (pieces from) r.0 (tiles from) r.1 in
-    (m,
-    in_moves cut e es m i there (subst (λ (t : Bool). In m (if t then map (piece_of e) (pieces from) else [])) (sym bounced) (in_pieces e r.0 (pieces from) r.1)),
-    covers-from (stored cut m) x (omega (arith, low, in_range.0, covers-low r.0 (from.at + (x - to.at)) r.2)) (omega (arith, low, in_range.0, covers-high r.0 (from.at + (x - to.at)) r.2)))
+    let in_range = tiled_in from.at from.len (pieces from) r.0 (tiles from) r.1 in (
+      m,
+      in_moves cut e es m i there (subst (λ (t : Bool). In m (if t then map (piece_of e) (pieces from) else [])) (sym bounced) (in_pieces e r.0 (pieces from) r.1)),
+      covers-from (stored cut m) x (omega (arith, low, in_range.0, covers-low r.0 (from.at + (x - to.at)) r.2)) (omega (arith, low, in_range.0, covers-high r.0 (from.at + (x - to.at)) r.2)),
+    )
 
 -- two entries at different places of a list
 pub pairs_apart : (cut : Entry → Span × Span) (es : List Entry) → ((i j : ℕ) (d e : Entry) → i ≢ j → slice_get es i ≡ Some d → slice_get es j ≡ Some e → AreCutApart cut d e) → AllCutApart cut es

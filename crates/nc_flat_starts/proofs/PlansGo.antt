@@ -249,24 +249,26 @@ drops_go : (f : Fixed) (lots : List Lot) (lot : Lot) (ops : List HartOp) (rest :
 drops_go f lots lot [] rest hand all ended fenced first go = go
 drops_go f lots lot (o ∷ ops) rest hand all ended fenced first go =
     let d = All-head (IsDropping f lot) o ops all in
-    let more = All-tail (IsDropping f lot) o ops all in
-    (Drops (record {
-      lot = lot;
-      hand = hand;
-      back = d.back;
-      op = d.op;
-      block = d.block;
-      step = ap hart_step d.is;
-      drops = d.drops;
-      i = d.i;
-      entry = d.entry;
-      here = record { lot_in = hand.here; entry = d.there };
-      place = d.place;
-      covered = d.covered;
-      met = d.met;
-      ahead = λ n. full_behind n lot.id ops rest true (dropping_are_plain f lot ops more) ended (fenced n);
-      next = drops_first f lot ops rest more first;
-    }), drops_go f lots lot ops rest hand more ended fenced first go)
+    let more = All-tail (IsDropping f lot) o ops all in (
+      Drops (record {
+        lot = lot;
+        hand = hand;
+        back = d.back;
+        op = d.op;
+        block = d.block;
+        step = ap hart_step d.is;
+        drops = d.drops;
+        i = d.i;
+        entry = d.entry;
+        here = record { lot_in = hand.here; entry = d.there };
+        place = d.place;
+        covered = d.covered;
+        met = d.met;
+        ahead = λ n. full_behind n lot.id ops rest true (dropping_are_plain f lot ops more) ended (fenced n);
+        next = drops_first f lot ops rest more first;
+      }),
+      drops_go f lots lot ops rest hand more ended fenced first go,
+    )
 
 -- ---- copies go
 
@@ -298,29 +300,32 @@ copies_go f lots lot cut (m ∷ ms) rest here ways all apart ended first once go
     let to = (cut m.entry).1 in
     let store = hart.Store (stored cut m) Pma Last in
     let ops = flat_map (ops_of cut) ms in
-    let plain = copies_are cut ms in
-    (Loads (record {
-      from = from;
-      to = to;
-      copied = record { lot = lot; i = is.i; entry = m.entry; here = record { lot_in = here; entry = is.entry }; bounced = is.bounced; way = ways m.entry (store ∷ ops) (All-cons (λ (k : HartOp). is_plain k ≡ true) store ops refl plain) };
-      span = m.piece;
-      step = refl;
-      within = is.within;
-      next = refl;
-    }),
-    (Stores (record {
-      from = from;
-      to = to;
-      copied = record { lot = lot; i = is.i; entry = m.entry; here = record { lot_in = here; entry = is.entry }; bounced = is.bounced; way = ways m.entry ops plain };
-      span = m.piece;
-      act = refl;
-      first = refl;
-      within = is.within;
-      once = λ x on n. copies_byte f lot.id cut ms rest x n ended ∙ or_from (list_any (λ k. covers (stored cut k) x) ms) (list_any (gives_at f.size x) (coming n lot.id rest)) (none_gives cut m ms x apart.0 on) (once m x (inl refl) on n);
-      next = copies_first cut ms rest first;
-      last = inl refl;
-    }),
-    copies_go f lots lot cut ms rest here ways (All-tail (IsMove cut lot.list.entries) m ms all) apart.1 ended first (λ k x there on. once k x (inr there) on) go))
+    let plain = copies_are cut ms in (
+      Loads (record {
+        from = from;
+        to = to;
+        copied = record { lot = lot; i = is.i; entry = m.entry; here = record { lot_in = here; entry = is.entry }; bounced = is.bounced; way = ways m.entry (store ∷ ops) (All-cons (λ (k : HartOp). is_plain k ≡ true) store ops refl plain) };
+        span = m.piece;
+        step = refl;
+        within = is.within;
+        next = refl;
+      }),
+      (
+        Stores (record {
+          from = from;
+          to = to;
+          copied = record { lot = lot; i = is.i; entry = m.entry; here = record { lot_in = here; entry = is.entry }; bounced = is.bounced; way = ways m.entry ops plain };
+          span = m.piece;
+          act = refl;
+          first = refl;
+          within = is.within;
+          once = λ x on n. copies_byte f lot.id cut ms rest x n ended ∙ or_from (list_any (λ k. covers (stored cut k) x) ms) (list_any (gives_at f.size x) (coming n lot.id rest)) (none_gives cut m ms x apart.0 on) (once m x (inl refl) on n);
+          next = copies_first cut ms rest first;
+          last = inl refl;
+        }),
+        copies_go f lots lot cut ms rest here ways (All-tail (IsMove cut lot.list.entries) m ms all) apart.1 ended first (λ k x there on. once k x (inr there) on) go,
+      ),
+    )
 
 -- ---- a lot is lent
 
@@ -433,36 +438,39 @@ last_comes cut n id turn m back =
 last_goes : (f : Fixed) (lots : List Lot) (lot : Lot) (turn : Turn) (m : Move) → IsInHand lots lot sides.Returning → comes_back lot.list.dir ≡ true → IsBack lot.id turn → IsSingly lot.id turn lots → IsMove (out_cut f) lot.list.entries m → PlanGoes f lots (last_copy (out_cut f) turn m)
 last_goes f lots lot turn m hand comes back single is =
     let from = device_of f m.entry in
-    let to = m.entry.span in
-    (Loads (record {
-      from = from;
-      to = to;
-      copied = record {
-        lot = lot;
-        i = is.i;
-        entry = m.entry;
-        here = record { lot_in = hand.here; entry = is.entry };
-        bounced = is.bounced;
-        way = inr (record { hand = hand; back = comes; fenced = λ n. ap (list_any is_full) (turn_comes n lot.id turn (hart.Store (stored (out_cut f) m) Pma Last) back); from_is = refl; to_is = refl });
-      };
-      span = m.piece;
-      step = refl;
-      within = is.within;
-      next = refl;
-    }),
-    (Stores (record {
-      from = from;
-      to = to;
-      copied = record { lot = lot; i = is.i; entry = m.entry; here = record { lot_in = hand.here; entry = is.entry }; bounced = is.bounced; way = inr (record { hand = hand; back = comes; fenced = λ n. refl; from_is = refl; to_is = refl }) };
-      span = m.piece;
-      act = refl;
-      first = refl;
-      within = is.within;
-      once = λ x on n. refl;
-      next = refl;
-      last = inr (back, hand.side_is, refl);
-    }),
-    back_still lot.id turn lots back single hand.others))
+    let to = m.entry.span in (
+      Loads (record {
+        from = from;
+        to = to;
+        copied = record {
+          lot = lot;
+          i = is.i;
+          entry = m.entry;
+          here = record { lot_in = hand.here; entry = is.entry };
+          bounced = is.bounced;
+          way = inr (record { hand = hand; back = comes; fenced = λ n. ap (list_any is_full) (turn_comes n lot.id turn (hart.Store (stored (out_cut f) m) Pma Last) back); from_is = refl; to_is = refl });
+        };
+        span = m.piece;
+        step = refl;
+        within = is.within;
+        next = refl;
+      }),
+      (
+        Stores (record {
+          from = from;
+          to = to;
+          copied = record { lot = lot; i = is.i; entry = m.entry; here = record { lot_in = hand.here; entry = is.entry }; bounced = is.bounced; way = inr (record { hand = hand; back = comes; fenced = λ n. refl; from_is = refl; to_is = refl }) };
+          span = m.piece;
+          act = refl;
+          first = refl;
+          within = is.within;
+          once = λ x on n. refl;
+          next = refl;
+          last = inr (back, hand.side_is, refl);
+        }),
+        back_still lot.id turn lots back single hand.others,
+      ),
+    )
 
 -- ---- behind the full fence
 
@@ -504,6 +512,7 @@ outs_steps cut turn init m before =
     inner : (b : List HartOp) (load store : HartOp) → b ++ load ∷ store ∷ [] ≡ (b ++ load ∷ []) ++ store ∷ []
     inner [] load store = refl
     inner (o ∷ b) load store = ap (λ (k : List HartOp). o ∷ k) (inner b load store)
+
     shift : (a b : List HartOp) (load store : HartOp) → a ++ (b ++ load ∷ store ∷ []) ≡ (a ++ (b ++ load ∷ [])) ++ store ∷ []
     shift [] b load store = inner b load store
     shift (o ∷ a) b load store = ap (λ (k : List HartOp). o ∷ k) (shift a b load store)
@@ -523,24 +532,26 @@ outs_go f lots lot turn init m hand is comes back single ms =
     let apart = init_apart cut init m (subst (λ (ks : List Move). MovesApart cut ks) ms (moves_apart cut es (out_even f) (pairs_apart cut es is.buffers))) in
     let unfenced : HasFull id end false = λ n. ap (list_any is_full) (last_comes cut n id turn m back) in
     let byte : (x : ℕ) (n : MapId) → list_any (gives_at f.size x) (coming n id end) ≡ covers (stored cut m) x =
-    λ x n. ap (list_any (gives_at f.size x)) (last_comes cut n id turn m back) ∙ copies_give f.size x cut (m ∷ []) ∙ or_none (covers (stored cut m) x) in
-    (Fences (record {
-      lot = lot;
-      hand = hand;
-      step = refl;
-      only = λ n. full_behind n id ops end false (copies_are cut init) ended (unfenced n);
-      next = copies_first cut init end refl;
-      out = λ i e x here bounced comes_too on n.
-          let k = move_at cut es i e x (out_even f) here.entry bounced on in
-          copies_byte f id cut init end x n ended ∙ ap (λ (t : Bool). list_any (λ j. covers (stored cut j) x) init || t) (byte x n) ∙ sym (last_one (λ j. covers (stored cut j) x) init m)
-          ∙ some_gives cut (init ++ m ∷ []) k.0 x (subst (λ (ks : List Move). In k.0 ks) ms k.1) k.2;
-    }),
-    copies_go f lots lot cut init end hand.here (λ e before plain. inr (record { hand = hand; back = comes; fenced = λ n. full_behind n id before end false plain ended (unfenced n); from_is = refl; to_is = refl })) all.0 apart.0 ended refl
-    (λ k x there on n. byte x n ∙ false_from_ne_true (covers (stored cut m) x) (λ also. apart.1 k there x on also)) (last_goes f lots lot turn m hand comes back single all.1))
+    λ x n. ap (list_any (gives_at f.size x)) (last_comes cut n id turn m back) ∙ copies_give f.size x cut (m ∷ []) ∙ or_none (covers (stored cut m) x) in (
+      Fences (record {
+        lot = lot;
+        hand = hand;
+        step = refl;
+        only = λ n. full_behind n id ops end false (copies_are cut init) ended (unfenced n);
+        next = copies_first cut init end refl;
+        out = λ i e x here bounced comes_too on n.
+            let k = move_at cut es i e x (out_even f) here.entry bounced on in
+            copies_byte f id cut init end x n ended ∙ ap (λ (t : Bool). list_any (λ j. covers (stored cut j) x) init || t) (byte x n) ∙ sym (last_one (λ j. covers (stored cut j) x) init m)
+            ∙ some_gives cut (init ++ m ∷ []) k.0 x (subst (λ (ks : List Move). In k.0 ks) ms k.1) k.2;
+      }),
+      copies_go f lots lot cut init end hand.here (λ e before plain. inr (record { hand = hand; back = comes; fenced = λ n. full_behind n id before end false plain ended (unfenced n); from_is = refl; to_is = refl })) all.0 apart.0 ended refl
+          (λ k x there on n. byte x n ∙ false_from_ne_true (covers (stored cut m) x) (λ also. apart.1 k there x on also)) (last_goes f lots lot turn m hand comes back single all.1),
+    )
   where
     or_none : (b : Bool) → (b || false) ≡ b
     or_none true = refl
     or_none false = refl
+
     last_one : (p : Move → Bool) (ks : List Move) (k : Move) → list_any p (ks ++ k ∷ []) ≡ (list_any p ks || p k)
     last_one p ks k = list_any-append p ks (k ∷ []) ∙ ap (λ (t : Bool). list_any p ks || t) (or_none (p k))
 

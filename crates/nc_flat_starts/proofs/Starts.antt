@@ -50,7 +50,7 @@ use Rattle.nc_scripts.proofs.DriverSteps.{passed}
 use Rattle.nc_scripts.proofs.EveryDriver.{in_hand_is}
 use Rattle.nc_scripts.proofs.Lists.{all_in, all_to, found}
 use Rattle.nc_scripts.proofs.NewLots.{AreNew, ranges_begin, behind_ranges, behind_test, sg_none, some_is, placeable_is, new_is}
-use Rattle.nc_holds.specs.Changes.{Made}
+use Rattle.nc_holds.specs.Changes.{Made, MayMake}
 use Rattle.nc_holds.specs.Held.{IsEntryOf}
 use Rattle.nc_holds.specs.Holds.{held_of, DriverHolds}
 use Rattle.nc_holds.specs.Rests.{RestAt}
@@ -196,23 +196,25 @@ made_call sc f w h o new s makes e =
     let k = holds_here sc f w h s.flat s.lt in
     let n = new_is ram harts fx d.lots new w.owners w.pages o k.driver.fixed s.settled k.driver.apart k.setting.pages (in_hand_is ram harts d o k.driver.fixed s.hand).fits e in
     let plain = plain_new o new makes (new_lots fx d.lots new w.owners w.pages o e) in
-    let may = record { op = o; begins = e; settled = s.settled } in
-    let its = new_kinds o fx d.lots new w.owners w.pages makes e in
-    (record {
-      flat = s.flat;
-      lt = s.lt;
-      slots = w.slots;
-      each = change_stays owner_laws ram harts h.0 fx _ _ (held_of w h.0) (Made new) (everyone_from w h.0 s.flat.world.holds (short sc f w h s.flat s.lt)) ((record { may = may; op = o; each = n }, plain.1), may, plain.0);
-      mappings = All-append (IsMapping fx) d.lots new (s.flat.bytes.drives h.0 s.lt).lots (its.mapping fx s.full);
-      loans = λ k. ap (option_map (loan_by fx k)) (more_wanted k d.lots new n.wanted);
-      kept = λ other there lent. in_left other d.lots new there;
-      still = as_wanted d.lots s.still;
-      now = All-append (IsStillOrMade (Some o)) d.lots new (all_to IsStill (IsStillOrMade (Some o)) d.lots s.still (λ lot is. inl is))
-          (all_in (IsStillOrMade (Some o)) new (λ lot there. inr (wanted_side lot.side (all_at (λ (l : Lot). is_wanted l.side ≡ true) new lot n.wanted there), all_at (λ (l : Lot). makes_kind o l.kind ≡ true) new lot its.made there)));
-      hand = s.hand;
-      lends = s.lends;
-      idle = s.idle;
-    }, record { old = d.lots; new = new; all = refl; settled = s.settled; names = n.names; wanted = n.wanted })
+    let may : MayMake fx (held_of w h.0) new = record { op = o; begins = e; settled = s.settled } in
+    let its = new_kinds o fx d.lots new w.owners w.pages makes e in (
+      record {
+        flat = s.flat;
+        lt = s.lt;
+        slots = w.slots;
+        each = change_stays owner_laws ram harts h.0 fx _ _ (held_of w h.0) (Made new) (everyone_from w h.0 s.flat.world.holds (short sc f w h s.flat s.lt)) ((record { may = may; op = o; each = n }, plain.1), may, plain.0);
+        mappings = All-append (IsMapping fx) d.lots new (s.flat.bytes.drives h.0 s.lt).lots (its.mapping fx s.full);
+        loans = λ k. ap (option_map (loan_by fx k)) (more_wanted k d.lots new n.wanted);
+        kept = λ other there lent. in_left other d.lots new there;
+        still = as_wanted d.lots s.still;
+        now = All-append (IsStillOrMade (Some o)) d.lots new (all_to IsStill (IsStillOrMade (Some o)) d.lots s.still (λ lot is. inl is))
+            (all_in (IsStillOrMade (Some o)) new (λ lot there. inr (wanted_side lot.side (all_at (λ (l : Lot). is_wanted l.side ≡ true) new lot n.wanted there), all_at (λ (l : Lot). makes_kind o l.kind ≡ true) new lot its.made there)));
+        hand = s.hand;
+        lends = s.lends;
+        idle = s.idle;
+      },
+      record { old = d.lots; new = new; all = refl; settled = s.settled; names = n.names; wanted = n.wanted },
+    )
 
 map_bytes : (sc : Scenario) (f : List ℕ) (w : WorldState) (h : HartNo) (o : Op) (r : Result (List Lot) Refusal) → IsStart sc f w h o → Makes o → begin (driver_of w h.0).fixed (driver_of w h.0).lots w.owners w.pages o ≡ r → BytesStand sc f (gone w h w.machine (begun (driver_of w h.0) o r))
 map_bytes sc f w h o (Err r) s makes e = gives_bytes sc f w h o r s.flat s.lt s.idle (as_wanted (driver_of w h.0).lots s.still)
