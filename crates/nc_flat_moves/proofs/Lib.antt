@@ -1,4 +1,7 @@
+pub mod Stubs
 pub mod LosesRows
+pub mod Calm
+pub mod NamedBytes
 pub mod Pieces
 pub mod MappedNow
 pub mod Drains
