@@ -1,6 +1,6 @@
 -- What is left of the plan of a mapping, step by step: what each step is for, and that behind all of them each lot of the
 -- hart is with its channel or synced. This project's own.
-use Rattle.std.specs.Prelude.{ℕ, ◌≡◌, ◌⊎◌, ◌≤◌, ◌+◌, ◌/◌, Bool, true, false, List, [], ◌∷◌, Some, All}
+use Rattle.std.specs.Prelude.{ℕ, ◌≡◌, ◌⊎◌, ◌≤◌, ◌+◌, ◌/◌, Bool, true, false, List, [], ◌∷◌, Some, None, All}
 use Rattle.std.specs.List.{list_any}
 use Rattle.nc_num.specs.Places.{covers}
 use Rattle.nc_num.specs.declared.names.MapId.{MapId}
@@ -49,6 +49,10 @@ abbrev pub device_of : Fixed → Entry → Span
 device_of f e = sg.device f.slots_at e
 
 -- ---- what is to come for a lot, whichever of its mappings is asked for
+
+-- a store of the last load's bytes comes behind its load alone
+abbrev pub LoadsFirst : List Step → Type 0
+LoadsFirst rest = rest_last rest ≡ None
 
 abbrev pub HasFull : LotId → List Step → Bool → Type 0
 HasFull id rest t = (n : MapId) → list_any is_full (coming n id rest) ≡ t
@@ -107,6 +111,7 @@ pub record IsStore (f : Fixed) (lots : List Lot) (s : Step) (rest : List Step) :
   pub first : s.first ≡ turns.Stay
   pub within : IsWithin span from
   pub once : (y : ℕ) → covers (moved from.at to.at span) y ≡ true → HasByte f copied.lot.id rest y false
+  pub next : LoadsFirst rest
   pub last : (s.last ≡ turns.Stay) ⊎ (IsBack copied.lot.id s.last × (copied.lot.side ≡ sides.Returning) × (rest ≡ []))
 
 -- ---- cache operations
@@ -119,6 +124,7 @@ pub record IsWriteBack (f : Fixed) (lots : List Lot) (s : Step) (rest : List Ste
   pub block : Block
   pub step : s ≡ hart_step (hart_ops.Cbo op block)
   pub writes : writes_back op ≡ true
+  pub next : LoadsFirst rest
 
 -- a block that the device may have written is dropped before the full fence
 pub record IsDrop (f : Fixed) (lots : List Lot) (s : Step) (rest : List Step) : Type 0 where
@@ -136,6 +142,7 @@ pub record IsDrop (f : Fixed) (lots : List Lot) (s : Step) (rest : List Step) : 
   pub covered : covers (device_of f entry) place ≡ true
   pub met : place / f.size ≡ block.0
   pub ahead : HasFull lot.id rest true
+  pub next : LoadsFirst rest
 
 -- ---- full fences
 
@@ -152,6 +159,7 @@ pub record IsFence (f : Fixed) (lots : List Lot) (s : Step) (rest : List Step) :
   pub hand : IsInHand lots lot sides.Returning
   pub step : s ≡ hart_step full
   pub only : HasFull lot.id rest false
+  pub next : LoadsFirst rest
   pub out : (i : ℕ) (e : Entry) (x : ℕ) → IsEntryOf lots lot i e → e.bounced ≡ true → comes_back lot.list.dir ≡ true → covers e.span x ≡ true → HasByte f lot.id rest x true
 
 -- nothing comes out of a slot, and the lot is back
