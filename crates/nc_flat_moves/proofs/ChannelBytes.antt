@@ -1,6 +1,6 @@
 -- The bytes behind a channel's transaction.
 use Rattle.nc_rows.specs.Ahead.{is_full}
-use Rattle.std.specs.Prelude.{Option, Some, None, ◌-◌, map}
+use Rattle.std.specs.Prelude.{Option, Some, ◌-◌, map}
 use Rattle.std.specs.List.{range_with_len, list_any}
 use Rattle.std.proofs.Common.{◌≡◌, ◌⊎◌, ℕ, ◌+◌, ◌<◌, ◌≤◌, Bool, true, false, List, length, refl, sym, ap, ◌∙◌, inl, inr, subst, arith}
 use Rattle.std.proofs.lemmas.Bool.{cases_Bool, both_ways}
@@ -13,6 +13,7 @@ use Rattle.nc_num.specs.declared.names.Dir.TheVariants.{Both, ToDev, FromDev}
 use Rattle.nc_num.specs.declared.names.MapId.{MapId}
 use Rattle.nc_num.specs.declared.places.Span.{Span}
 use Rattle.nc_num.proofs.MemoryLaws.{span-by_place}
+use Rattle.nc_hart.specs.HartState.{HartState}
 use Rattle.nc_model.specs.Flat.{named_from, channel_name, written, Shows}
 use Rattle.nc_model.specs.Rights.{device_may}
 use Rattle.nc_model.specs.declared.owners.Access.{Access}
@@ -30,18 +31,20 @@ use Rattle.nc_calls.specs.MachineLaws.{SameShape}
 use Rattle.nc_calls.specs.PlaceLaws.{NotHeld, Stays, WritesSpan}
 use Rattle.nc_rows.specs.Places.{CalmRow}
 use Rattle.nc_rows.specs.Rows.{Loan, Book, device_place, Either, ByDir, Row}
-use Rattle.nc_rows.specs.Parts.{Queued, Uncached, LastIs, Lasts, rest_last}
+use Rattle.nc_rows.specs.Parts.{Queued, Uncached, Lasts}
 use Rattle.nc_rows.specs.Laws.{place_of}
 use Rattle.nc_row_channels.specs.Laws.{Beside, IsWritten, IsPlain}
 use Rattle.nc_row_channels.proofs.RowWrites.{rows_of_channels}
-use Rattle.nc_flatness.specs.Books.{book_of, mapping_in}
+use Rattle.nc_flatness.specs.Books.{book_of}
 use Rattle.nc_flatness.specs.Flatness.{IsUnseen, BytesStand, Flatness}
 use Rattle.nc_flatness.proofs.FlatBytes.{out_of}
+use Rattle.nc_flatness.proofs.Lasts.{last_stays}
+use Rattle.nc_flatness.proofs.Loans.{loan_is}
 use Rattle.nc_flatness.proofs.Outcomes.{ran}
-use Rattle.nc_flat_moves.proofs.Stubs.{loan_is, mapped, owned_ram, seen, seen_one, last_lent}
+use Rattle.nc_flatness.proofs.Seen.{seen, seen_one}
 use Rattle.nc_flat_moves.proofs.LosesRows.{one_loan}
 use Rattle.nc_flat_moves.proofs.Calm.{calm_of}
-use Rattle.nc_flat_moves.proofs.NamedBytes.{byte_kept, byte_there, shows_under, span_same}
+use Rattle.nc_flat_moves.proofs.NamedBytes.{byte_kept, byte_there, shows_under}
 use Rattle.nc_flat_moves.proofs.Granted.{IsUsed, used_there, used_ways, seen_here}
 
 -- ---- nothing is written
@@ -205,39 +208,15 @@ calm_by sc f w k c span bytes z is over none = elim (cases_Bool (covers span z))
 
 -- ---- what a last load brought is of places that are lent or taken back
 
-abbrev IsLent : WorldState → MapId → ℕ → Type 0
-IsLent w n x = (owner_of w x ≡ Lending n) ⊎ (owner_of w x ≡ Returning n)
-
-lent_in : (w : WorldState) (n : MapId) (x : ℕ) → IsLent w n x → mapping_in (owner_of w x) ≡ Some n
-lent_in w n x (inl own) = ap mapping_in own
-lent_in w n x (inr own) = ap mapping_in own
-
-not_device : (w : WorldState) (n id : MapId) (x y : ℕ) → IsLent w n x → owner_of w y ≡ Device id → y ≡ x → ⊥
+not_device : (w : WorldState) (n id : MapId) (x y : ℕ) → (owner_of w x ≡ Lending n) ⊎ (owner_of w x ≡ Returning n) → owner_of w y ≡ Device id → y ≡ x → ⊥
 not_device w n id x y (inl own) device same = let no : Lending n ≡ Device id = sym own ∙ ap (owner_of w) (sym same) ∙ device in cc
 not_device w n id x y (inr own) device same = let no : Returning n ≡ Device id = sym own ∙ ap (owner_of w) (sym same) ∙ device in cc
 
-piece_kept : (sc : Scenario) (f g : List ℕ) (w : WorldState) (h : ℕ) (bytes : List ℕ) (o : Option Span) → Flatness sc f w → length g ≡ length f → ((n : MapId) (x : ℕ) → IsLent w n x → byte g x ≡ byte f x) → rest_last ((book_of w).rest h) ≡ o → LastIs (book_of w) f h bytes o
-    → LastIs (book_of w) g h bytes o
-piece_kept sc f g w h bytes None flat size same last piece = tt
-piece_kept sc f g w h bytes (Some span) flat size same last piece =
-    let lent : (x : ℕ) → piece.from ≤ x → x < piece.from + span.len → IsLent w piece.id x = λ x low high. last_lent sc f w h span bytes flat last piece x low high in
-    record {
-      id = piece.id;
-      loan = piece.loan;
-      lent = piece.lent;
-      own = piece.own;
-      from = piece.from;
-      inside = piece.inside;
-      here = piece.here;
-      bytes_are = piece.bytes_are
-          ∙ sym (span_same f g piece.from span.len size (λ x low high. omega (arith, owned_ram sc f w x piece.id flat (lent_in w piece.id x (lent x low high)), flat.bytes.flat_size)) (λ x low high. same piece.id x (lent x low high)));
-    }
-
-lasts_written : (sc : Scenario) (f : List ℕ) (w : WorldState) (k : MachineState) (c : ChanNo) (span : Span) (bytes : List ℕ) → (is : IsWrite sc f w k c span bytes) → Lasts (book_of w) (told w c f span bytes) k
-lasts_written sc f w k c span bytes is =
-    lasts_on (book_of w) (told w c f span bytes) w.machine k is.writes.harts
-    (λ h. piece_kept sc f (told w c f span bytes) w h (hart_of w.machine h).last (rest_last ((book_of w).rest h)) is.flat (length-written f (named_from (channel_name w.grants c) span.at bytes))
-    (λ n x lent. byte_beside sc f w k c span bytes x is (λ z on u same. not_device w n u.id x u.place lent u.owner same)) refl (is.flat.bytes.lasts h))
+lasts_written : (sc : Scenario) (f : List ℕ) (w : WorldState) (k : MachineState) (c : ChanNo) (span : Span) (bytes : List ℕ) → IsWrite sc f w k c span bytes → Lasts (book_of w) (told w c f span bytes) k
+lasts_written sc f w k c span bytes is = λ h.
+    last_stays sc f (told w c f span bytes) w (book_of w) k h is.flat (length-written f (named_from (channel_name w.grants c) span.at bytes) ∙ is.flat.bytes.flat_size) refl
+    (ap (λ (hs : List HartState). (hart_of (record w.machine { harts = hs }) h).last) is.writes.harts) (λ n own. refl)
+    (λ x n lent. byte_beside sc f w k c span bytes x is (λ z on u same. not_device w n u.id x u.place lent u.owner same))
 
 -- ---- the whole
 

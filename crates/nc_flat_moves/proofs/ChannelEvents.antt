@@ -1,5 +1,5 @@
 -- A channel's read and write in flat memory: a touch, or what is read is flat memory's, and what is written stands.
-use Rattle.std.proofs.Common.{◌≡◌, ℕ, ◌<◌, Bool, true, false, List, [], ◌∷◌, length, refl, sym, ap, ◌∙◌, subst, None}
+use Rattle.std.proofs.Common.{◌≡◌, ℕ, ◌<◌, Bool, true, false, List, [], ◌∷◌, refl, sym, subst, None}
 use Rattle.nc_num.specs.declared.names.ChanNo.{ChanNo}
 use Rattle.nc_num.specs.declared.places.Place.{Place}
 use Rattle.nc_num.specs.declared.places.Span.{Span}

@@ -39,7 +39,7 @@ use Rattle.nc_flatness.proofs.Marks.{transfers_silent, entry_silent}
 use Rattle.nc_flatness.proofs.Outcomes.{ran, goes_silent, runs_go}
 use Rattle.nc_flat_moves.proofs.LosesRows.{loses_row}
 use Rattle.nc_flat_moves.proofs.Calm.{calm_of}
-use Rattle.nc_flat_moves.proofs.MappedNow.{has_pieces, no_token, whole_pool}
+use Rattle.nc_flat_moves.proofs.WorldNow.{has_pieces, no_token, whole_pool}
 
 -- ---- an entry that is no token
 

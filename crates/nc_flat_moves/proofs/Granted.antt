@@ -1,7 +1,7 @@
 -- What a transaction that is no touch may use: where a channel sees the places that its own mappings have.
 use Rattle.std.specs.Prelude.{Option, Some, None, ◌==◌, ◌&&◌, ◌-◌}
 use Rattle.std.specs.Option.{option_map}
-use Rattle.std.proofs.Common.{◌≡◌, ◌⊎◌, ℕ, ◌+◌, ◌<◌, ◌≤◌, true, false, List, refl, sym, ap, ◌∙◌, inl, inr, arith}
+use Rattle.std.proofs.Common.{◌≡◌, ◌⊎◌, ℕ, ◌+◌, ◌<◌, ◌≤◌, true, false, List, sym, ap, ◌∙◌, inl, inr, arith}
 use Rattle.std.proofs.lemmas.Bool.{and_parts, eqb-true, both_ways}
 use Rattle.nc_num.specs.Places.{covers}
 use Rattle.nc_num.specs.declared.names.ChanNo.{ChanNo}
@@ -28,7 +28,9 @@ use Rattle.nc_holds.specs.Holds.{IsHeldGrant}
 use Rattle.nc_rows.specs.Rows.{Loan, device_place}
 use Rattle.nc_flatness.specs.Books.{book_of, mapping_in}
 use Rattle.nc_flatness.specs.Flatness.{Flatness}
-use Rattle.nc_flat_moves.proofs.Stubs.{entry_loan, me_is, mapped, owned_ram, seen, seen_lent, place_ways, mapped_unslotted}
+use Rattle.nc_flatness.proofs.Loans.{entry_loan}
+use Rattle.nc_flatness.proofs.Owned.{me_is, mapped, owned_ram}
+use Rattle.nc_flatness.proofs.Seen.{seen, seen_lent, place_ways, mapped_unslotted}
 use Rattle.nc_flat_moves.proofs.LosesRows.{one_loan}
 
 -- ---- names
@@ -114,7 +116,7 @@ used sc f w c access s z flat none over =
 
 -- ---- its place of the buffer
 
--- it is in RAM, none of the slots, and the mapping's
+-- it is in RAM, is none of the slots, and is seen at the place that is used
 pub record IsThere (sc : Scenario) (w : WorldState) (place z : ℕ) : Type 0 where
   pub low : place < sc.ram
   pub off : covers (slots_of sc) place ≡ false
@@ -129,7 +131,7 @@ used_there sc f w c access z flat u =
       at = seen_lent w u.id u.loan u.place u.known (inr (inl u.owner)) ∙ u.here;
     }
 
--- the mapping bounces, and so its place of the buffer is another; or it is the place itself
+-- it is the place itself, or the mapping bounces
 pub used_ways : (sc : Scenario) (f : List ℕ) (w : WorldState) (c : ChanNo) (access : Access) (z : ℕ) → Flatness sc f w → (u : IsUsed w c access z) → (u.place ≡ z) ⊎ (covers (slots_of sc) z ≡ true)
 used_ways sc f w c access z flat u =
     let mine = ap mapping_in u.owner in
@@ -140,7 +142,7 @@ used_ways sc f w c access z flat u =
       | inr way ↦ inr (ap (λ (y : ℕ). covers (slots_of sc) y) (sym here) ∙ way.0)
     ]
 
--- one that is none of the slots is seen where it is
+-- a place that is used and none of the slots is seen where it is
 pub seen_here : (sc : Scenario) (f : List ℕ) (w : WorldState) (c : ChanNo) (access : Access) (z : ℕ) → Flatness sc f w → covers (slots_of sc) z ≡ false → IsUsed w c access z → seen w z ≡ z
 seen_here sc f w c access z flat off u = elim (used_ways sc f w c access z flat u) [
   | inl same ↦ ap (λ (y : ℕ). seen w y) (sym same) ∙ (used_there sc f w c access z flat u).at

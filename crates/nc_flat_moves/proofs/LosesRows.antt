@@ -1,6 +1,6 @@
 -- An entry that drains loses no byte that a row tells: what it may lose is of a block that its own mapping drops.
-use Rattle.std.specs.Prelude.{Option, Some, None, ◌/◌, ◌-◌}
-use Rattle.std.proofs.Common.{◌≡◌, ◌⊎◌, ℕ, ◌+◌, ◌<◌, ◌≤◌, Bool, true, false, List, refl, sym, ap, ◌∙◌, inl, inr, subst, arith}
+use Rattle.std.specs.Prelude.{Option, Some, None, ◌/◌}
+use Rattle.std.proofs.Common.{◌≡◌, ◌⊎◌, ℕ, ◌<◌, Bool, true, false, List, refl, sym, ap, ◌∙◌, inl, inr, subst}
 use Rattle.std.proofs.lemmas.Bool.{eqb-true, both_ways}
 use Rattle.nc_num.specs.Places.{covers}
 use Rattle.nc_num.specs.declared.names.Dir.{Dir}
@@ -13,7 +13,6 @@ use Rattle.nc_queue.specs.declared.entry.Entry.TheVariants.{Store, Cbo, Reg, Mai
 use Rattle.nc_plan.specs.Parts.{comes_back}
 use Rattle.nc_model.specs.declared.owners.Owner.{Owner}
 use Rattle.nc_model.specs.declared.owners.Owner.TheVariants.{Thread, Passing, Lending, Device, Returning, Synced, Pool}
-use Rattle.nc_model.proofs.Faults.{covers-low}
 use Rattle.nc_scen.specs.Regions.{slots_of}
 use Rattle.nc_scen.specs.declared.scenario.Scenario.{Scenario}
 use Rattle.nc_rules.specs.Machine.{MachineState}
@@ -25,7 +24,11 @@ use Rattle.nc_rows.specs.Parts.{IsDropped, IsQueued}
 use Rattle.nc_row_moves.specs.Laws.{LosesFrom, LosesLent, LosesDevice, LosesNoRow}
 use Rattle.nc_flatness.specs.Books.{book_of, mapping_in}
 use Rattle.nc_flatness.specs.Flatness.{Flatness}
-use Rattle.nc_flat_moves.proofs.Stubs.{loan_is, IsMapped, mapped, owned_ram, seen, seen_lent, place_ways, slot_block, seen_whole, direct_whole, pool_unheld}
+use Rattle.nc_flatness.proofs.BookReads.{pool_unheld}
+use Rattle.nc_flatness.proofs.Loans.{loan_is}
+use Rattle.nc_flatness.proofs.Owned.{mapped, owned_ram}
+use Rattle.nc_flatness.proofs.Seen.{seen, seen_lent, device_same, place_ways, slot_block, seen_whole}
+use Rattle.nc_flatness.proofs.WholeBlocks.{mapped_block}
 
 -- what a mapping is, is one
 pub one_loan : (o : Option Loan) (k l : Loan) → o ≡ Some k → o ≡ Some l → k ≡ l
@@ -101,26 +104,20 @@ record IsBackHere (w : WorldState) (n : MapId) (l : Loan) (x : ℕ) : Type 0 whe
   owner : owner_of w x ≡ Returning n
   here : device_place l x ≡ x
 
-here_too : (at from x y : ℕ) → from ≤ x → from ≤ y → at + (x - from) ≡ x → at + (y - from) ≡ y
-here_too at from x y low less same = omega (arith, low, less, same)
-
 dropped_here : (sc : Scenario) (f : List ℕ) (w : WorldState) (h b x : ℕ) → Flatness sc f w → (l : DropsBlock w h b) → x < sc.ram → covers (slots_of sc) x ≡ false → x / w.machine.size ≡ b → IsBackHere w l.id l.loan x
 dropped_here sc f w h b x flat l lt off at =
     let mine = ap mapping_in l.owned in
     let is = mapped sc f w l.id l.place flat (owned_ram sc f w l.place l.id flat mine) mine in
     let same : is.loan ≡ l.loan = one_loan ((book_of w).loan l.id) is.loan l.loan is.known l.lent in
-    let block : device_place is.loan l.place / w.machine.size ≡ x / w.machine.size = ap (λ (k : Loan). device_place k l.place / w.machine.size) same ∙ l.here ∙ sym at in
+    let at_block : device_place is.loan l.place / w.machine.size ≡ x / w.machine.size = ap (λ (k : Loan). device_place k l.place / w.machine.size) same ∙ l.here ∙ sym at in
     elim (place_ways sc f w l.id l.place flat is) [
       | inl way ↦
-          let owner = direct_whole sc f w l.id l.place x flat is way.1 (ap (λ (k : Loan). comes_back k.grant.dir) same ∙ l.back) (sym block ∙ ap (λ (y : ℕ). y / w.machine.size) way.0) ∙ l.owned in
-          let too = mapped sc f w l.id x flat lt (ap mapping_in owner) in
-          let on : covers l.loan.grant.buffer x ≡ true = ap (λ (k : Loan). covers k.grant.buffer x) (one_loan ((book_of w).loan l.id) l.loan too.loan l.lent too.known) ∙ too.on in
-          let was : covers l.loan.grant.buffer l.place ≡ true = ap (λ (k : Loan). covers k.grant.buffer l.place) (sym same) ∙ is.on in
+          let block = mapped_block sc f w l.id l.place x flat is way.1 (ap (λ (k : Loan). comes_back k.grant.dir) same ∙ l.back) (sym at_block ∙ ap (λ (y : ℕ). y / w.machine.size) way.0) in
           record {
-            owner = owner;
-            here = here_too l.loan.grant.device.at l.loan.grant.buffer.at l.place x (covers-low l.loan.grant.buffer l.place was) (covers-low l.loan.grant.buffer x on) (ap (λ (k : Loan). device_place k l.place) (sym same) ∙ way.0);
+            owner = block.1 ∙ l.owned;
+            here = ap (λ (k : Loan). device_place k x) (sym same) ∙ device_same w l.id is.loan x is.is way.1 block.0;
           }
-      | inr way ↦ absurd (both_ways (covers (slots_of sc) x) off (slot_block sc f w (device_place is.loan l.place) x flat way.0 block))
+      | inr way ↦ absurd (both_ways (covers (slots_of sc) x) off (slot_block sc f w (device_place is.loan l.place) x flat way.0 at_block))
     ]
 
 -- at a place of another owner
@@ -131,10 +128,11 @@ other_loses sc f w h e x flat lt off l other = λ over. absurd (other (dropped_h
 lent_loses : (sc : Scenario) (f : List ℕ) (w : WorldState) (h : ℕ) (e : Entry) (x : ℕ) (n : MapId) (o : Option Loan) → Flatness sc f w → x < sc.ram → covers (slots_of sc) x ≡ false → LosesBlock w h e → owner_of w x ≡ Lending n → (book_of w).loan n ≡ o
     → LosesLent o w.machine e x
 lent_loses sc f w h e x n None flat lt off l own is = tt
-lent_loses sc f w h e x n (Some loan) flat lt off l own is =
-    (other_loses sc f w h e x flat lt off l (λ back. let no = sym own ∙ back in cc),
-    λ over. absurd (let back = dropped_seen sc f w h l.block x flat l.dropped lt off (ap (λ (y : ℕ). y / w.machine.size) (seen_lent w n loan x is (inl own)) ∙ l.only (device_place loan x) over) in
-    let no = sym own ∙ back in cc))
+lent_loses sc f w h e x n (Some loan) flat lt off l own is = (
+  other_loses sc f w h e x flat lt off l (λ back. let no = sym own ∙ back in cc),
+  λ over. absurd (let back = dropped_seen sc f w h l.block x flat l.dropped lt off (ap (λ (y : ℕ). y / w.machine.size) (seen_lent w n loan x is (inl own)) ∙ l.only (device_place loan x) over) in
+      let no = sym own ∙ back in cc),
+)
 
 by_dir : (dir : Dir) (p q : Type 0) → (comes_back dir ≡ false → p) → q → ByDir dir p q
 by_dir ToDev p q first second = first refl
@@ -149,7 +147,7 @@ device_loses sc f w e x n (Some loan) flat is to from =
     subst (λ (b : Bool). Either b (LosesNone w.machine e x) (ByDir loan.grant.dir (LosesNone w.machine e x) (LosesFrom w.machine e x (device_place loan x)))) (sym (loan_is sc f w n loan flat is).area)
     (by_dir loan.grant.dir (LosesNone w.machine e x) (LosesFrom w.machine e x (device_place loan x)) (to loan refl) (from loan refl))
 
--- of the mapping that is dropped itself, where it is seen at its own place
+-- a place that is taken back, where its device reads it only, and where it may write it
 back_to : (sc : Scenario) (f : List ℕ) (w : WorldState) (h : ℕ) (e : Entry) (x : ℕ) (n : MapId) (loan : Loan) → Flatness sc f w → x < sc.ram → covers (slots_of sc) x ≡ false → (l : LosesBlock w h e) → owner_of w x ≡ Returning n → (book_of w).loan n ≡ Some loan
     → comes_back loan.grant.dir ≡ false → LosesNone w.machine e x
 back_to sc f w h e x n loan flat lt off l own is to = other_loses sc f w h e x flat lt off l (λ back.

@@ -26,11 +26,11 @@ use Rattle.nc_row_moves.proofs.RowMoves.{rows_move}
 use Rattle.nc_flatness.specs.Books.{book_of}
 use Rattle.nc_flatness.specs.Flatness.{BytesStand, Flatness}
 use Rattle.nc_flatness.specs.Steps.{IsNow, Goes}
+use Rattle.nc_flatness.proofs.Loans.{loan_is}
 use Rattle.nc_flatness.proofs.Marks.{answer_silent}
 use Rattle.nc_flatness.proofs.Outcomes.{ran, goes_silent, runs_go}
-use Rattle.nc_flat_moves.proofs.Stubs.{loan_is}
 use Rattle.nc_flat_moves.proofs.Calm.{calm_of}
-use Rattle.nc_flat_moves.proofs.MappedNow.{whole_pool}
+use Rattle.nc_flat_moves.proofs.WorldNow.{whole_pool}
 
 -- ---- no area is lent
 

@@ -1,12 +1,10 @@
--- Bytes that are written and read under the names of other places, and spans of which no byte changes.
+-- Bytes that are written and read under the names of other places.
 use Rattle.std.specs.Prelude.{◌≢◌, ◌-◌, slice_set, map}
 use Rattle.std.specs.List.{range_with_len}
 use Rattle.std.proofs.Common.{◌≡◌, ℕ, zero, suc, ◌+◌, ◌<◌, ◌≤◌, false, List, [], ◌∷◌, length, refl, sym, ap, ◌∙◌, inl, inr, subst, arith}
 use Rattle.std.proofs.lemmas.Bool.{cases_eq, ne_eqb}
 use Rattle.std.proofs.lemmas.List.{length-set, get_or-set_same}
 use Rattle.nc_num.specs.Memory.{byte}
-use Rattle.nc_num.specs.Memory as memory
-use Rattle.nc_num.proofs.MemoryLaws.{byte-span, length-span, same_bytes}
 use Rattle.nc_model.specs.Flat.{named_from, written, Shows}
 use Rattle.nc_model.specs.Laws.{names}
 use Rattle.nc_model.proofs.FlatLaws.{byte-written_other}
@@ -44,19 +42,3 @@ byte_there m name at (b ∷ bytes) z low high fits apart =
 pub shows_under : (f : List ℕ) (name seen : ℕ → ℕ) (at n : ℕ) → ((z : ℕ) → at ≤ z → z < at + n → seen z ≡ byte f (name z)) → Shows f (named_from name at (map seen (range_with_len at n)))
 shows_under f name seen at zero same = tt
 shows_under f name seen at (suc n) same = (sym (same at (omega arith) (omega arith)), shows_under f name seen (at + 1) n (λ z low high. same z (omega (arith, low)) (omega (arith, high))))
-
--- ---- spans
-
-some_same : (f g : List ℕ) (at n : ℕ) → at + n ≤ length f → at + n ≤ length g → ((x : ℕ) → at ≤ x → x < at + n → byte g x ≡ byte f x) → memory.span g at n ≡ memory.span f at n
-some_same f g at n fits too same =
-    let long = length-span g at n too in
-    same_bytes (memory.span g at n) (memory.span f at n) (long ∙ sym (length-span f at n fits))
-    (λ i lt. let short : i < n = omega (arith, lt, long) in byte-span g at n i short ∙ same (at + i) (omega arith) (omega (arith, short)) ∙ sym (byte-span f at n i short))
-
--- of memories of one size
-pub span_same : (f g : List ℕ) (at n : ℕ) → length g ≡ length f → ((x : ℕ) → at ≤ x → x < at + n → x < length f) → ((x : ℕ) → at ≤ x → x < at + n → byte g x ≡ byte f x) → memory.span g at n ≡ memory.span f at n
-unfolding memory.span
-span_same f g at zero size inside same = refl
-span_same f g at (suc n) size inside same =
-    let fits : at + suc n ≤ length f = let last = inside (at + n) (omega arith) (omega arith) in omega (arith, last) in
-    some_same f g at (suc n) fits (omega (arith, fits, size)) same

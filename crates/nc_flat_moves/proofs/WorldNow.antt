@@ -1,7 +1,7 @@
--- What the drivers of a world with flat memory are still to do, and what is queued.
+-- What is known of a world with flat memory: what is to come of its drivers' plans, that no token is queued, and its pool.
 use Rattle.std.specs.Prelude.{Option, Some, None, ◌%◌}
 use Rattle.std.specs.List.{list_any}
-use Rattle.std.proofs.Common.{◌≡◌, ℕ, ◌<◌, List, [], ◌∷◌, length, refl, sym, ap, ◌∙◌, inl, inr, arith}
+use Rattle.std.proofs.Common.{◌≡◌, ℕ, ◌<◌, List, [], ◌∷◌, length, refl, sym, ap, ◌∙◌, inl, arith}
 use Rattle.std.proofs.lemmas.Bool.{both_ways}
 use Rattle.nc_num.specs.declared.names.MapId.{MapId}
 use Rattle.nc_num.specs.declared.places.Span.{Span}
@@ -27,7 +27,8 @@ use Rattle.nc_row_moves.specs.Laws.{PiecesOf, HasPieces}
 use Rattle.nc_row_moves.specs.Parts.{WholePool}
 use Rattle.nc_flatness.specs.Books.{book_of}
 use Rattle.nc_flatness.specs.Flatness.{IsMapping, Flatness}
-use Rattle.nc_flat_moves.proofs.Stubs.{loan_is, in_whole}
+use Rattle.nc_flatness.proofs.Loans.{loan_is}
+use Rattle.nc_flatness.proofs.WholeBlocks.{in_whole}
 use Rattle.nc_flat_moves.proofs.Pieces.{comes_in_block}
 
 -- ---- what is to come
