@@ -278,6 +278,18 @@ seen_lent w n l x known (inl e) = ap (λ (o : Owner). seen_at (book_of w) o x) e
 seen_lent w n l x known (inr (inl e)) = ap (λ (o : Owner). seen_at (book_of w) o x) e ∙ ap (λ (o : Option Loan). place_of o x) known
 seen_lent w n l x known (inr (inr e)) = ap (λ (o : Owner). seen_at (book_of w) o x) e ∙ ap (λ (o : Option Loan). place_of o x) known
 
+-- a place of an entry that does not bounce is seen as it is, whatever side its lot has
+side_same : (w : WorldState) (n : MapId) (x : ℕ) (side : Side) → (m : IsMapped w n x) → m.is.entry.bounced ≡ false → owner_of w x ≡ owner_of_side n side → seen w x ≡ x
+side_same w n x sides.Lending m direct e = seen_lent w n m.loan x m.known (inl e) ∙ device_same w n m.loan x m.is direct m.on
+side_same w n x sides.Device m direct e = seen_lent w n m.loan x m.known (inr (inl e)) ∙ device_same w n m.loan x m.is direct m.on
+side_same w n x sides.Returning m direct e = seen_lent w n m.loan x m.known (inr (inr e)) ∙ device_same w n m.loan x m.is direct m.on
+side_same w n x sides.Synced m direct e = ap (λ (o : Owner). seen_at (book_of w) o x) e
+side_same w n x sides.Wanted m direct e = ap (λ (o : Owner). seen_at (book_of w) o x) e
+side_same w n x sides.Own m direct e = ap (λ (o : Owner). seen_at (book_of w) o x) e
+
+pub seen_direct : (w : WorldState) (n : MapId) (x : ℕ) → (m : IsMapped w n x) → m.is.entry.bounced ≡ false → seen w x ≡ x
+seen_direct w n x m direct = side_same w n x m.is.lot.side m direct m.owner
+
 -- it is seen in the slot of its entry
 pub record IsSlotted (w : WorldState) (x : ℕ) : Type 0 where
   pub id : MapId
