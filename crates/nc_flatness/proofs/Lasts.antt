@@ -1,6 +1,6 @@
 -- The places of a copy under way are those of a mapping that is being lent or taken back.
 use Rattle.std.specs.Prelude.{◌⊎◌, ◌-◌}
-use Rattle.std.proofs.Common.{◌≡◌, ℕ, ◌+◌, ◌<◌, ◌≤◌, Bool, true, false, List, length, refl, sym, ap, ◌∙◌, inl, inr, subst, arith, Option, Some, None}
+use Rattle.std.proofs.Common.{◌≡◌, ℕ, ◌+◌, ◌<◌, ◌≤◌, true, false, List, length, refl, sym, ap, ◌∙◌, inl, inr, subst, arith, Option, Some, None}
 use Rattle.std.proofs.lemmas.Bool.{cases_Bool, cases_lt, false≢true}
 use Rattle.nc_num.specs.Memory as memory
 use Rattle.nc_num.specs.Memory.{byte}
@@ -9,16 +9,15 @@ use Rattle.nc_num.proofs.MemoryLaws.{span-by_place}
 use Rattle.nc_num.specs.declared.names.MapId.{MapId}
 use Rattle.nc_num.specs.declared.places.Span.{Span}
 use Rattle.nc_plan.specs.Plans.{moved}
-use Rattle.nc_model.specs.declared.owners.Owner.{Owner}
 use Rattle.nc_model.specs.declared.owners.Owner.TheVariants.{Lending, Returning}
-use Rattle.nc_model.proofs.Faults.{covers-from, covers-low, covers-high}
+use Rattle.nc_model.proofs.Faults.{covers-from}
 use Rattle.nc_sg.specs.declared.list.Entry.{Entry}
 use Rattle.nc_scen.specs.Regions.{slots_of}
 use Rattle.nc_scen.specs.declared.scenario.Scenario.{Scenario}
 use Rattle.nc_rules.specs.declared.lots.Lot.{Lot}
 use Rattle.nc_rules.specs.declared.lots.Side.{Side}
 use Rattle.nc_rules.specs.declared.lots.Side.TheVariants as sides
-use Rattle.nc_rules.specs.Lots.{Fixed, is_wanted, owner_of_side}
+use Rattle.nc_rules.specs.Lots.{is_wanted, owner_of_side}
 use Rattle.nc_rules.specs.declared.steps.Step.{Step}
 use Rattle.nc_rules.specs.Machine.{MachineState, hart_of}
 use Rattle.nc_rules.specs.Watched.{owner_of}
@@ -31,7 +30,7 @@ use Rattle.nc_rows.specs.Rows.{Book}
 use Rattle.nc_rows.specs.Parts.{rest_last, IsPiece, LastIs}
 use Rattle.nc_flatness.specs.Books.{book_of}
 use Rattle.nc_flatness.specs.Flatness.{Flatness}
-use Rattle.nc_flatness.specs.Plans.{device_of, IsWithin, IsCopied, GoesIn, ComesOut}
+use Rattle.nc_flatness.specs.Plans.{device_of, IsWithin}
 use Rattle.nc_flatness.proofs.Loans.{IsLoan, loan_is, lot_in}
 use Rattle.nc_flatness.proofs.Owned.{IsMapped, of_buffer, loan_mapped}
 use Rattle.nc_flatness.proofs.Rests.{IsNextStore, next_store, no_rest}

@@ -1,17 +1,14 @@
 -- Where the places of mappings are seen by their channels: each at itself, or in the slot of its entry.
 use Rattle.std.specs.Prelude.{◌⊎◌, ◌-◌, ◌*◌, ◌%◌, ◌/◌, ◌&&◌, is_none, slice_get, unwrap_or}
-use Rattle.std.proofs.Common.{◌≡◌, ℕ, ◌+◌, ◌<◌, ◌≤◌, Bool, true, false, List, length, refl, sym, ap, ◌∙◌, inl, inr, subst, arith, Option, Some, None}
+use Rattle.std.proofs.Common.{◌≡◌, ℕ, ◌+◌, ◌<◌, Bool, true, false, List, length, refl, sym, ap, ◌∙◌, inl, inr, subst, arith, Option, Some, None}
 use Rattle.std.proofs.lemmas.Bool.{cases_Bool, false≢true}
 use Rattle.nc_num.specs.Places.{covers}
-use Rattle.nc_num.specs.declared.names.HartNo.{HartNo}
 use Rattle.nc_num.specs.declared.names.MapId.{MapId}
 use Rattle.nc_num.specs.declared.places.Span.{Span}
 use Rattle.nc_plan.specs.Parts.{comes_back, is_too_big, in_slot}
-use Rattle.nc_plan.specs.Plans.{In}
 use Rattle.nc_plan.proofs.PlanLaws.{in_its_slot}
 use Rattle.nc_model.specs.declared.owners.Owner.{Owner}
 use Rattle.nc_model.specs.declared.owners.Owner.TheVariants.{Thread, Passing, Lending, Device, Returning, Synced, Pool}
-use Rattle.nc_model.specs.declared.owners.Grant.{Grant}
 use Rattle.nc_model.proofs.Faults.{covers-from, covers-low, covers-high}
 use Rattle.nc_sg.specs.Lists as sg
 use Rattle.nc_sg.specs.declared.list.Entry.{Entry}
@@ -34,7 +31,7 @@ use Rattle.nc_rows.specs.Laws.{place_of, seen_at}
 use Rattle.nc_flatness.specs.Books.{book_of, mapping_in}
 use Rattle.nc_flatness.specs.Flatness.{IsUnseen, Flatness}
 use Rattle.nc_flatness.proofs.Loans.{IsLoan, hart_of_lot, lot_in, lot_of, mapping_area}
-use Rattle.nc_flatness.proofs.Owned.{IsMapped, of_buffer, mapped, owned_ram}
+use Rattle.nc_flatness.proofs.Owned.{IsMapped, mapped, owned_ram}
 use Rattle.nc_flatness.proofs.WholeBlocks.{in_whole, whole_slots, mapped_block}
 
 -- where the channel of a place sees it

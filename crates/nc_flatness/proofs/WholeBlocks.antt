@@ -1,6 +1,6 @@
 -- A range that its device may write has the whole block of each of its places, where it does not bounce.
-use Rattle.std.specs.Prelude.{◌&&◌, ◌||◌, ◌==◌, ◌/◌, ◌%◌, ◌⊎◌, nat_lt, not, slice_get}
-use Rattle.std.proofs.Common.{◌≡◌, ℕ, ◌+◌, ◌<◌, ◌≤◌, Bool, true, false, List, length, refl, sym, ap, ◌∙◌, inl, inr, subst, arith}
+use Rattle.std.specs.Prelude.{◌&&◌, ◌||◌, ◌==◌, ◌/◌, ◌%◌, ◌⊎◌, nat_lt, not}
+use Rattle.std.proofs.Common.{◌≡◌, ℕ, ◌+◌, ◌<◌, ◌≤◌, Bool, true, false, List, sym, ap, ◌∙◌, inl, inr, subst, arith}
 use Rattle.std.proofs.lemmas.Bool.{and_parts, or_parts, not-false, eqb-true}
 use Rattle.nc_num.specs.Sizes.{IsBlockSize}
 use Rattle.nc_num.specs.Places.{covers}
@@ -14,10 +14,10 @@ use Rattle.nc_sg.specs.declared.list.Entry.{Entry}
 use Rattle.nc_scen.specs.declared.scenario.Scenario.{Scenario}
 use Rattle.nc_rules.specs.declared.lots.Kind.{Kind}
 use Rattle.nc_rules.specs.declared.lots.Lot.{Lot}
-use Rattle.nc_rules.specs.Lots.{Fixed, reach_of, map_id, owner_of_side}
+use Rattle.nc_rules.specs.Lots.{Fixed, reach_of, owner_of_side}
 use Rattle.nc_rules.specs.Turns.{is_area}
 use Rattle.nc_rules.specs.Watched.{owner_of}
-use Rattle.nc_rules.specs.World.{WorldState, driver_of, hart}
+use Rattle.nc_rules.specs.World.{WorldState, driver_of}
 use Rattle.nc_scripts.specs.Drivers.{BouncesSo}
 use Rattle.nc_holds.specs.Held.{IsEntryOf}
 use Rattle.nc_holds.proofs.ListsA.{all_at, at_get}

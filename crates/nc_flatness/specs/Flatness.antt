@@ -23,7 +23,7 @@ use Rattle.nc_rules.specs.declared.steps.Phase.{Phase}
 use Rattle.nc_rules.specs.declared.steps.Phase.TheVariants.{Steps, Search, Work}
 use Rattle.nc_rules.specs.declared.steps.Step.{Step}
 use Rattle.nc_rules.specs.Machine.{MachineState, queue_of}
-use Rattle.nc_rules.specs.Lots.{Fixed}
+use Rattle.nc_rules.specs.Lots.{Fixed, same_kind}
 use Rattle.nc_rules.specs.Handing.{hand_steps}
 use Rattle.nc_rules.specs.Plans.{hart_step}
 use Rattle.nc_rules.specs.Driver.{DriverState, in_hand}
@@ -76,6 +76,20 @@ pub record IsMapping (f : Fixed) (lot : Lot) : Type 0 where
 abbrev pub IsStillOrWanted : Lot → Type 0
 IsStillOrWanted lot = IsStill lot ⊎ (lot.side ≡ sides.Wanted)
 
+-- the operation makes lots of this kind
+abbrev pub makes_kind : Op → Kind → Bool
+makes_kind (ops.Map label buf off len dir chan) kind = same_kind kinds.Single kind
+makes_kind (ops.MapSg label entries dir chan) kind = same_kind kinds.List kind
+makes_kind _ kind = false
+
+abbrev pub IsMadeBy : Option Op → Lot → Type 0
+IsMadeBy None lot = ⊥
+IsMadeBy (Some o) lot = makes_kind o lot.kind ≡ true
+
+-- the same, where what waits is what the operation in hand makes
+abbrev pub IsStillOrMade : Option Op → Lot → Type 0
+IsStillOrMade o lot = IsStill lot ⊎ ((lot.side ≡ sides.Wanted) × IsMadeBy o lot)
+
 abbrev pub mail_step : ℕ → HartNo → Step
 mail_step buf to = hart_step (hart_ops.IoStore (io.Mail buf to))
 
@@ -120,7 +134,7 @@ PlanOf d (Some o) = PlanIs d o
 -- while slots are searched for, the lots that are made wait, and no other is lent or taken back
 abbrev pub StandsAt : DriverState → Phase → Type 0
 StandsAt d (Steps n) = All IsStill d.lots
-StandsAt d (Search k) = All IsStillOrWanted d.lots
+StandsAt d (Search k) = All (IsStillOrMade (in_hand d)) d.lots
 StandsAt d Work = PlanOf d (in_hand d)
 
 pub record Drives (d : DriverState) : Type 0 where

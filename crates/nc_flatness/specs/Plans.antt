@@ -16,6 +16,7 @@ use Rattle.nc_plan.specs.declared.ops.HartOp.TheVariants as hart_ops
 use Rattle.nc_plan.specs.declared.ops.Payload.TheVariants.{Last}
 use Rattle.nc_sg.specs.Lists as sg
 use Rattle.nc_sg.specs.declared.list.Entry.{Entry}
+use Rattle.nc_rules.specs.declared.lots.Kind.TheVariants.{Single}
 use Rattle.nc_rules.specs.declared.lots.Lot.{Lot}
 use Rattle.nc_rules.specs.declared.lots.LotId.{LotId}
 use Rattle.nc_rules.specs.declared.lots.Side.{Side}
@@ -34,9 +35,9 @@ use Rattle.nc_rows.specs.Parts.{rest_last}
 
 -- ---- the lots of a hart
 
--- it is with its channel, or synced
+-- it is with its channel, or synced: there is no sync of a scatter list
 abbrev pub IsStill : Lot → Type 0
-IsStill lot = (lot.side ≡ sides.Device) ⊎ (lot.side ≡ sides.Synced)
+IsStill lot = (lot.side ≡ sides.Device) ⊎ ((lot.side ≡ sides.Synced) × (lot.kind ≡ Single))
 
 -- the plan is of this lot, which has this side, and each other lot is still
 pub record IsInHand (lots : List Lot) (lot : Lot) (side : Side) : Type 0 where
