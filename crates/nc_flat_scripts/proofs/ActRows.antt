@@ -69,7 +69,7 @@ uncached_by a owner m n shape keep uncached = λ x over.
 
 -- ---- a claim, a take
 
-stays_row : (a : Book) (o : Owner) (v : ℕ) (m n : MachineState) (x : ℕ) → SameShape m n → Stays m n → Row a o v m x → Row a o v n x
+pub stays_row : (a : Book) (o : Owner) (v : ℕ) (m n : MachineState) (x : ℕ) → SameShape m n → Stays m n → Row a o v m x → Row a o v n x
 stays_row a o v m n x shape stays row =
     rows_keep.kept a o v m n x (record { size = shape.size; queues = stays.queues }) (of_same m n x (stays.places x)) (of_same m n (seen_at a o x) (stays.places (seen_at a o x)))
     (λ area none. (stays.places x).line ∙ none) row

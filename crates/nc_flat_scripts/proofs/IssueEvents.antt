@@ -38,30 +38,30 @@ pub record IsHand (o : Op) : Type 0 where
 
 -- of those that are covered and neither lend nor take back a hand alone has a start step
 by_number : (lends : Bool) (o : Op) → is_lending o ≡ false → is_covered_op lends o ≡ true → (has_start o ≡ false) ⊎ IsHand o
-by_number lends (ops.Hand buf to) no covered = inr (record { buf = buf; to = to; op = refl })
-by_number lends (ops.Ld spot off len) no covered = inl refl
-by_number lends (ops.St spot off bytes) no covered = inl refl
-by_number lends (ops.Cbo op buf off) no covered = inl refl
-by_number lends (ops.Fence pred succ) no covered = inl refl
-by_number lends (ops.Take buf) no covered = inl refl
-by_number lends (ops.Claim chan) no covered = inl refl
-by_number lends (ops.Free chan) no covered = inl refl
-by_number lends (ops.Regs chan src dst len cfg) no covered = inl refl
-by_number lends (ops.Run chan) no covered = inl refl
-by_number lends (ops.Poll chan) no covered = inl refl
-by_number lends (ops.Regr chan off width) no covered = inl refl
-by_number lends (ops.Regw chan off width value) no covered = inl refl
-by_number lends (ops.Map label buf off len dir chan) no covered = absurd cc
-by_number lends (ops.Unmap label) no covered = absurd cc
-by_number lends (ops.ToCpu label) no covered = absurd cc
-by_number lends (ops.ToDev label) no covered = absurd cc
-by_number lends (ops.MapSg label entries dir chan) no covered = absurd cc
-by_number lends (ops.UnmapSg label count) no covered = absurd cc
-by_number lends (ops.Calloc label pages chan) no covered = absurd cc
-by_number lends (ops.Cgive label) no covered = absurd cc
-by_number lends (ops.Ctake label) no covered = absurd cc
-by_number lends (ops.Cfree label) no covered = absurd cc
-by_number lends (ops.Copy chan src src_off dst dst_off len cfg) no covered = absurd cc
+by_number lends (ops.Hand buf to) stays covered = inr (record { buf = buf; to = to; op = refl })
+by_number lends (ops.Ld spot off len) stays covered = inl refl
+by_number lends (ops.St spot off bytes) stays covered = inl refl
+by_number lends (ops.Cbo op buf off) stays covered = inl refl
+by_number lends (ops.Fence pred succ) stays covered = inl refl
+by_number lends (ops.Take buf) stays covered = inl refl
+by_number lends (ops.Claim chan) stays covered = inl refl
+by_number lends (ops.Free chan) stays covered = inl refl
+by_number lends (ops.Regs chan src dst len cfg) stays covered = inl refl
+by_number lends (ops.Run chan) stays covered = inl refl
+by_number lends (ops.Poll chan) stays covered = inl refl
+by_number lends (ops.Regr chan off width) stays covered = inl refl
+by_number lends (ops.Regw chan off width value) stays covered = inl refl
+by_number lends (ops.Map label buf off len dir chan) stays covered = absurd cc
+by_number lends (ops.Unmap label) stays covered = absurd cc
+by_number lends (ops.ToCpu label) stays covered = absurd cc
+by_number lends (ops.ToDev label) stays covered = absurd cc
+by_number lends (ops.MapSg label entries dir chan) stays covered = absurd cc
+by_number lends (ops.UnmapSg label count) stays covered = absurd cc
+by_number lends (ops.Calloc label pages chan) stays covered = absurd cc
+by_number lends (ops.Cgive label) stays covered = absurd cc
+by_number lends (ops.Ctake label) stays covered = absurd cc
+by_number lends (ops.Cfree label) stays covered = absurd cc
+by_number lends (ops.Copy chan src src_off dst dst_off len cfg) stays covered = absurd cc
 
 -- its plan is a hand's
 pub record IsAtHand (d : DriverState) (o : Op) : Type 0 where

@@ -130,11 +130,11 @@ apart_at sc f w x flat lt = apart_by sc f w x (owner_of w x) flat lt refl
 
 still_side : (n : MapId) (lot : Lot) → IsStill lot → Lending n ≡ owner_of_side n lot.side → ⊥
 still_side n lot (inl is) e = let no : Lending n ≡ Device n = e ∙ ap (owner_of_side n) is in absurd cc
-still_side n lot (inr is) e = let no : Lending n ≡ Synced n = e ∙ ap (owner_of_side n) is in absurd cc
+still_side n lot (inr is) e = let no : Lending n ≡ Synced n = e ∙ ap (owner_of_side n) is.0 in absurd cc
 
 still_taken : (n : MapId) (lot : Lot) → IsStill lot → Returning n ≡ owner_of_side n lot.side → ⊥
 still_taken n lot (inl is) e = let no : Returning n ≡ Device n = e ∙ ap (owner_of_side n) is in absurd cc
-still_taken n lot (inr is) e = let no : Returning n ≡ Synced n = e ∙ ap (owner_of_side n) is in absurd cc
+still_taken n lot (inr is) e = let no : Returning n ≡ Synced n = e ∙ ap (owner_of_side n) is.0 in absurd cc
 
 -- a hart whose lots are still takes none back
 pub untaken_at : (sc : Scenario) (f : List ℕ) (w : WorldState) (h x : ℕ) (n : MapId) → Flatness sc f w → All IsStill (driver_of w h).lots → x < sc.ram → owner_of w x ≡ Returning n → n.hart.0 ≡ h → ⊥

@@ -22,14 +22,15 @@ use Rattle.nc_rules.specs.World.{WorldState, driver_of}
 use Rattle.nc_calls.specs.MachineLaws.{SameShape}
 use Rattle.nc_calls.specs.PlaceLaws.{NotHeld}
 use Rattle.nc_rows.specs.Ahead.{is_full, coming, sending}
-use Rattle.nc_rows.specs.Laws.{place_of, seen_at}
+use Rattle.nc_rows.specs.Laws.{seen_at}
 use Rattle.nc_rows.specs.Places.{CalmRow}
-use Rattle.nc_rows.specs.Rows.{Loan, Book, PassingRow, Row}
-use Rattle.nc_rows.specs.Parts.{IsDropped, Queued, rest_last, LastIs, Lasts}
+use Rattle.nc_rows.specs.Rows.{Book, PassingRow, Row}
+use Rattle.nc_rows.specs.Parts.{IsDropped, Queued, rest_last, Lasts}
 use Rattle.nc_flatness.specs.Books.{book_of, mapping_in, LiesIn}
 use Rattle.nc_flatness.specs.Flatness.{Drives, IsUnseen, BytesStand, Flatness}
 use Rattle.nc_flatness.specs.Plans.{IsStill}
-use Rattle.nc_flatness.proofs.BookReads.{loan_gone, rest_away, rest_here, buffer_gone, row_alike, queued_to, none_zeroed, pool_unheld, uncached_of}
+use Rattle.nc_flatness.proofs.BookReads.{loan_gone, rest_away, rest_here, buffer_gone, row_alike, seen_alike, queued_to, none_zeroed, pool_unheld, uncached_of}
+use Rattle.nc_flatness.proofs.Lasts.{last_stays}
 use Rattle.nc_flatness.proofs.Outcomes.{gone}
 use Rattle.nc_flat_scripts.proofs.OwnPlaces.{unlent_at, untaken_at}
 use Rattle.nc_flat_scripts.proofs.LastLoads.{last_none}
@@ -166,17 +167,8 @@ unmapped_seen a (Returning n) x none = absurd cc
 unmapped_seen a (Synced n) x none = refl
 unmapped_seen a Pool x none = refl
 
-loans_seen : (a b : Book) (o : Owner) (x : ℕ) → ((n : MapId) → b.loan n ≡ a.loan n) → seen_at b o x ≡ seen_at a o x
-loans_seen a b (Lending n) x same = ap (λ (l : Option Loan). place_of l x) (same n)
-loans_seen a b (Device n) x same = ap (λ (l : Option Loan). place_of l x) (same n)
-loans_seen a b (Returning n) x same = ap (λ (l : Option Loan). place_of l x) (same n)
-loans_seen a b (Synced n) x same = refl
-loans_seen a b (Thread h) x same = refl
-loans_seen a b (Passing h g) x same = refl
-loans_seen a b Pool x same = refl
-
 seen_moves : (sc : Scenario) (w v : WorldState) (x : ℕ) → ((n : MapId) → (book_of v).loan n ≡ (book_of w).loan n) → OwnerMoves sc w v x → seen_at (book_of v) (owner_of v x) x ≡ seen_at (book_of w) (owner_of w x) x
-seen_moves sc w v x same (inl stays) = ap (λ (o : Owner). seen_at (book_of v) o x) stays ∙ loans_seen (book_of w) (book_of v) (owner_of w x) x same
+seen_moves sc w v x same (inl stays) = ap (λ (o : Owner). seen_at (book_of v) o x) stays ∙ seen_alike (book_of v) (book_of w) (owner_of w x) x same
 seen_moves sc w v x same (inr moves) = unmapped_seen (book_of v) (owner_of v x) x moves.behind ∙ sym (unmapped_seen (book_of w) (owner_of w x) x moves.before)
 
 unseen_before : (sc : Scenario) (w v : WorldState) (z : ℕ) → ((n : MapId) → (book_of v).loan n ≡ (book_of w).loan n) → ((x : ℕ) → OwnerMoves sc w v x) → IsUnseen (book_of v) (owner_of v) (slots_of sc) z → IsUnseen (book_of w) (owner_of w) (slots_of sc) z
@@ -184,20 +176,16 @@ unseen_before sc w v z same owners unseen = λ x off at. unseen x off (seen_move
 
 -- ---- last loads
 
-piece_by : (a b : Book) (f : List ℕ) (k : ℕ) (bytes : List ℕ) (o : Option Span) → ((n : MapId) → b.loan n ≡ a.loan n) → LastIs a f k bytes o → LastIs b f k bytes o
-piece_by a b f k bytes None same last = tt
-piece_by a b f k bytes (Some s) same last = record { id = last.id; loan = last.loan; lent = same last.id ∙ last.lent; own = last.own; from = last.from; inside = last.inside; here = last.here; bytes_are = last.bytes_are }
-
 lasts_passed : (sc : Scenario) (f : List ℕ) (w : WorldState) (h : HartNo) (n : MachineState) (went : Went) → Passes sc f w h went → ((k : ℕ) → (hart_of n k).last ≡ (hart_of w.machine k).last) → Lasts (book_of (gone w h n went)) f n
 lasts_passed sc f w h n went p last k =
-    let a = book_of w in
     let b = book_of (gone w h n went) in
-    let loans : (m : MapId) → b.loan m ≡ a.loan m = λ m. loan_gone w h n went m (there sc f w h went p) p.fixed p.lots in
     elim (cases_eq k h.0) [
-      | inl own ↦ last_none b f k (hart_of n k).last (rest_last (b.rest k)) (ap (λ (j : ℕ). rest_last (b.rest j)) own ∙ ap rest_last (rest_here w h n went (there sc f w h went p)) ∙ p.unstored)
+      | inl own ↦
+          last_none b f k (hart_of n k).last (rest_last (b.rest k))
+          (ap (λ (j : ℕ). rest_last (b.rest j)) own ∙ ap rest_last (rest_here w h n went (there sc f w h went p)) ∙ p.unstored)
       | inr ne ↦
-          let bytes : LastIs a f k (hart_of n k).last (rest_last (a.rest k)) = subst (λ (bs : List ℕ). LastIs a f k bs (rest_last (a.rest k))) (sym (last k)) (p.flat.bytes.lasts k) in
-          subst (λ (r : List Step). LastIs b f k (hart_of n k).last (rest_last r)) (sym (rest_away w h n went k ne)) (piece_by a b f k (hart_of n k).last (rest_last (a.rest k)) loans bytes)
+          last_stays sc f f w b n k p.flat p.flat.bytes.flat_size (rest_away w h n went k ne) (last k)
+          (λ m own. loan_gone w h n went m (there sc f w h went p) p.fixed p.lots) (λ x m lent. refl)
     ]
 
 pub stands_passed : (sc : Scenario) (f : List ℕ) (w : WorldState) (h : HartNo) (n : MachineState) (went : Went) → Passes sc f w h went → PassedIn sc f w h n went → BytesStand sc f (gone w h n went)

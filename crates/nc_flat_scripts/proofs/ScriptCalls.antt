@@ -48,7 +48,7 @@ pub record IsIdle (d : DriverState) : Type 0 where
 
 still_lent : (lot : Lot) → IsStill lot → is_wanted lot.side ≡ false
 still_lent lot (inl is) = ap is_wanted is
-still_lent lot (inr is) = ap is_wanted is
+still_lent lot (inr is) = ap is_wanted is.0
 
 pub all_lent : (lots : List Lot) → All IsStill lots → without_wanted lots ≡ lots
 all_lent [] still = refl
