@@ -160,7 +160,7 @@ kept_after : EachGoes → (sc : Scenario) → IsAccepted sc → IsCovered sc →
 kept_after law sc a c es there untouched =
     let w = after (start sc) es in
     let flat = flat_of law sc es a c there untouched in
-    record { at = λ x lt off kept none. kept_by (book_of w) (owner_of w x) (byte (flat_after sc es) x) w.machine x kept none (flat.bytes.rows x lt) }
+    record { at = λ x lt off kept none. kept_by (book_of w) (owner_of w x) (byte (flat_after sc es) x) w.machine x kept none (flat.bytes.rows x lt off) }
 
 -- a front of a run is a run
 pub kept_of : EachGoes → (sc : Scenario) → IsAccepted sc → IsCovered sc → (es : List Event) → AreThere sc es → IsKept sc es

@@ -1,5 +1,5 @@
 -- The bytes of flat memory in a machine that an act of a script leaves.
-use Rattle.std.specs.Prelude.{Option, Some, None, true, false, All, unwrap_or, ◌/◌}
+use Rattle.std.specs.Prelude.{Option, Some, None, true, false, All, unwrap_or, slice_index_or, ◌/◌}
 use Rattle.std.specs.List.{list_any}
 use Rattle.std.proofs.Common.{◌≡◌, ◌≢◌, ℕ, List, [], ◌∷◌, ◌++◌, length, refl, sym, ap, ◌∙◌, inl, inr, subst}
 use Rattle.std.proofs.lemmas.Bool.{cases_eq, false≢true}
@@ -14,31 +14,48 @@ use Rattle.nc_queue.specs.declared.entry.Entry.TheVariants.{Store, Cbo, Reg, Mai
 use Rattle.nc_lines.specs.Lines.{bare}
 use Rattle.nc_model.specs.declared.owners.Owner.{Owner}
 use Rattle.nc_model.specs.declared.owners.Owner.TheVariants.{Thread, Passing, Lending, Device, Returning, Synced, Pool}
+use Rattle.nc_hart.specs.HartState.{HartState}
+use Rattle.nc_scen.specs.Regions.{slots_of}
 use Rattle.nc_scen.specs.declared.scenario.Scenario.{Scenario}
-use Rattle.nc_rules.specs.Machine.{MachineState, queue_of}
+use Rattle.nc_rules.specs.Machine.{MachineState, no_hart, hart_of, queue_of}
 use Rattle.nc_rules.specs.Watched.{owner_of}
 use Rattle.nc_rules.specs.World.{WorldState, driver_of}
 use Rattle.nc_calls.specs.MachineLaws.{SameShape}
-use Rattle.nc_calls.specs.PlaceLaws.{NotHeld, Stays, Loads}
+use Rattle.nc_calls.specs.PlaceLaws.{NotHeld, Stays, Loads, Pushes}
 use Rattle.nc_rows.specs.Ahead.{is_full}
 use Rattle.nc_rows.specs.Rows.{Loan, Book, Row}
 use Rattle.nc_rows.specs.Laws.{seen_at, is_lent_area, area_of}
-use Rattle.nc_rows.specs.Parts.{IsQueued, Queued, Uncached}
+use Rattle.nc_rows.specs.Places.{PoolRow, CalmRow}
+use Rattle.nc_rows.specs.Parts.{IsQueued, Queued, Uncached, rest_last}
 use Rattle.nc_rows.proofs.PlaceFrames.{of_same}
 use Rattle.nc_rows.proofs.Kept.{rows_keep}
 use Rattle.nc_row_issues.specs.Laws.{Enters}
 use Rattle.nc_row_issues.proofs.RowIssues.{rows_issue}
 use Rattle.nc_flatness.specs.Books.{book_of}
-use Rattle.nc_flatness.specs.Flatness.{IsStill, Flatness}
-use Rattle.nc_flat_scripts.specs.Entering.{IsPlain, IsNoMail, LoanIsDirect, OwnerIsDirect}
-use Rattle.nc_flat_scripts.proofs.EntryRows.{Comes, row_entered}
-use Rattle.nc_flat_scripts.proofs.OwnPlaces.{direct_at, unlent_at}
+use Rattle.nc_flatness.specs.Flatness.{Flatness}
+use Rattle.nc_flatness.specs.Plans.{IsStill}
+use Rattle.nc_flat_scripts.specs.Entering.{GivesOwn, IsPlain, IsNoMail, IsUnowned, LoanIsApart, OwnerIsApart}
+use Rattle.nc_flat_scripts.proofs.EntryRows.{Comes, row_entered, unowned_none}
+use Rattle.nc_flat_scripts.proofs.LastLoads.{LastStays, lasts_stay, lasts_keep}
+use Rattle.nc_flat_scripts.proofs.OwnPlaces.{apart_at, unlent_at}
 use Rattle.nc_flat_scripts.proofs.StepFrames.{StandsIn}
 
 -- ---- no act
 
 pub stands_now : (sc : Scenario) (f : List ℕ) (w : WorldState) → Flatness sc f w → StandsIn sc f w w.machine
-stands_now sc f w flat = record { flat_size = flat.bytes.flat_size; rows = flat.bytes.rows; queued = flat.bytes.queued; uncached = flat.bytes.uncached; unfenced = flat.bytes.unfenced }
+stands_now sc f w flat = record {
+  flat_size = flat.bytes.flat_size;
+  rows = flat.bytes.rows;
+  calm = flat.bytes.calm;
+  queued = flat.bytes.queued;
+  uncached = flat.bytes.uncached;
+  unfenced = flat.bytes.unfenced;
+  lasts = flat.bytes.lasts;
+}
+
+-- where memory and every copy have the same byte, that is the place's
+pub calm_at : (m : MachineState) (v x : ℕ) → PoolRow v m x → CalmRow m x
+calm_at m v x row = subst (λ (k : ℕ). PoolRow k m x) (sym row.both.memory) row
 
 -- ---- queues and copies that stay
 
@@ -52,50 +69,62 @@ uncached_by a owner m n shape keep uncached = λ x over.
 
 -- ---- a claim, a take
 
+pub stays_row : (a : Book) (o : Owner) (v : ℕ) (m n : MachineState) (x : ℕ) → SameShape m n → Stays m n → Row a o v m x → Row a o v n x
+stays_row a o v m n x shape stays row =
+    rows_keep.kept a o v m n x (record { size = shape.size; queues = stays.queues }) (of_same m n x (stays.places x)) (of_same m n (seen_at a o x) (stays.places (seen_at a o x)))
+    (λ area none. (stays.places x).line ∙ none) row
+
 pub stays_stand : (sc : Scenario) (f : List ℕ) (w : WorldState) (n : MachineState) → Flatness sc f w → SameShape w.machine n → Stays w.machine n → StandsIn sc f w n
 stays_stand sc f w n flat shape stays =
     let m = w.machine in
     let a = book_of w in
     record {
       flat_size = flat.bytes.flat_size;
-      rows = λ x lt.
-          let o = owner_of w x in
-          rows_keep.kept a o (byte f x) m n x (record { size = shape.size; queues = stays.queues }) (of_same m n x (stays.places x)) (of_same m n (seen_at a o x) (stays.places (seen_at a o x)))
-          (λ area none. (stays.places x).line ∙ none) (flat.bytes.rows x lt);
+      rows = λ x lt off. stays_row a (owner_of w x) (byte f x) m n x shape stays (flat.bytes.rows x lt off);
+      calm = λ z on unseen. calm_at n (byte m.cache.ram z) z (stays_row a Pool (byte m.cache.ram z) m n z shape stays (flat.bytes.calm z on unseen));
       queued = queued_same a (owner_of w) m n shape stays.queues flat.bytes.queued;
       uncached = uncached_by a (owner_of w) m n shape (λ x over none. (stays.places x).line ∙ none) flat.bytes.uncached;
       unfenced = λ g. ap (list_any is_full) (stays.queues g) ∙ flat.bytes.unfenced g;
+      lasts = lasts_keep sc f w n flat (λ k. inr (ap (λ (hs : List HartState). (slice_index_or hs k no_hart).last) stays.harts));
     }
 
 -- ---- a load
 
-loan_area : (o : Option Loan) (owner : ℕ → Owner) (s x : ℕ) → LoanIsDirect o owner s x → area_of o ≡ false
-loan_area None owner s x direct = refl
-loan_area (Some l) owner s x direct = direct.area
+loan_area : (o : Option Loan) (owner : ℕ → Owner) (s x : ℕ) → LoanIsApart o owner s x → area_of o ≡ false
+loan_area None owner s x apart = refl
+loan_area (Some l) owner s x apart = apart.area
 
-no_area : (a : Book) (o : Owner) (owner : ℕ → Owner) (s x : ℕ) → OwnerIsDirect a owner s x o → is_lent_area a o ≡ false
-no_area a (Lending n) owner s x direct = loan_area (a.loan n) owner s x direct
-no_area a (Thread h) owner s x direct = refl
-no_area a (Passing h g) owner s x direct = refl
-no_area a (Device n) owner s x direct = refl
-no_area a (Returning n) owner s x direct = refl
-no_area a (Synced n) owner s x direct = refl
-no_area a Pool owner s x direct = refl
+no_area : (a : Book) (o : Owner) (owner : ℕ → Owner) (s x : ℕ) → OwnerIsApart a owner s x o → is_lent_area a o ≡ false
+no_area a (Lending n) owner s x apart = loan_area (a.loan n) owner s x apart
+no_area a (Thread h) owner s x apart = refl
+no_area a (Passing h g) owner s x apart = refl
+no_area a (Device n) owner s x apart = refl
+no_area a (Returning n) owner s x apart = refl
+no_area a (Synced n) owner s x apart = refl
+no_area a Pool owner s x apart = refl
 
--- one that brings no block of the coherent pool
-pub load_stands : (sc : Scenario) (f : List ℕ) (w : WorldState) (n : MachineState) (h : ℕ) (span : Span) (kind : MemType) → Flatness sc f w → SameShape w.machine n → Loads w.machine n h span kind
+load_lasts : (w : WorldState) (n : MachineState) (h : ℕ) (span : Span) (kind : MemType) (k : ℕ) → rest_last ((book_of w).rest h) ≡ None → Loads w.machine n h span kind → LastStays w n k
+load_lasts w n h span kind k none loads = elim (cases_eq k h) [
+  | inl own ↦ inl (ap (λ (j : ℕ). rest_last ((book_of w).rest j)) own ∙ none)
+  | inr ne ↦ inr (ap (λ (s : HartState). s.last) (loads.others k ne))
+]
+
+-- one that brings no block of the coherent pool, of a hart that copies nothing
+pub load_stands : (sc : Scenario) (f : List ℕ) (w : WorldState) (n : MachineState) (h : ℕ) (span : Span) (kind : MemType) → Flatness sc f w → rest_last ((book_of w).rest h) ≡ None → SameShape w.machine n → Loads w.machine n h span kind
     → ((x : ℕ) → covers w.machine.pool x ≡ true → x / w.machine.size ≢ block_at span.at w.machine.size) → StandsIn sc f w n
-load_stands sc f w n h span kind flat shape loads beside =
+load_stands sc f w n h span kind flat none shape loads beside =
     let m = w.machine in
     let a = book_of w in
     record {
       flat_size = flat.bytes.flat_size;
-      rows = λ x lt.
+      rows = λ x lt off.
           let o = owner_of w x in
-          rows_issue.loaded a o (byte f x) m n h span kind x shape loads (λ area. absurd (false≢true (sym (no_area a o (owner_of w) m.size x (direct_at sc f w x flat lt)) ∙ area))) (flat.bytes.rows x lt);
+          rows_issue.loaded a o (byte f x) m n h span kind x shape loads (λ area. absurd (false≢true (sym (no_area a o (owner_of w) m.size x (apart_at sc f w x flat lt)) ∙ area))) (flat.bytes.rows x lt off);
+      calm = λ z on unseen. calm_at n (byte m.cache.ram z) z (rows_issue.loaded a Pool (byte m.cache.ram z) m n h span kind z shape loads (λ area. absurd (false≢true area)) (flat.bytes.calm z on unseen));
       queued = queued_same a (owner_of w) m n shape loads.queues flat.bytes.queued;
       uncached = uncached_by a (owner_of w) m n shape (λ x over none. (loads.apart x (λ pma. beside x over)).line ∙ none) flat.bytes.uncached;
       unfenced = λ g. ap (list_any is_full) (loads.queues g) ∙ flat.bytes.unfenced g;
+      lasts = lasts_keep sc f w n flat (λ k. load_lasts w n h span kind k none loads);
     }
 
 -- ---- an entry
@@ -120,6 +149,18 @@ queued_more a owner m k h e by is queued = λ g. rw (by.shape.pool, by.shape.siz
   | inr ne ↦ subst (λ (q : List Entry). All (IsQueued a owner m.pool m.size g) q) (sym (by.pushes.queues.others g ne)) (queued g)
 ])
 
+pub entry_lasts : (w : WorldState) (n : MachineState) (h : ℕ) (e : Entry) (k : ℕ) → Pushes w.machine n h e → (hart_of n k).last ≡ (hart_of w.machine k).last
+entry_lasts w n h e k pushes = elim (cases_eq k h) [
+  | inl own ↦ ap (λ (j : ℕ). (hart_of n j).last) own ∙ pushes.last ∙ ap (λ (j : ℕ). (hart_of w.machine j).last) (sym own)
+  | inr ne ↦ ap (λ (s : HartState). s.last) (pushes.others k ne)
+]
+
+-- a byte of a slot is given by none
+pub entry_calm : (sc : Scenario) (f : List ℕ) (w : WorldState) (k : MachineState) (h : ℕ) (e : Entry) (z : ℕ) → Flatness sc f w → Enters w.machine k h e → GivesOwn (book_of w) (owner_of w) w.machine.size h e → covers (slots_of sc) z ≡ true → CalmRow w.machine z → CalmRow k z
+entry_calm sc f w k h e z flat by own on calm =
+    let v = byte w.machine.cache.ram z in
+    calm_at k v z (rows_issue.passed (book_of w) Pool v w.machine k h e z by (unowned_none (book_of w) (owner_of w) w.machine.size h e z own (subst IsUnowned (sym (flat.bytes.slotted z on)) tt)) calm)
+
 -- flat memory g has the bytes that the entry gives
 pub entry_stands : (sc : Scenario) (f g : List ℕ) (w : WorldState) (k : MachineState) (h : ℕ) (e : Entry) → Flatness sc f w → Enters w.machine k h e → Comes (book_of w) (owner_of w) w.machine h e → IsNoMail e → All IsStill (driver_of w h).lots
     → IsQueued (book_of w) (owner_of w) w.machine.pool w.machine.size h e → length g ≡ length f → ((x : ℕ) → byte g x ≡ unwrap_or (entry_gives w.machine.size e x) (byte f x)) → StandsIn sc g w k
@@ -128,10 +169,13 @@ entry_stands sc f g w k h e flat by comes quiet still is long bytes =
     let a = book_of w in
     record {
       flat_size = long ∙ flat.bytes.flat_size;
-      rows = λ x lt.
+      rows = λ x lt off.
           subst (λ (v : ℕ). Row a (owner_of w x) v k x) (sym (bytes x))
-          (row_entered a (owner_of w) (byte f x) m k h e x by comes (direct_at sc f w x flat lt) (unlent_at sc f w h x flat still lt) (λ j g passing own. quiet (a.buffer x)) (flat.bytes.rows x lt));
+          (row_entered a (owner_of w) (byte f x) m k h e x by comes (apart_at sc f w x flat lt) (unlent_at sc f w h x flat still lt) (λ j g passing own. quiet (a.buffer x)) (flat.bytes.rows x lt off));
+      calm = λ z on unseen. entry_calm sc f w k h e z flat by comes.own on (flat.bytes.calm z on unseen);
       queued = queued_more a (owner_of w) m k h e by is flat.bytes.queued;
       uncached = uncached_by a (owner_of w) m k by.shape (λ x over none. (by.pushes.places x).line ∙ none) flat.bytes.uncached;
       unfenced = λ g. by.pushes.queues.none is_full g (plain_unfenced e comes.plain) (flat.bytes.unfenced g);
+      lasts = lasts_stay sc f g w k flat long
+          (λ x un. bytes x ∙ ap (λ (o : Option ℕ). unwrap_or o (byte f x)) (unowned_none a (owner_of w) m.size h e x comes.own un)) (λ j. inr (entry_lasts w k h e j by.pushes));
     }

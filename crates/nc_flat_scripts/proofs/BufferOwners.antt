@@ -14,7 +14,7 @@ use Rattle.nc_model.specs.declared.owners.Owner.{Owner}
 use Rattle.nc_model.specs.declared.owners.Owner.TheVariants.{Thread, Passing, Lending, Device, Returning, Synced, Pool}
 use Rattle.nc_own.specs.Books.{owner_in, transferred}
 use Rattle.nc_own.proofs.Follows.{length-transferred, owner_in-transferred}
-use Rattle.nc_scen.specs.Regions.{pool_of}
+use Rattle.nc_scen.specs.Regions.{pool_of, slots_of}
 use Rattle.nc_scen.specs.declared.scenario.Scenario.{Scenario}
 use Rattle.nc_rules.specs.Machine.{queue_of}
 use Rattle.nc_rules.specs.Refusals.{buffer_of, owned, owned_but}
@@ -96,6 +96,13 @@ off_pool sc f w h b x flat lt over =
       | inl on ↦ absurd (holds.regions.buffers_off_pool b x over (subst (λ (s : Span). covers s x ≡ true) (sym flat.world.of_scenario.pool ∙ holds.setting.pool) on))
       | inr off ↦ off
     ]
+
+-- a place that is somebody's is of no slot
+pub off_slots : (sc : Scenario) (f : List ℕ) (w : WorldState) (x : ℕ) → Flatness sc f w → (owner_of w x ≡ Pool → ⊥) → covers (slots_of sc) x ≡ false
+off_slots sc f w x flat some = elim (cases_Bool (covers (slots_of sc) x)) [
+  | inl on ↦ absurd (some (flat.bytes.slotted x on))
+  | inr off ↦ off
+]
 
 -- ---- its messages
 

@@ -24,7 +24,7 @@ use Rattle.nc_rows.specs.Ahead.{is_full}
 use Rattle.nc_rows.specs.Rows.{Loan, Book, device_place, ahead_of, Either, ByDir, Row}
 use Rattle.nc_row_issues.specs.Laws.{Enters, NoByte, NoBlock, Passes, PassesTo, PassesLent, PassesLoan, PassesBack, IsOwn}
 use Rattle.nc_row_issues.proofs.RowIssues.{rows_issue}
-use Rattle.nc_flat_scripts.specs.Entering.{GivesOwn, IsPlain, IsNotIts, LoanIsDirect, OwnerIsDirect, IsUnlent}
+use Rattle.nc_flat_scripts.specs.Entering.{GivesOwn, IsPlain, IsNotIts, IsUnowned, IsApart, LoanIsApart, OwnerIsApart, IsUnlent}
 
 -- ---- a block of which an entry gives no byte
 
@@ -78,61 +78,63 @@ pub record Comes (a : Book) (owner : ℕ → Owner) (m : MachineState) (h : ℕ)
   pub plain : IsPlain e
   pub own : GivesOwn a owner m.size h e
 
--- a mapping's whole block
-in_mapping : (a : Book) (owner : ℕ → Owner) (m : MachineState) (h : ℕ) (e : Entry) (x : ℕ) (o : Owner) → Comes a owner m h e → owner x ≡ o → (IsOwn a h o → ⊥) → ((y : ℕ) → y / m.size ≡ x / m.size → owner y ≡ owner x) → NoBlock m e x
-in_mapping a owner m h e x o c is other same =
-    none_block {s = m.size} e (x / m.size) c.size c.fits
-    (λ y here. elim (c.own y) [ inl none ↦ none | inr own ↦ absurd (other (subst (IsOwn a h) (same y here ∙ is) own)) ])
+-- a place of no hart
+unowned_own : (a : Book) (h : ℕ) (o : Owner) → IsUnowned o → IsOwn a h o → ⊥
+unowned_own a h (Thread j) un own = absurd un
+unowned_own a h (Synced n) un own = absurd un
+unowned_own a h (Passing j g) un own = own
+unowned_own a h (Lending n) un own = own
+unowned_own a h (Device n) un own = own
+unowned_own a h (Returning n) un own = own
+unowned_own a h Pool un own = own
 
-at_place : (m : MachineState) (e : Entry) (l : Loan) (x : ℕ) → device_place l x ≡ x → NoByte m e x → NoByte m e (device_place l x)
-at_place m e l x same none = subst (λ (y : ℕ). NoByte m e y) (sym same) none
+pub unowned_none : (a : Book) (owner : ℕ → Owner) (s h : ℕ) (e : Entry) (y : ℕ) → GivesOwn a owner s h e → IsUnowned (owner y) → entry_gives s e y ≡ None
+unowned_none a owner s h e y gives un = elim (gives y) [ inl none ↦ none | inr own ↦ absurd (unowned_own a h (owner y) un own) ]
 
-at_block : (m : MachineState) (e : Entry) (l : Loan) (x : ℕ) → device_place l x ≡ x → NoBlock m e x → NoBlock m e (device_place l x)
-at_block m e l x same none = subst (λ (y : ℕ). NoBlock m e y) (sym same) none
+-- the block that a mapping's channel may write
+at_block : (a : Book) (owner : ℕ → Owner) (m : MachineState) (h : ℕ) (e : Entry) (l : Loan) (x : ℕ) → Comes a owner m h e → IsApart l owner m.size x → comes_back l.grant.dir ≡ true → NoBlock m e (device_place l x)
+at_block a owner m h e l x c apart back = none_block {s = m.size} e (device_place l x / m.size) c.size c.fits (λ y here. unowned_none a owner m.size h e y c.own (apart.block back y here))
 
-lent_passes : (a : Book) (owner : ℕ → Owner) (m : MachineState) (h : ℕ) (e : Entry) (x : ℕ) (n : MapId) (o : Option Loan) → Comes a owner m h e → owner x ≡ Lending n → (n.hart.0 ≡ h → ⊥) → LoanIsDirect o owner m.size x → NoByte m e x
-    → PassesLent a n o m h e x
-lent_passes a owner m h e x n None c is ne direct none = tt
-lent_passes a owner m h e x n (Some l) c is ne direct none =
-    let y = device_place l x in
-    let to : PassesTo n m h e x y = record { buffer = none; device = at_place m e l x direct.place none; token = λ same. c.plain.token n; back = λ same. absurd (ne same) } in
-    by_either l.area _ _ direct.area (by_dir l.grant.dir _ _ to (λ back. record { to = to; block = at_block m e l x direct.place (in_mapping a owner m h e x (Lending n) c is (λ own. own) (direct.block back)) }))
+at_place : (a : Book) (owner : ℕ → Owner) (m : MachineState) (h : ℕ) (e : Entry) (l : Loan) (x : ℕ) → Comes a owner m h e → IsApart l owner m.size x → NoByte m e (device_place l x)
+at_place a owner m h e l x c apart = unowned_none a owner m.size h e (device_place l x) c.own apart.place
 
-device_passes : (a : Book) (owner : ℕ → Owner) (m : MachineState) (h : ℕ) (e : Entry) (x : ℕ) (n : MapId) (o : Option Loan) → Comes a owner m h e → owner x ≡ Device n → LoanIsDirect o owner m.size x → NoByte m e x → PassesLoan n o m h e x
-device_passes a owner m h e x n None c is direct none = tt
-device_passes a owner m h e x n (Some l) c is direct none =
-    by_either l.area _ _ direct.area
-    (by_dir l.grant.dir _ _ (record { device = at_place m e l x direct.place none; buffer = none })
-    (λ back. record { device = at_block m e l x direct.place (in_mapping a owner m h e x (Device n) c is (λ own. own) (direct.block back)); buffer = inr none }))
+lent_passes : (a : Book) (owner : ℕ → Owner) (m : MachineState) (h : ℕ) (e : Entry) (x : ℕ) (n : MapId) (o : Option Loan) → Comes a owner m h e → (n.hart.0 ≡ h → ⊥) → LoanIsApart o owner m.size x → NoByte m e x → PassesLent a n o m h e x
+lent_passes a owner m h e x n None c ne apart none = tt
+lent_passes a owner m h e x n (Some l) c ne apart none =
+    let to : PassesTo n m h e x (device_place l x) = record { buffer = none; device = at_place a owner m h e l x c apart; token = λ same. c.plain.token n; back = λ same. absurd (ne same) } in
+    by_either l.area _ _ apart.area (by_dir l.grant.dir _ _ to (λ back. record { to = to; block = at_block a owner m h e l x c apart back }))
 
-back_passes : (a : Book) (owner : ℕ → Owner) (m : MachineState) (h : ℕ) (e : Entry) (x : ℕ) (n : MapId) (o : Option Loan) → Comes a owner m h e → owner x ≡ Returning n → LoanIsDirect o owner m.size x → NoByte m e x → PassesBack a n o m h e x
-back_passes a owner m h e x n None c is direct none = tt
-back_passes a owner m h e x n (Some l) c is direct none =
-    let place = at_place m e l x direct.place none in
-    by_either l.area _ _ direct.area
+device_passes : (a : Book) (owner : ℕ → Owner) (m : MachineState) (h : ℕ) (e : Entry) (x : ℕ) (n : MapId) (o : Option Loan) → Comes a owner m h e → LoanIsApart o owner m.size x → NoByte m e x → PassesLoan n o m h e x
+device_passes a owner m h e x n None c apart none = tt
+device_passes a owner m h e x n (Some l) c apart none =
+    by_either l.area _ _ apart.area
+    (by_dir l.grant.dir _ _ (record { device = at_place a owner m h e l x c apart; buffer = none }) (λ back. record { device = at_block a owner m h e l x c apart back; buffer = inr none }))
+
+back_passes : (a : Book) (owner : ℕ → Owner) (m : MachineState) (h : ℕ) (e : Entry) (x : ℕ) (n : MapId) (o : Option Loan) → Comes a owner m h e → LoanIsApart o owner m.size x → NoByte m e x → PassesBack a n o m h e x
+back_passes a owner m h e x n None c apart none = tt
+back_passes a owner m h e x n (Some l) c apart none =
+    let place = at_place a owner m h e l x c apart in
+    by_either l.area _ _ apart.area
     (by_dir l.grant.dir _ _ (record { device = place; buffer = none })
     (λ back. each_either (list_any is_full (ahead_of a n l)) _ _
-    (record {
-      opened = record { device = at_block m e l x direct.place (in_mapping a owner m h e x (Returning n) c is (λ own. own) (direct.block back)); buffer = inr none };
-      fence = λ same. c.plain.fence;
-    })
+    (record { opened = record { device = at_block a owner m h e l x c apart back; buffer = inr none }; fence = λ same. c.plain.fence })
     (record { device = place; buffer = inr none })))
 
-pub passes : (a : Book) (owner : ℕ → Owner) (m : MachineState) (h : ℕ) (e : Entry) (x : ℕ) (o : Owner) → Comes a owner m h e → owner x ≡ o → OwnerIsDirect a owner m.size x o → IsUnlent owner h x → IsNotIts a owner h e x → NoByte m e x → Passes a o m h e x
-passes a owner m h e x (Thread j) c is direct unlent quiet none = none
-passes a owner m h e x (Passing j g) c is direct unlent quiet none = record { place = none; message = λ same. quiet j g is same }
-passes a owner m h e x (Lending n) c is direct unlent quiet none = lent_passes a owner m h e x n (a.loan n) c is (unlent n is) direct none
-passes a owner m h e x (Device n) c is direct unlent quiet none = device_passes a owner m h e x n (a.loan n) c is direct none
-passes a owner m h e x (Returning n) c is direct unlent quiet none = back_passes a owner m h e x n (a.loan n) c is direct none
-passes a owner m h e x (Synced n) c is direct unlent quiet none = none
-passes a owner m h e x Pool c is direct unlent quiet none = none
+pub passes : (a : Book) (owner : ℕ → Owner) (m : MachineState) (h : ℕ) (e : Entry) (x : ℕ) (o : Owner) → Comes a owner m h e → owner x ≡ o → OwnerIsApart a owner m.size x o → IsUnlent owner h x → IsNotIts a owner h e x → NoByte m e x → Passes a o m h e x
+passes a owner m h e x (Thread j) c is apart unlent quiet none = none
+passes a owner m h e x (Passing j g) c is apart unlent quiet none = record { place = none; message = λ same. quiet j g is same }
+passes a owner m h e x (Lending n) c is apart unlent quiet none = lent_passes a owner m h e x n (a.loan n) c (unlent n is) apart none
+passes a owner m h e x (Device n) c is apart unlent quiet none = device_passes a owner m h e x n (a.loan n) c apart none
+passes a owner m h e x (Returning n) c is apart unlent quiet none = back_passes a owner m h e x n (a.loan n) c apart none
+passes a owner m h e x (Synced n) c is apart unlent quiet none = none
+passes a owner m h e x Pool c is apart unlent quiet none = none
 
 -- the row behind it: with the entry's byte where it gives one
-pub row_entered : (a : Book) (owner : ℕ → Owner) (v : ℕ) (m k : MachineState) (h : ℕ) (e : Entry) (x : ℕ) → Enters m k h e → Comes a owner m h e → OwnerIsDirect a owner m.size x (owner x) → IsUnlent owner h x → IsNotIts a owner h e x → Row a (owner x) v m x
+pub row_entered : (a : Book) (owner : ℕ → Owner) (v : ℕ) (m k : MachineState) (h : ℕ) (e : Entry) (x : ℕ) → Enters m k h e → Comes a owner m h e → OwnerIsApart a owner m.size x (owner x) → IsUnlent owner h x → IsNotIts a owner h e x → Row a (owner x) v m x
     → Row a (owner x) (unwrap_or (entry_gives m.size e x) v) k x
-row_entered a owner v m k h e x by c direct unlent quiet row = elim (c.own x) [
+row_entered a owner v m k h e x by c apart unlent quiet row = elim (c.own x) [
   | inl none ↦
       subst (λ (o : Option ℕ). Row a (owner x) (unwrap_or o v) k x) (sym none)
-      (rows_issue.passed a (owner x) v m k h e x by (passes a owner m h e x (owner x) c refl direct unlent quiet none) row)
+      (rows_issue.passed a (owner x) v m k h e x by (passes a owner m h e x (owner x) c refl apart unlent quiet none) row)
   | inr own ↦ rows_issue.stored a (owner x) v m k h e x by own row
 ]

@@ -27,7 +27,8 @@ use Rattle.nc_rules.specs.Operations.{meaning, begin, opening, plan_of}
 use Rattle.nc_rules.specs.Driver.{DriverState, Went, in_hand, stays, searches, opened, placed, with_lots, begun, started, started_of, started_op, worked, done, done_of, done_in}
 use Rattle.nc_holds.specs.Rests.{RestAt}
 use Rattle.nc_scripts.specs.Drivers.{IsSettled}
-use Rattle.nc_flatness.specs.Flatness.{IsStill, mail_step, PlanOf, StandsAt, Drives}
+use Rattle.nc_flatness.specs.Flatness.{mail_step, PlanOf, StandsAt, Drives}
+use Rattle.nc_flatness.specs.Plans.{IsStill}
 use Rattle.nc_flat_scripts.proofs.ScriptCalls.{GoesIdle, gives_up}
 
 -- a driver that passes a buffer on, with this left of its plan
@@ -44,7 +45,7 @@ pub record GoesHanding (d : DriverState) (w : Went) (buf : ℕ) (to : HartNo) (l
 
 pub hands_drives : (d e : DriverState) (buf : ℕ) (to : HartNo) (left : List Step) → Drives d → All IsStill d.lots → Hands d e buf to left → (left ≡ hand_steps buf to) ⊎ (left ≡ mail_step buf to ∷ []) → Drives e
 hands_drives d e buf to left is still hands which = record {
-  direct = rw (hands.fixed, hands.lots) is.direct;
+  lots = rw (hands.fixed, hands.lots) is.lots;
   stands = subst (λ (p : Phase). StandsAt e p) (sym hands.phase)
       (subst (λ (o : Option Op). PlanOf e o) (sym hands.hand)
       (record { left = elim which [ inl all ↦ inl (hands.rest ∙ all) | inr one ↦ inr (hands.rest ∙ one) ]; still = rw hands.lots still }));

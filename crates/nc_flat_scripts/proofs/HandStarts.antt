@@ -8,10 +8,11 @@ use Rattle.nc_num.specs.declared.names.HartNo.{HartNo}
 use Rattle.nc_num.specs.declared.places.Span.{Span}
 use Rattle.nc_model.proofs.Faults.{covers-high}
 use Rattle.nc_model.specs.declared.owners.Owner.{Owner}
-use Rattle.nc_model.specs.declared.owners.Owner.TheVariants.{Thread, Passing}
+use Rattle.nc_model.specs.declared.owners.Owner.TheVariants.{Thread, Passing, Pool}
 use Rattle.nc_own.specs.Books.{owner_in, transferred}
 use Rattle.nc_ops.specs.declared.ops.Op.TheVariants as ops
 use Rattle.nc_scen.specs.declared.events.Event.TheVariants as events
+use Rattle.nc_scen.specs.Regions.{slots_of}
 use Rattle.nc_scen.specs.declared.scenario.Scenario.{Scenario}
 use Rattle.nc_rules.specs.declared.steps.Next.TheVariants as nexts
 use Rattle.nc_rules.specs.declared.steps.Phase.{Phase}
@@ -28,6 +29,7 @@ use Rattle.nc_scripts.specs.Drivers.{IsSettled}
 use Rattle.nc_scripts.proofs.EveryDriver.{in_hand_is}
 use Rattle.nc_rows.specs.Ahead.{coming, sending}
 use Rattle.nc_rows.specs.Places.{ThreadRow}
+use Rattle.nc_rows.specs.Parts.{rest_last}
 use Rattle.nc_rows.specs.Rows.{gives_here, PassingRow, Row}
 use Rattle.nc_row_plans.proofs.PlanBegins.{rows_begin}
 use Rattle.nc_flatness.specs.Books.{book_of, mapping_in}
@@ -37,7 +39,7 @@ use Rattle.nc_flatness.proofs.BookReads.{buffer_gone, rest_here}
 use Rattle.nc_flatness.proofs.Outcomes.{gone, goes_go, goes_silent}
 use Rattle.nc_flatness.proofs.Owned.{me_is}
 use Rattle.nc_flat_scripts.proofs.ActRows.{stands_now}
-use Rattle.nc_flat_scripts.proofs.BufferOwners.{moved_in, moved_out, owned_is, range_of, ranges_alike, number_here, number_away, range_in, off_pool, unsent}
+use Rattle.nc_flat_scripts.proofs.BufferOwners.{moved_in, moved_out, owned_is, range_of, ranges_alike, number_here, number_away, range_in, off_pool, off_slots, unsent}
 use Rattle.nc_flat_scripts.proofs.HandCalls.{hands_drives, Starts, Refuses, Begins, hand_starts}
 use Rattle.nc_flat_scripts.proofs.MailFacts.{nothing_left, nothing_marked, sends_other, sends_none, bare_comes, marker_comes, mail_comes}
 use Rattle.nc_flat_scripts.proofs.PassingFrames.{Passes, there, row_over, PassedIn, stands_passed}
@@ -65,15 +67,15 @@ still_there : (sc : Scenario) (f : List ℕ) (w : WorldState) (h : HartNo) (went
 still_there sc f w h went buf x to b off = ap (λ (os : List Owner). owner_in os x) b.owners ∙ moved_out w.owners (range_of w h.0 buf) (Passing h to) x off
 
 -- a place of the buffer
-begun_row : (sc : Scenario) (f : List ℕ) (w : WorldState) (h : HartNo) (went : Went) (buf x : ℕ) (to : HartNo) → IsBegun sc f w h went buf to → x < sc.ram → covers (range_of w h.0 buf) x ≡ true → Row (book_of (gone w h w.machine went)) (Passing h to) (byte f x) w.machine x
-begun_row sc f w h went buf x to b lt over =
+begun_row : (sc : Scenario) (f : List ℕ) (w : WorldState) (h : HartNo) (went : Went) (buf x : ℕ) (to : HartNo) → IsBegun sc f w h went buf to → x < sc.ram → covers (slots_of sc) x ≡ false → covers (range_of w h.0 buf) x ≡ true → Row (book_of (gone w h w.machine went)) (Passing h to) (byte f x) w.machine x
+begun_row sc f w h went buf x to b lt beside over =
     let p = b.passes in
     let flat = p.flat in
     let m = w.machine in
     let v = byte f x in
     let k = book_of (gone w h m went) in
     let own : owner_of w x ≡ Thread h = owned_is h w.owners (range_of w h.0 buf) x b.own over in
-    let row : ThreadRow h.0 v m x = subst (λ (o : Owner). Row (book_of w) o v m x) own (flat.bytes.rows x lt) in
+    let row : ThreadRow h.0 v m x = subst (λ (o : Owner). Row (book_of w) o v m x) own (flat.bytes.rows x lt beside) in
     let first : covers (range_of w 0 buf) x ≡ true = subst (λ (s : Span). covers s x ≡ true) (sym (ranges_alike sc f w h.0 buf flat b.there)) over in
     let boxes : buf < length m.boxes = omega (arith, b.few, (flat.world.holds.each h.0 b.there).setting.boxes) in
     let none = unsent w buf h.0 x h (flat.world.holds.messages buf boxes) first own in
@@ -82,13 +84,13 @@ begun_row sc f w h went buf x to b lt over =
     let passing : PassingRow h.0 v buf (hand_steps buf to) m x = rows_begin.pass m h.0 v buf x (hand_steps buf to) none (bare_comes buf to (gives_here m x) refl refl) (marker_comes buf to) (mail_comes buf to) row in
     subst (λ (c : ℕ). PassingRow h.0 v c (k.rest h.0) m x) (sym buffer) (subst (λ (r : List Step). PassingRow h.0 v buf r m x) (sym rest) passing)
 
-other_row : (sc : Scenario) (f : List ℕ) (w : WorldState) (h : HartNo) (went : Went) (buf x : ℕ) (to : HartNo) → IsBegun sc f w h went buf to → x < sc.ram → covers (range_of w h.0 buf) x ≡ false → Row (book_of (gone w h w.machine went)) (owner_of w x) (byte f x) w.machine x
-other_row sc f w h went buf x to b lt off =
+other_row : (sc : Scenario) (f : List ℕ) (w : WorldState) (h : HartNo) (went : Went) (buf x : ℕ) (to : HartNo) → IsBegun sc f w h went buf to → x < sc.ram → covers (slots_of sc) x ≡ false → covers (range_of w h.0 buf) x ≡ false → Row (book_of (gone w h w.machine went)) (owner_of w x) (byte f x) w.machine x
+other_row sc f w h went buf x to b lt beside off =
     let p = b.passes in
     let c = (book_of w).buffer x in
     let ne : c ≢ buf = number_away sc f w h.0 buf x p.flat b.there b.few off in
     row_over sc f w h w.machine w.machine went (owner_of w x) (byte f x) x p lt refl
-    (λ j g is own. ap (sending c) b.rest ∙ sends_other c buf to ne ∙ sym (sends_none c) ∙ ap (sending c) (sym b.before)) (p.flat.bytes.rows x lt)
+    (λ j g is own. ap (sending c) b.rest ∙ sends_other c buf to ne ∙ sym (sends_none c) ∙ ap (sending c) (sym b.before)) (p.flat.bytes.rows x lt beside)
 
 begun_stands : (sc : Scenario) (f : List ℕ) (w : WorldState) (h : HartNo) (went : Went) (buf : ℕ) (to : HartNo) → IsBegun sc f w h went buf to → PassedIn sc f w h w.machine went
 begun_stands sc f w h went buf to b =
@@ -100,13 +102,22 @@ begun_stands sc f w h went buf to b =
       queued = flat.bytes.queued;
       unfenced = flat.bytes.unfenced;
       owners = λ x. elim (cases_Bool (covers (range_of w h.0 buf) x)) [
-        | inl over ↦ inr (ap mapping_in (owned_is h w.owners (range_of w h.0 buf) x b.own over), ap mapping_in (now_passing sc f w h went buf x to b over), off_pool sc f w h.0 buf x flat b.there over)
+        | inl over ↦
+            let own : owner_of w x ≡ Thread h = owned_is h w.owners (range_of w h.0 buf) x b.own over in
+            inr (record {
+              before = ap mapping_in own;
+              behind = ap mapping_in (now_passing sc f w h went buf x to b over);
+              unpooled = off_pool sc f w h.0 buf x flat b.there over;
+              unslotted = off_slots sc f w x flat (λ pool. let no : Thread h ≡ Pool = sym own ∙ pool in absurd cc);
+            })
         | inr off ↦ inl (still_there sc f w h went buf x to b off)
       ];
-      rows = λ x lt. elim (cases_Bool (covers (range_of w h.0 buf) x)) [
-        | inl over ↦ subst (λ (o : Owner). Row (book_of v) o (byte f x) w.machine x) (sym (now_passing sc f w h went buf x to b over)) (begun_row sc f w h went buf x to b lt over)
-        | inr off ↦ subst (λ (o : Owner). Row (book_of v) o (byte f x) w.machine x) (sym (still_there sc f w h went buf x to b off)) (other_row sc f w h went buf x to b lt off)
+      rows = λ x lt beside. elim (cases_Bool (covers (range_of w h.0 buf) x)) [
+        | inl over ↦ subst (λ (o : Owner). Row (book_of v) o (byte f x) w.machine x) (sym (now_passing sc f w h went buf x to b over)) (begun_row sc f w h went buf x to b lt beside over)
+        | inr off ↦ subst (λ (o : Owner). Row (book_of v) o (byte f x) w.machine x) (sym (still_there sc f w h went buf x to b off)) (other_row sc f w h went buf x to b lt beside off)
       ];
+      calm = λ z on calm. calm;
+      lasts = λ k. refl;
     }
 
 -- ---- the event
@@ -131,6 +142,7 @@ start_by sc f w h buf to went here hand idle (Begins own goes) =
         lots = goes.driver.lots;
         was = λ n lot. ap (coming n lot) idle.rest ∙ nothing_left n lot;
         left = λ n lot. ap (coming n lot) goes.driver.rest ∙ nothing_marked buf to n lot;
+        unstored = ap rest_last goes.driver.rest;
         drives = hands_drives d went.driver buf to (hand_steps buf to) (flat.bytes.drives h.0 here.lt) idle.still goes.driver (inl refl);
       };
       there = here.there;

@@ -1,6 +1,7 @@
 -- Each step of a driver whose operation neither lends nor takes back: a touch comes first, or flat memory stands behind it.
 use Rattle.std.specs.Prelude.{Option, Some, None, Result, Ok, Err, Bool, true, false, if◌then◌else◌}
 use Rattle.std.proofs.Common.{◌≡◌, ◌⊎◌, ℕ, List, [], refl, sym, ap, ◌∙◌, inl, inr, subst}
+use Rattle.std.proofs.lemmas.Bool.{false≢true}
 use Rattle.nc_num.specs.declared.names.HartNo.{HartNo}
 use Rattle.nc_ops.specs.declared.ops.Op.{Op}
 use Rattle.nc_ops.specs.declared.ops.Op.TheVariants as ops
@@ -12,9 +13,10 @@ use Rattle.nc_rules.specs.declared.steps.Phase.{Phase}
 use Rattle.nc_rules.specs.declared.steps.Phase.TheVariants.{Steps, Search, Work}
 use Rattle.nc_rules.specs.declared.steps.Step.{Step}
 use Rattle.nc_rules.specs.Driver.{DriverState, in_hand, next_of, next_of_op, next_in, next_step, next_act, started}
+use Rattle.nc_rules.specs.Events.{may_go_on}
 use Rattle.nc_rules.specs.Operations.{step_at, has_start}
 use Rattle.nc_rules.specs.World.{WorldState, driver_of}
-use Rattle.nc_flatness.specs.Covered.{is_covered_op, is_direct, is_lending}
+use Rattle.nc_flatness.specs.Covered.{is_covered_op, may_lend, is_lending}
 use Rattle.nc_flatness.specs.Flatness.{IsHanding, PlanIs, PlanOf, StandsAt}
 use Rattle.nc_flatness.specs.Steps.{Goes, StepsAreFlat}
 use Rattle.nc_flatness.proofs.Outcomes.{goes_go}
@@ -35,31 +37,31 @@ pub record IsHand (o : Op) : Type 0 where
   pub op : o ≡ ops.Hand buf to
 
 -- of those that are covered and neither lend nor take back a hand alone has a start step
-by_number : (direct : Bool) (o : Op) → is_lending o ≡ false → is_covered_op direct o ≡ true → (has_start o ≡ false) ⊎ IsHand o
-by_number direct (ops.Hand buf to) lends covered = inr (record { buf = buf; to = to; op = refl })
-by_number direct (ops.Ld spot off len) lends covered = inl refl
-by_number direct (ops.St spot off bytes) lends covered = inl refl
-by_number direct (ops.Cbo op buf off) lends covered = inl refl
-by_number direct (ops.Fence pred succ) lends covered = inl refl
-by_number direct (ops.Take buf) lends covered = inl refl
-by_number direct (ops.Claim chan) lends covered = inl refl
-by_number direct (ops.Free chan) lends covered = inl refl
-by_number direct (ops.Regs chan src dst len cfg) lends covered = inl refl
-by_number direct (ops.Run chan) lends covered = inl refl
-by_number direct (ops.Poll chan) lends covered = inl refl
-by_number direct (ops.Regr chan off width) lends covered = inl refl
-by_number direct (ops.Regw chan off width value) lends covered = inl refl
-by_number direct (ops.Map label buf off len dir chan) lends covered = absurd cc
-by_number direct (ops.Unmap label) lends covered = absurd cc
-by_number direct (ops.ToCpu label) lends covered = absurd cc
-by_number direct (ops.ToDev label) lends covered = absurd cc
-by_number direct (ops.MapSg label entries dir chan) lends covered = absurd cc
-by_number direct (ops.UnmapSg label count) lends covered = absurd cc
-by_number direct (ops.Calloc label pages chan) lends covered = absurd cc
-by_number direct (ops.Cgive label) lends covered = absurd cc
-by_number direct (ops.Ctake label) lends covered = absurd cc
-by_number direct (ops.Cfree label) lends covered = absurd cc
-by_number direct (ops.Copy chan src src_off dst dst_off len cfg) lends covered = absurd cc
+by_number : (lends : Bool) (o : Op) → is_lending o ≡ false → is_covered_op lends o ≡ true → (has_start o ≡ false) ⊎ IsHand o
+by_number lends (ops.Hand buf to) stays covered = inr (record { buf = buf; to = to; op = refl })
+by_number lends (ops.Ld spot off len) stays covered = inl refl
+by_number lends (ops.St spot off bytes) stays covered = inl refl
+by_number lends (ops.Cbo op buf off) stays covered = inl refl
+by_number lends (ops.Fence pred succ) stays covered = inl refl
+by_number lends (ops.Take buf) stays covered = inl refl
+by_number lends (ops.Claim chan) stays covered = inl refl
+by_number lends (ops.Free chan) stays covered = inl refl
+by_number lends (ops.Regs chan src dst len cfg) stays covered = inl refl
+by_number lends (ops.Run chan) stays covered = inl refl
+by_number lends (ops.Poll chan) stays covered = inl refl
+by_number lends (ops.Regr chan off width) stays covered = inl refl
+by_number lends (ops.Regw chan off width value) stays covered = inl refl
+by_number lends (ops.Map label buf off len dir chan) stays covered = absurd cc
+by_number lends (ops.Unmap label) stays covered = absurd cc
+by_number lends (ops.ToCpu label) stays covered = absurd cc
+by_number lends (ops.ToDev label) stays covered = absurd cc
+by_number lends (ops.MapSg label entries dir chan) stays covered = absurd cc
+by_number lends (ops.UnmapSg label count) stays covered = absurd cc
+by_number lends (ops.Calloc label pages chan) stays covered = absurd cc
+by_number lends (ops.Cgive label) stays covered = absurd cc
+by_number lends (ops.Ctake label) stays covered = absurd cc
+by_number lends (ops.Cfree label) stays covered = absurd cc
+by_number lends (ops.Copy chan src src_off dst dst_off len cfg) stays covered = absurd cc
 
 -- its plan is a hand's
 pub record IsAtHand (d : DriverState) (o : Op) : Type 0 where
@@ -72,6 +74,8 @@ at_hand d (ops.Map label buf off len dir chan) lends plan = absurd cc
 at_hand d (ops.Unmap label) lends plan = absurd cc
 at_hand d (ops.ToCpu label) lends plan = absurd cc
 at_hand d (ops.ToDev label) lends plan = absurd cc
+at_hand d (ops.MapSg label entries dir chan) lends plan = absurd cc
+at_hand d (ops.UnmapSg label count) lends plan = absurd cc
 at_hand d (ops.Ld spot off len) lends plan = absurd plan
 at_hand d (ops.St spot off bytes) lends plan = absurd plan
 at_hand d (ops.Cbo op buf off) lends plan = absurd plan
@@ -84,8 +88,6 @@ at_hand d (ops.Run chan) lends plan = absurd plan
 at_hand d (ops.Poll chan) lends plan = absurd plan
 at_hand d (ops.Regr chan off width) lends plan = absurd plan
 at_hand d (ops.Regw chan off width value) lends plan = absurd plan
-at_hand d (ops.MapSg label entries dir chan) lends plan = absurd plan
-at_hand d (ops.UnmapSg label count) lends plan = absurd plan
 at_hand d (ops.Calloc label pages chan) lends plan = absurd plan
 at_hand d (ops.Cgive label) lends plan = absurd plan
 at_hand d (ops.Ctake label) lends plan = absurd plan
@@ -123,6 +125,11 @@ result_goes sc f w h o n (Ok (Some s)) here hand phase none is nx = step_goes sc
 
 -- ---- all of them
 
+-- a driver that searches makes no step
+search_next : (d : DriverState) (o : Op) (k : ℕ) → in_hand d ≡ Some o → d.phase ≡ Search k → next_of d ≡ nexts.Search k
+unfolding next_of
+search_next d o k hand phase = ap (next_of_op d) hand ∙ ap (next_in d o) phase
+
 phase_goes : (sc : Scenario) (f : List ℕ) (w : WorldState) (h : HartNo) (o : Op) (p : Phase) → IsHere sc f w h → in_hand (driver_of w h.0) ≡ Some o → is_lending o ≡ false → (has_start o ≡ false) ⊎ IsHand o → (driver_of w h.0).phase ≡ p → StandsAt (driver_of w h.0) p
     → Goes sc f w (events.Issue h)
 phase_goes sc f w h o (Steps n) here hand lends (inl none) phase stands =
@@ -130,14 +137,14 @@ phase_goes sc f w h o (Steps n) here hand lends (inl none) phase stands =
     result_goes sc f w h o n (step_at d.fixed d.lots o n) here hand phase none refl (next_now d o n false hand phase none)
 phase_goes sc f w h o (Steps n) here hand lends (inr is) phase stands =
     hand_goes sc f w h is.buf n is.to here (hand ∙ ap (λ (p : Op). Some p) is.op) phase (next_now (driver_of w h.0) o n true hand phase (ap has_start is.op))
-phase_goes sc f w h o (Search k) here hand lends kind phase stands = absurd stands
+phase_goes sc f w h o (Search k) here hand lends kind phase stands = absurd (false≢true (ap (may_go_on w h) (sym (search_next (driver_of w h.0) o k hand phase)) ∙ here.may))
 phase_goes sc f w h o Work here hand lends kind phase stands =
     let d = driver_of w h.0 in
     let at = at_hand d o lends (subst (λ (k : Option Op). PlanOf d k) hand stands) in
     send_goes sc f w h at.is.buf at.is.to here (hand ∙ ap (λ (p : Op). Some p) at.is.op) phase at.handing.still at.handing.left
 
-pub steps_go : StepsAreFlat false
+pub steps_go : StepsAreFlat
 steps_go sc f w h o now hand lends =
     let here = here_by sc f w h now in
     let d = driver_of w h.0 in
-    phase_goes sc f w h o d.phase here hand lends (by_number (is_direct sc) o lends (covered_op sc w h.0 o now.covered now.flat.world here.lt hand)) refl (now.flat.bytes.drives h.0 here.lt).stands
+    phase_goes sc f w h o d.phase here hand lends (by_number (may_lend sc) o lends (covered_op sc w h.0 o now.covered now.flat.world here.lt hand)) refl (now.flat.bytes.drives h.0 here.lt).stands

@@ -2,6 +2,7 @@ pub mod EntryRows
 pub mod ScriptSteps
 pub mod ScriptCalls
 pub mod OwnPlaces
+pub mod LastLoads
 pub mod StepFrames
 pub mod ActRows
 pub mod OpActs

@@ -35,18 +35,20 @@ use Rattle.nc_rules.specs.Watched.{owner_of, op_touch}
 use Rattle.nc_rules.specs.World.{WorldState, driver_of}
 use Rattle.nc_calls.proofs.CallProofs.{issues_by_place}
 use Rattle.nc_calls.proofs.SoundLaws.{calls_keep_shape}
-use Rattle.nc_rows.specs.Parts.{IsQueued, StoreIsQueued}
+use Rattle.nc_rows.specs.Parts.{IsQueued, StoreIsQueued, rest_last}
 use Rattle.nc_row_issues.specs.Laws.{Enters}
 use Rattle.nc_row_issues.proofs.RowIssues.{rows_issue}
 use Rattle.nc_flatness.specs.Books.{book_of}
-use Rattle.nc_flatness.specs.Flatness.{IsStill, Flatness}
+use Rattle.nc_flatness.specs.Flatness.{Flatness}
+use Rattle.nc_flatness.specs.Plans.{IsStill}
 use Rattle.nc_flatness.proofs.FlatBytes.{byte_stored, byte_zeroed, shows_seen}
 use Rattle.nc_flatness.proofs.Marks.{append_none, marks-append, transfers_silent, fence_silent}
 use Rattle.nc_flatness.proofs.WholeBlocks.{in_whole}
 use Rattle.nc_flat_scripts.specs.Entering as entering
 use Rattle.nc_flat_scripts.specs.Entering.{GivesOwn, IsPlain}
 use Rattle.nc_flat_scripts.proofs.ActRows.{stands_now, load_stands, entry_stands}
-use Rattle.nc_flat_scripts.proofs.OwnPlaces.{OwnPiece, piece_starts, own_piece, own_unpooled, store_own, zero_block, zero_own}
+use Rattle.nc_flat_scripts.proofs.OwnPlaces.{OwnPiece, piece_starts, own_piece, own_unpooled, own_unslotted, store_own, zero_block, zero_own}
+use Rattle.nc_flat_scripts.proofs.ScriptCalls.{IsIdle}
 use Rattle.nc_flat_scripts.proofs.ScriptSteps.{IsNoMail}
 use Rattle.nc_flat_scripts.proofs.StepFrames.{StandsIn}
 
@@ -90,13 +92,15 @@ load_shows : (sc : Scenario) (f : List ℕ) (w : WorldState) (h : HartNo) (span 
     → Shows f (named span.at (bytes_seen w.machine h.0 kind span))
 load_shows sc f w h span kind flat own piece =
     shows_seen f (seen w.machine h.0 kind) span.at span.len
-    (λ x le lt. seen_own w.machine h.0 kind x own.main
-    ∙ (rows_issue.shows (book_of w) (owner_of w x) (byte f x) w.machine h.0 x (own.own x (covers-from span x le lt)) (flat.bytes.rows x (omega (arith, lt, piece.inside, flat.world.of_scenario.ram)))).shows)
+    (λ x le lt.
+    let mine = own.own x (covers-from span x le lt) in
+    seen_own w.machine h.0 kind x own.main
+    ∙ (rows_issue.shows (book_of w) (owner_of w x) (byte f x) w.machine h.0 x mine (flat.bytes.rows x (omega (arith, lt, piece.inside, flat.world.of_scenario.ram)) (own_unslotted sc f w h.0 x flat mine))).shows)
 
-acts_load : (sc : Scenario) (f : List ℕ) (w : WorldState) (h : HartNo) (span : Span) (kind : MemType) → Flatness sc f w → h.0 < length w.machine.harts → op_touch w h (hart.Load span kind) ≡ None → IsPieceIn (length w.machine.cache.ram) span
+acts_load : (sc : Scenario) (f : List ℕ) (w : WorldState) (h : HartNo) (span : Span) (kind : MemType) → Flatness sc f w → h.0 < length w.machine.harts → rest_last ((book_of w).rest h.0) ≡ None → op_touch w h (hart.Load span kind) ≡ None → IsPieceIn (length w.machine.cache.ram) span
     → may_issue w.machine h.0 (hart.Load span kind) ≡ true → Acts sc f (all_marks w.machine.size w.grants (op_records w.machine h true (hart.Load span kind))) w (issue_next w.machine h.0 (hart.Load span kind))
 unfolding op_touch op_records
-acts_load sc f w h span kind flat lt none piece may =
+acts_load sc f w h span kind flat lt idle none piece may =
     let m = w.machine in
     let own = own_piece sc f w h accesses.Read span kind flat none piece in
     let bytes = bytes_seen m h.0 kind span in
@@ -106,7 +110,7 @@ acts_load sc f w h span kind flat lt none piece may =
     (record {
       untouched = tt;
       latest = (load_shows sc f w h span kind flat own piece, tt);
-      stands = load_stands sc f w (issue_next m h.0 (hart.Load span kind)) h.0 span kind flat shape (issues_by_place.load m h.0 span kind flat.world.machine lt piece) (load_beside sc f w h span kind flat lt own (piece_starts (length m.cache.ram) span piece));
+      stands = load_stands sc f w (issue_next m h.0 (hart.Load span kind)) h.0 span kind flat idle shape (issues_by_place.load m h.0 span kind flat.world.machine lt piece) (load_beside sc f w h span kind flat lt own (piece_starts (length m.cache.ram) span piece));
     })
 
 -- ---- an operation with an entry
@@ -209,24 +213,24 @@ fence_stands sc f w h pred succ false flat lt still is may =
     subst (StandsIn sc f w) (sym (issues_by_place.fence w.machine h.0 pred succ (ap (λ (b : Bool). if b then Some (marker pred succ) else None) is))) (stands_now sc f w flat)
 
 -- whatever operation of a script it is
-pub acts_op : (sc : Scenario) (f : List ℕ) (w : WorldState) (h : HartNo) (op : HartOp) → Flatness sc f w → h.0 < length w.machine.harts → All IsStill (driver_of w h.0).lots → op_touch w h op ≡ None → IsNoMail op → OpIsThere w.machine h.0 op → may_issue w.machine h.0 op ≡ true
+pub acts_op : (sc : Scenario) (f : List ℕ) (w : WorldState) (h : HartNo) (op : HartOp) → Flatness sc f w → h.0 < length w.machine.harts → IsIdle (driver_of w h.0) → op_touch w h op ≡ None → IsNoMail op → OpIsThere w.machine h.0 op → may_issue w.machine h.0 op ≡ true
     → Acts sc f (all_marks w.machine.size w.grants (op_records w.machine h true op)) w (issue_next w.machine h.0 op)
 unfolding op_touch op_records
-acts_op sc f w h (hart.Load span kind) flat lt still none quiet there may = acts_load sc f w h span kind flat lt none there may
-acts_op sc f w h (hart.Store span kind bytes) flat lt still none quiet there may = acts_store sc f w h span kind bytes flat lt still none there may
-acts_op sc f w h (hart.Cbo cbos.Zero block) flat lt still none quiet there may = acts_zero sc f w h block flat lt still none there may
-acts_op sc f w h (hart.Cbo cbos.Inval block) flat lt still none quiet there may = absurd cc
-acts_op sc f w h (hart.Cbo cbos.Clean block) flat lt still none quiet there may =
-    acts_silent sc f w _ (acts_clean sc f w h (hart.Cbo cbos.Clean block) (entries.Cbo block cbos.Clean) flat lt still refl there may (record { token = λ n. refl; fence = refl }) (λ b. refl) (λ x. refl) tt)
-acts_op sc f w h (hart.Cbo cbos.Flush block) flat lt still none quiet there may =
-    acts_silent sc f w _ (acts_clean sc f w h (hart.Cbo cbos.Flush block) (entries.Cbo block cbos.Flush) flat lt still refl there may (record { token = λ n. refl; fence = refl }) (λ b. refl) (λ x. refl) tt)
-acts_op sc f w h (hart.Fence pred succ) flat lt still none quiet there may =
+acts_op sc f w h (hart.Load span kind) flat lt was none quiet there may = acts_load sc f w h span kind flat lt (ap rest_last was.rest) none there may
+acts_op sc f w h (hart.Store span kind bytes) flat lt was none quiet there may = acts_store sc f w h span kind bytes flat lt was.still none there may
+acts_op sc f w h (hart.Cbo cbos.Zero block) flat lt was none quiet there may = acts_zero sc f w h block flat lt was.still none there may
+acts_op sc f w h (hart.Cbo cbos.Inval block) flat lt was none quiet there may = absurd cc
+acts_op sc f w h (hart.Cbo cbos.Clean block) flat lt was none quiet there may =
+    acts_silent sc f w _ (acts_clean sc f w h (hart.Cbo cbos.Clean block) (entries.Cbo block cbos.Clean) flat lt was.still refl there may (record { token = λ n. refl; fence = refl }) (λ b. refl) (λ x. refl) tt)
+acts_op sc f w h (hart.Cbo cbos.Flush block) flat lt was none quiet there may =
+    acts_silent sc f w _ (acts_clean sc f w h (hart.Cbo cbos.Flush block) (entries.Cbo block cbos.Flush) flat lt was.still refl there may (record { token = λ n. refl; fence = refl }) (λ b. refl) (λ x. refl) tt)
+acts_op sc f w h (hart.Fence pred succ) flat lt was none quiet there may =
     acts_same sc f [] _ w _ (append_none _ ∙ fence_silent w.machine.size w.grants (marks pred succ) h _ _ pred succ)
-    (acts_silent sc f w _ (fence_stands sc f w h pred succ (marks pred succ) flat lt still refl may))
-acts_op sc f w h (hart.IoLoad chan off width) flat lt still none quiet there may =
+    (acts_silent sc f w _ (fence_stands sc f w h pred succ (marks pred succ) flat lt was.still refl may))
+acts_op sc f w h (hart.IoLoad chan off width) flat lt was none quiet there may =
     acts_silent sc f w _ (subst (StandsIn sc f w) (sym (issues_by_place.register w.machine h.0 chan off width)) (stands_now sc f w flat))
-acts_op sc f w h (hart.IoStore (io.Reg chan off width value)) flat lt still none quiet there may =
-    acts_silent sc f w _ (acts_clean sc f w h (hart.IoStore (io.Reg chan off width value)) (entries.Reg chan off width value) flat lt still refl there may (record { token = λ n. refl; fence = refl }) (λ b. refl) (λ x. refl) tt)
-acts_op sc f w h (hart.IoStore (io.Mail buf to)) flat lt still none quiet there may = absurd quiet
-acts_op sc f w h (hart.IoStore (io.Lend label first count)) flat lt still none quiet there may = absurd quiet
-acts_op sc f w h (hart.Mark pred succ) flat lt still none quiet there may = acts_silent sc f w _ (marker_stands sc f w h (hart.Mark pred succ) pred succ flat lt still refl there may)
+acts_op sc f w h (hart.IoStore (io.Reg chan off width value)) flat lt was none quiet there may =
+    acts_silent sc f w _ (acts_clean sc f w h (hart.IoStore (io.Reg chan off width value)) (entries.Reg chan off width value) flat lt was.still refl there may (record { token = λ n. refl; fence = refl }) (λ b. refl) (λ x. refl) tt)
+acts_op sc f w h (hart.IoStore (io.Mail buf to)) flat lt was none quiet there may = absurd quiet
+acts_op sc f w h (hart.IoStore (io.Lend label first count)) flat lt was none quiet there may = absurd quiet
+acts_op sc f w h (hart.Mark pred succ) flat lt was none quiet there may = acts_silent sc f w _ (marker_stands sc f w h (hart.Mark pred succ) pred succ flat lt was.still refl there may)

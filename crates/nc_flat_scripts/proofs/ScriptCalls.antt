@@ -21,7 +21,7 @@ use Rattle.nc_rules.specs.Turns.{lots_after_both, turned, turned_by, without_wan
 use Rattle.nc_rules.specs.Handing.{take_step}
 use Rattle.nc_rules.specs.Operations.{step_at, has_start}
 use Rattle.nc_rules.specs.Driver.{DriverState, Went, in_hand, over, stands, kept, give_up, refused_step, started, started_of, started_op, busy, stepped_to, stepped, done, done_of, done_unless, done_in}
-use Rattle.nc_flatness.specs.Flatness.{IsStill}
+use Rattle.nc_flatness.specs.Plans.{IsStill}
 use Rattle.nc_flat_scripts.proofs.ScriptSteps.{IsOwn}
 
 -- it has no plan, as before, and its lots
@@ -48,7 +48,7 @@ pub record IsIdle (d : DriverState) : Type 0 where
 
 still_lent : (lot : Lot) → IsStill lot → is_wanted lot.side ≡ false
 still_lent lot (inl is) = ap is_wanted is
-still_lent lot (inr is) = ap is_wanted is
+still_lent lot (inr is) = ap is_wanted is.0
 
 pub all_lent : (lots : List Lot) → All IsStill lots → without_wanted lots ≡ lots
 all_lent [] still = refl

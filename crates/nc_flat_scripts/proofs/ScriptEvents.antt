@@ -136,7 +136,7 @@ op_goes sc f w h o n s op here at act nx =
     goes_go sc f w (events.Issue h) h next went w.slots (issue_touch w h (is_script d.phase) op) (op_records m h (is_script d.phase) op) here.now.may (outcome_is w h (nexts.Op op) nx ∙ op_is w h op)
     (λ none. subst (λ (t : Bool). GoesTo sc f (marks t) (gone w h next went)) (sym (ap is_script at.phase))
     (acts_go sc f (marks true) w h next went here was (done_idles d saw o n s was.still at.hand at.phase at.is at.own)
-    (acts_op sc f w h op here.now.flat here.there was.still (script_touch w h op n d.phase at.phase none) (subst IsNoTake act at.own.act) (next_there sc f w h op here nx) (may_next sc f w h (nexts.Op op) here nx))))
+    (acts_op sc f w h op here.now.flat here.there was (script_touch w h op n d.phase at.phase none) (subst IsNoTake act at.own.act) (next_there sc f w h op here nx) (may_next sc f w h (nexts.Op op) here nx))))
 
 claim_goes : (sc : Scenario) (f : List ℕ) (w : WorldState) (h : HartNo) (o : Op) (n : ℕ) (s : Step) (chan : ChanNo) → IsHere sc f w h → AtStep (driver_of w h.0) o n s → next_of (driver_of w h.0) ≡ nexts.Claim chan → Goes sc f w (events.Issue h)
 claim_goes sc f w h o n s chan here at nx =

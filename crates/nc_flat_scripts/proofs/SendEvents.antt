@@ -20,7 +20,9 @@ use Rattle.nc_rules.specs.Handing.{hand_steps}
 use Rattle.nc_rules.specs.Records.{op_records}
 use Rattle.nc_rules.specs.World.{WorldState, driver_of}
 use Rattle.nc_rows.specs.Ahead.{sending}
-use Rattle.nc_flatness.specs.Flatness.{IsStill, mail_step}
+use Rattle.nc_rows.specs.Parts.{rest_last}
+use Rattle.nc_flatness.specs.Flatness.{mail_step}
+use Rattle.nc_flatness.specs.Plans.{IsStill}
 use Rattle.nc_flatness.specs.Steps.{Goes}
 use Rattle.nc_flat_scripts.proofs.HandCalls.{hands_drives, done_marks, done_mails}
 use Rattle.nc_flat_scripts.proofs.HandEvents.{sends_goes}
@@ -52,6 +54,7 @@ mark_goes sc f w h buf to here hand phase rest still nx =
         lots = goes.driver.lots;
         was = left_as d.rest (hand_steps buf to) rest (nothing_marked buf to);
         left = left_as went.driver.rest (mail_step buf to ∷ []) goes.driver.rest (nothing_mailed buf to);
+        unstored = ap rest_last goes.driver.rest;
         drives = hands_drives d went.driver buf to (mail_step buf to ∷ []) (flat.bytes.drives h.0 here.lt) still goes.driver (inr refl);
       };
       by = enters w h op (marker 1 4) flat.world.machine here.there refl there (may_next sc f w h (nexts.Op op) here nx);
@@ -85,6 +88,7 @@ mail_goes sc f w h buf to here hand phase rest still nx =
         lots = goes.driver.lots;
         was = left_as d.rest (mail_step buf to ∷ []) rest (nothing_mailed buf to);
         left = left_as went.driver.rest [] goes.driver.rest nothing_left;
+        unstored = ap rest_last goes.driver.rest;
         drives = idle_drives d went.driver (flat.bytes.drives h.0 here.lt) still goes.driver;
       };
       by = enters w h op e flat.world.machine here.there refl there (may_next sc f w h (nexts.Op op) here nx);

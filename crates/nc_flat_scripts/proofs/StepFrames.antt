@@ -3,7 +3,7 @@ use Rattle.std.specs.Prelude.{Some, true, false, All}
 use Rattle.std.specs.List.{list_any}
 use Rattle.std.proofs.Common.{◌≡◌, ◌≢◌, ℕ, ◌<◌, List, [], length, sym, ap, ◌∙◌, inl, inr, subst, arith}
 use Rattle.std.proofs.lemmas.Bool.{cases_eq}
-use Rattle.std.proofs.lemmas.List.{get_or-set_same, get_or-set_other, length-set}
+use Rattle.std.proofs.lemmas.List.{get_or-set_same, get_or-set_other}
 use Rattle.nc_num.specs.Memory.{byte}
 use Rattle.nc_num.specs.Places.{covers}
 use Rattle.nc_num.specs.declared.names.HartNo.{HartNo}
@@ -11,7 +11,7 @@ use Rattle.nc_num.specs.declared.names.MapId.{MapId}
 use Rattle.nc_num.specs.declared.places.Span.{Span}
 use Rattle.nc_model.specs.declared.owners.Owner.{Owner}
 use Rattle.nc_model.specs.declared.owners.Owner.TheVariants.{Pool}
-use Rattle.nc_scen.specs.Regions.{pool_of}
+use Rattle.nc_scen.specs.Regions.{pool_of, slots_of}
 use Rattle.nc_scen.specs.declared.scenario.Scenario.{Scenario}
 use Rattle.nc_rules.specs.declared.lots.Lot.{Lot}
 use Rattle.nc_rules.specs.declared.steps.Phase.{Phase}
@@ -22,12 +22,13 @@ use Rattle.nc_rules.specs.Watched.{owner_of}
 use Rattle.nc_rules.specs.World.{WorldState, driver_of, no_driver, owners_moved}
 use Rattle.nc_holds.specs.Rests.{RestAt}
 use Rattle.nc_rows.specs.Ahead.{is_full}
+use Rattle.nc_rows.specs.Places.{CalmRow}
 use Rattle.nc_rows.specs.Rows.{Book, Row}
-use Rattle.nc_rows.specs.Parts.{Queued, Uncached}
+use Rattle.nc_rows.specs.Parts.{Queued, Uncached, Lasts}
 use Rattle.nc_flatness.specs.Books.{loan_of, number_in, book_of, mapping_in, LiesIn}
-use Rattle.nc_flatness.specs.Flatness.{IsStill, StandsAt, Drives, BytesStand, Flatness}
+use Rattle.nc_flatness.specs.Flatness.{StandsAt, Drives, IsUnseen, BytesStand, Flatness}
+use Rattle.nc_flatness.specs.Plans.{IsStill}
 use Rattle.nc_flatness.proofs.Outcomes.{gone}
-use Rattle.nc_flatness.proofs.Rests.{lasts_of}
 use Rattle.nc_flat_scripts.proofs.ScriptCalls.{Idles, GoesIdle, IsIdle}
 
 -- ---- the drivers behind
@@ -60,7 +61,7 @@ book_same w v same =
 
 pub idle_drives : (d e : DriverState) → Drives d → All IsStill d.lots → Idles d e → Drives e
 idle_drives d e is still idle = record {
-  direct = rw (idle.fixed, idle.lots) is.direct;
+  lots = rw (idle.fixed, idle.lots) is.lots;
   stands = subst (λ (p : Phase). StandsAt e p) (sym idle.phase) (rw idle.lots still);
   idle = subst (λ (p : Phase). RestAt p e.rest) (sym idle.phase) idle.rest;
 }
@@ -70,9 +71,6 @@ drives_set sc f w h n went flat lt is k short = elim (cases_eq k h.0) [
   | inl e ↦ subst Drives (sym (driver_here w h n went k (omega (arith, flat.world.holds.drivers, flat.world.of_scenario.harts, lt)) e)) is
   | inr ne ↦ subst Drives (sym (driver_away w h n went k ne)) (flat.bytes.drives k short)
 ]
-
-pub drivers_count : (sc : Scenario) (f : List ℕ) (w : WorldState) (h : HartNo) (n : MachineState) (went : Went) → Flatness sc f w → length (gone w h n went).drivers ≡ length sc.harts
-drivers_count sc f w h n went flat = length-set w.drivers h.0 went.driver ∙ flat.world.holds.drivers ∙ flat.world.of_scenario.harts
 
 idle_reads : (sc : Scenario) (f : List ℕ) (w : WorldState) (h : HartNo) (n : MachineState) (went : Went) → Flatness sc f w → h.0 < length sc.harts → IsIdle (driver_of w h.0) → Idles (driver_of w h.0) went.driver
     → (k : ℕ) → ReadsSame (driver_of w k) (driver_of (gone w h n went) k)
@@ -96,10 +94,12 @@ idle_book sc f w h n went flat lt was idle = book_same w (gone w h n went) (idle
 -- flat memory g stands in machine n, where the drivers and the owners are those of w
 pub record StandsIn (sc : Scenario) (g : List ℕ) (w : WorldState) (n : MachineState) : Type 0 where
   pub flat_size : length g ≡ sc.ram
-  pub rows : (x : ℕ) → x < sc.ram → Row (book_of w) (owner_of w x) (byte g x) n x
+  pub rows : (x : ℕ) → x < sc.ram → covers (slots_of sc) x ≡ false → Row (book_of w) (owner_of w x) (byte g x) n x
+  pub calm : (z : ℕ) → covers (slots_of sc) z ≡ true → IsUnseen (book_of w) (owner_of w) (slots_of sc) z → CalmRow n z
   pub queued : Queued (book_of w) (owner_of w) n
   pub uncached : Uncached (book_of w) (owner_of w) n
   pub unfenced : (g : ℕ) → list_any is_full (queue_of n g) ≡ false
+  pub lasts : Lasts (book_of w) g n
 
 abbrev pub put : WorldState → List Owner → WorldState
 put w os = record w { owners = os }
@@ -120,9 +120,11 @@ idle_stands sc f g w h n went flat lt was idle is =
       drives = drives;
       placed = swap (λ (a : Book) (o : ℕ → Owner). (x : ℕ) (k : MapId) → x < sc.ram → mapping_in (o x) ≡ Some k → LiesIn (a.loan k) x) (book_of w) (book_of v) (owner_of w) (owner_of v) book same flat.bytes.placed;
       pooled = swap (λ (a : Book) (o : ℕ → Owner). (x : ℕ) → covers (pool_of sc) x ≡ true → o x ≡ Pool) (book_of w) (book_of v) (owner_of w) (owner_of v) book same flat.bytes.pooled;
-      rows = swap (λ (a : Book) (o : ℕ → Owner). (x : ℕ) → x < sc.ram → Row a (o x) (byte g x) n x) (book_of w) (book_of v) (owner_of w) (owner_of v) book same is.rows;
+      slotted = swap (λ (a : Book) (o : ℕ → Owner). (x : ℕ) → covers (slots_of sc) x ≡ true → o x ≡ Pool) (book_of w) (book_of v) (owner_of w) (owner_of v) book same flat.bytes.slotted;
+      rows = swap (λ (a : Book) (o : ℕ → Owner). (x : ℕ) → x < sc.ram → covers (slots_of sc) x ≡ false → Row a (o x) (byte g x) n x) (book_of w) (book_of v) (owner_of w) (owner_of v) book same is.rows;
+      calm = swap (λ (a : Book) (o : ℕ → Owner). (z : ℕ) → covers (slots_of sc) z ≡ true → IsUnseen a o (slots_of sc) z → CalmRow n z) (book_of w) (book_of v) (owner_of w) (owner_of v) book same is.calm;
       queued = swap (λ (a : Book) (o : ℕ → Owner). Queued a o n) (book_of w) (book_of v) (owner_of w) (owner_of v) book same is.queued;
       uncached = swap (λ (a : Book) (o : ℕ → Owner). Uncached a o n) (book_of w) (book_of v) (owner_of w) (owner_of v) book same is.uncached;
       unfenced = is.unfenced;
-      lasts = lasts_of g v n (length sc.harts) (drivers_count sc f w h n went flat) drives;
+      lasts = subst (λ (a : Book). Lasts a g n) (sym book) is.lasts;
     }

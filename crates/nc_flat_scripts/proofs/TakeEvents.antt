@@ -1,5 +1,5 @@
 -- A hart takes a buffer that was passed to it, as an event.
-use Rattle.std.specs.Prelude.{Some, None, Ok, true, false, not}
+use Rattle.std.specs.Prelude.{Some, None, Ok, true, false, not, slice_index_or}
 use Rattle.std.specs.List.{list_any}
 use Rattle.std.proofs.Common.{◌≡◌, ℕ, ◌<◌, List, [], length, refl, sym, ap, ◌∙◌, inl, inr, subst, arith}
 use Rattle.std.proofs.lemmas.Bool.{and_parts, cases_Bool}
@@ -10,15 +10,17 @@ use Rattle.nc_num.specs.declared.places.Span.{Span}
 use Rattle.nc_queue.specs.declared.entry.Entry.{Entry}
 use Rattle.nc_lines.specs.Lines.{line}
 use Rattle.nc_model.specs.declared.owners.Owner.{Owner}
-use Rattle.nc_model.specs.declared.owners.Owner.TheVariants.{Thread, Passing}
+use Rattle.nc_model.specs.declared.owners.Owner.TheVariants.{Thread, Passing, Pool}
 use Rattle.nc_own.specs.Books.{owner_in, transferred}
 use Rattle.nc_ops.specs.declared.ops.Op.TheVariants as ops
 use Rattle.nc_scen.specs.declared.events.Event.TheVariants as events
+use Rattle.nc_hart.specs.HartState.{HartState}
+use Rattle.nc_scen.specs.Regions.{slots_of}
 use Rattle.nc_scen.specs.declared.scenario.Scenario.{Scenario}
 use Rattle.nc_rules.specs.declared.steps.Next.TheVariants as nexts
 use Rattle.nc_rules.specs.declared.steps.Phase.TheVariants.{Steps}
 use Rattle.nc_rules.specs.declared.steps.Seen.TheVariants as seen
-use Rattle.nc_rules.specs.Machine.{MachineState, queue_of, box_of}
+use Rattle.nc_rules.specs.Machine.{MachineState, no_hart, queue_of, box_of}
 use Rattle.nc_rules.specs.Calls.{io_waits, may_take, take_next}
 use Rattle.nc_rules.specs.Driver.{Went, in_hand, next_of, done}
 use Rattle.nc_rules.specs.Handing.{take_step}
@@ -35,14 +37,15 @@ use Rattle.nc_holds.proofs.MessageGoesOn.{for_hart}
 use Rattle.nc_holds.proofs.MessageStatus.{IsGiven, given_from}
 use Rattle.nc_rows.specs.Ahead.{is_mail, coming, sending}
 use Rattle.nc_rows.specs.Places.{ThreadRow}
+use Rattle.nc_rows.specs.Parts.{rest_last}
 use Rattle.nc_rows.specs.Rows.{PassingRow, Row}
 use Rattle.nc_row_plans.proofs.PlanBegins.{rows_begin}
 use Rattle.nc_flatness.specs.Books.{book_of, mapping_in}
 use Rattle.nc_flatness.specs.Steps.{Goes}
 use Rattle.nc_flatness.proofs.Outcomes.{gone, goes_go, goes_silent}
 use Rattle.nc_flatness.proofs.Owned.{me_is}
-use Rattle.nc_flat_scripts.proofs.ActRows.{stays_stand}
-use Rattle.nc_flat_scripts.proofs.BufferOwners.{moved_in, moved_out, range_of, ranges_alike, number_here, off_pool}
+use Rattle.nc_flat_scripts.proofs.ActRows.{calm_at, stays_row, stays_stand}
+use Rattle.nc_flat_scripts.proofs.BufferOwners.{moved_in, moved_out, range_of, ranges_alike, number_here, off_pool, off_slots}
 use Rattle.nc_flat_scripts.proofs.HandStarts.{in_owners}
 use Rattle.nc_flat_scripts.proofs.MailFacts.{nothing_left, none_in_line}
 use Rattle.nc_flat_scripts.proofs.PassingFrames.{Passes, row_over, PassedIn, stands_passed}
@@ -71,12 +74,12 @@ was_passing : (sc : Scenario) (f : List ℕ) (w : WorldState) (h : HartNo) (went
 was_passing sc f w h went buf x t over = t.given.owners x (subst (λ (s : Span). covers s x ≡ true) (sym (ranges_alike sc f w h.0 buf t.passes.flat t.there)) over)
 
 -- a place of the buffer
-taken_row : (sc : Scenario) (f : List ℕ) (w : WorldState) (h : HartNo) (went : Went) (n : MachineState) (buf x : ℕ) → IsTaken sc f w h went buf → Stays w.machine n → StandsIn sc f w n → x < sc.ram → covers (range_of w h.0 buf) x ≡ true → ThreadRow h.0 (byte f x) n x
-taken_row sc f w h went n buf x t stays is lt over =
+taken_row : (sc : Scenario) (f : List ℕ) (w : WorldState) (h : HartNo) (went : Went) (n : MachineState) (buf x : ℕ) → IsTaken sc f w h went buf → Stays w.machine n → StandsIn sc f w n → x < sc.ram → covers (slots_of sc) x ≡ false → covers (range_of w h.0 buf) x ≡ true → ThreadRow h.0 (byte f x) n x
+taken_row sc f w h went n buf x t stays is lt beside over =
     let from = t.given.from in
     let b = (book_of w).buffer x in
     let rest = (book_of w).rest from.0 in
-    let row : PassingRow from.0 (byte f x) b rest n x = subst (λ (o : Owner). Row (book_of w) o (byte f x) n x) (was_passing sc f w h went buf x t over) (is.rows x lt) in
+    let row : PassingRow from.0 (byte f x) b rest n x = subst (λ (o : Owner). Row (book_of w) o (byte f x) n x) (was_passing sc f w h went buf x t over) (is.rows x lt beside) in
     let number : b ≡ buf = number_here sc f w h.0 buf x t.passes.flat t.there t.few over in
     let none : list_any (is_mail buf) (line (queue_of n from.0) (sending buf rest)) ≡ false =
     subst (λ (q : List Entry). list_any (is_mail buf) (line q (sending buf rest)) ≡ false) (sym (stays.queues from.0)) (none_in_line buf (queue_of w.machine from.0) rest (t.given.quiet from.0)) in
@@ -94,15 +97,24 @@ taken_stands sc f w h went n buf t shape stays =
       queued = is.queued;
       unfenced = is.unfenced;
       owners = λ x. elim (cases_Bool (covers (range_of w h.0 buf) x)) [
-        | inl over ↦ inr (ap mapping_in (was_passing sc f w h went buf x t over), ap mapping_in (taken_now sc f w h went n buf x t over), off_pool sc f w h.0 buf x flat t.there over)
+        | inl over ↦
+            let passing : owner_of w x ≡ Passing t.given.from h = was_passing sc f w h went buf x t over in
+            inr (record {
+              before = ap mapping_in passing;
+              behind = ap mapping_in (taken_now sc f w h went n buf x t over);
+              unpooled = off_pool sc f w h.0 buf x flat t.there over;
+              unslotted = off_slots sc f w x flat (λ pool. let no : Passing t.given.from h ≡ Pool = sym passing ∙ pool in absurd cc);
+            })
         | inr off ↦ inl (still_there sc f w h went n buf x t off)
       ];
-      rows = λ x lt. elim (cases_Bool (covers (range_of w h.0 buf) x)) [
-        | inl over ↦ subst (λ (o : Owner). Row (book_of v) o (byte f x) n x) (sym (taken_now sc f w h went n buf x t over)) (taken_row sc f w h went n buf x t stays is lt over)
+      rows = λ x lt beside. elim (cases_Bool (covers (range_of w h.0 buf) x)) [
+        | inl over ↦ subst (λ (o : Owner). Row (book_of v) o (byte f x) n x) (sym (taken_now sc f w h went n buf x t over)) (taken_row sc f w h went n buf x t stays is lt beside over)
         | inr off ↦
             subst (λ (o : Owner). Row (book_of v) o (byte f x) n x) (sym (still_there sc f w h went n buf x t off))
-            (row_over sc f w h n n went (owner_of w x) (byte f x) x p lt refl (λ j g same own. ap (sending ((book_of w).buffer x)) (t.rest ∙ sym t.before)) (is.rows x lt))
+            (row_over sc f w h n n went (owner_of w x) (byte f x) x p lt refl (λ j g same own. ap (sending ((book_of w).buffer x)) (t.rest ∙ sym t.before)) (is.rows x lt beside))
       ];
+      calm = λ z on calm. calm_at n (byte w.machine.cache.ram z) z (stays_row (book_of w) Pool (byte w.machine.cache.ram z) w.machine n z shape stays calm);
+      lasts = λ k. ap (λ (hs : List HartState). (slice_index_or hs k no_hart).last) stays.harts;
     }
 
 -- ---- the event
@@ -134,6 +146,7 @@ take_goes sc f w h buf n here hand phase at nx =
         lots = moves.driver.lots;
         was = λ k lot. ap (coming k lot) idle.rest ∙ nothing_left k lot;
         left = λ k lot. ap (coming k lot) moves.driver.rest ∙ nothing_left k lot;
+        unstored = ap rest_last moves.driver.rest;
         drives = idle_drives d went.driver (flat.bytes.drives h.0 here.lt) idle.still moves.driver;
       };
       there = here.there;

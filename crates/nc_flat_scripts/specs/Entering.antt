@@ -29,25 +29,36 @@ IsNoMail e = (b : ℕ) → is_mail b (bare e) ≡ false
 abbrev pub IsNotIts : Book → (ℕ → Owner) → ℕ → Entry → ℕ → Type 0
 IsNotIts a owner h e x = (j g : HartNo) → owner x ≡ Passing j g → j.0 ≡ h → is_mail (a.buffer x) (bare e) ≡ false
 
--- the channel sees the mapping's place where it is, and what it may write is whole blocks of the mapping
-pub record IsDirect (l : Loan) (owner : ℕ → Owner) (s x : ℕ) : Type 0 where
+-- the place is no hart's own
+abbrev pub IsUnowned : Owner → Type 0
+IsUnowned (Thread h) = ⊥
+IsUnowned (Synced n) = ⊥
+IsUnowned (Passing h g) = Unit {0}
+IsUnowned (Lending n) = Unit {0}
+IsUnowned (Device n) = Unit {0}
+IsUnowned (Returning n) = Unit {0}
+IsUnowned Pool = Unit {0}
+
+-- the place at which the channel sees the mapping's is no hart's own, nor is a place of its block where the channel may
+-- write
+pub record IsApart (l : Loan) (owner : ℕ → Owner) (s x : ℕ) : Type 0 where
   pub area : l.area ≡ false
-  pub place : device_place l x ≡ x
-  pub block : comes_back l.grant.dir ≡ true → (y : ℕ) → y / s ≡ x / s → owner y ≡ owner x
+  pub place : IsUnowned (owner (device_place l x))
+  pub block : comes_back l.grant.dir ≡ true → (y : ℕ) → y / s ≡ device_place l x / s → IsUnowned (owner y)
 
-abbrev pub LoanIsDirect : Option Loan → (ℕ → Owner) → ℕ → ℕ → Type 0
-LoanIsDirect None owner s x = Unit {0}
-LoanIsDirect (Some l) owner s x = IsDirect l owner s x
+abbrev pub LoanIsApart : Option Loan → (ℕ → Owner) → ℕ → ℕ → Type 0
+LoanIsApart None owner s x = Unit {0}
+LoanIsApart (Some l) owner s x = IsApart l owner s x
 
--- the mapping that has the place, if there is one, is such
-abbrev pub OwnerIsDirect : Book → (ℕ → Owner) → ℕ → ℕ → Owner → Type 0
-OwnerIsDirect a owner s x (Lending n) = LoanIsDirect (a.loan n) owner s x
-OwnerIsDirect a owner s x (Device n) = LoanIsDirect (a.loan n) owner s x
-OwnerIsDirect a owner s x (Returning n) = LoanIsDirect (a.loan n) owner s x
-OwnerIsDirect a owner s x (Synced n) = LoanIsDirect (a.loan n) owner s x
-OwnerIsDirect a owner s x (Thread h) = Unit {0}
-OwnerIsDirect a owner s x (Passing h g) = Unit {0}
-OwnerIsDirect a owner s x Pool = Unit {0}
+-- the mapping that its channel has, or that is on its way, is such, if the place is one's
+abbrev pub OwnerIsApart : Book → (ℕ → Owner) → ℕ → ℕ → Owner → Type 0
+OwnerIsApart a owner s x (Lending n) = LoanIsApart (a.loan n) owner s x
+OwnerIsApart a owner s x (Device n) = LoanIsApart (a.loan n) owner s x
+OwnerIsApart a owner s x (Returning n) = LoanIsApart (a.loan n) owner s x
+OwnerIsApart a owner s x (Synced n) = Unit {0}
+OwnerIsApart a owner s x (Thread h) = Unit {0}
+OwnerIsApart a owner s x (Passing h g) = Unit {0}
+OwnerIsApart a owner s x Pool = Unit {0}
 
 -- none of hart h's own mappings is being lent
 abbrev pub IsUnlent : (ℕ → Owner) → ℕ → ℕ → Type 0

@@ -26,9 +26,10 @@ use Rattle.nc_calls.specs.PlaceLaws.{NotHeld}
 use Rattle.nc_scripts.proofs.Lists.{all_to}
 use Rattle.nc_holds.specs.Held.{AreRegions}
 use Rattle.nc_rows.specs.Rows.{Loan, Book, LentRow, DeviceRow, BackRow, SyncedRow, Row}
+use Rattle.nc_rows.specs.Laws.{place_of, seen_at}
 use Rattle.nc_rows.specs.Parts.{IsDropped, IsZeroed, OpIsQueued, IsQueued, Queued, IsAllocating, MayBeHeld, Uncached}
 use Rattle.nc_flatness.specs.Books.{number_in, loan_of, book_of}
-use Rattle.nc_flatness.specs.Flatness.{Flatness}
+use Rattle.nc_flatness.specs.Flatness.{IsUnseen, Flatness}
 use Rattle.nc_flatness.proofs.Loans.{loan_is}
 use Rattle.nc_flatness.proofs.Outcomes.{gone}
 
@@ -139,6 +140,21 @@ row_alike a b (Device n) v m x e row = subst (λ (o : Option Loan). DeviceRow n 
 row_alike a b (Returning n) v m x e row = subst (λ (o : Option Loan). BackRow b n o v m x) e.0 (back_rest a b n (a.loan n) v m x e.1 row)
 row_alike a b (Synced n) v m x e row = subst (λ (o : Option Loan). SyncedRow n o v m x) e row
 row_alike a b Pool v m x e row = row
+
+-- ---- where places are seen
+
+pub seen_alike : (a b : Book) (o : Owner) (x : ℕ) → ((n : MapId) → a.loan n ≡ b.loan n) → seen_at a o x ≡ seen_at b o x
+seen_alike a b (Thread h) x loans = refl
+seen_alike a b (Passing h g) x loans = refl
+seen_alike a b (Lending n) x loans = ap (λ (o : Option Loan). place_of o x) (loans n)
+seen_alike a b (Device n) x loans = ap (λ (o : Option Loan). place_of o x) (loans n)
+seen_alike a b (Returning n) x loans = ap (λ (o : Option Loan). place_of o x) (loans n)
+seen_alike a b (Synced n) x loans = refl
+seen_alike a b Pool x loans = refl
+
+-- what nobody sees by other books and owners of the same mappings
+pub unseen_alike : (a b : Book) (ws us : ℕ → Owner) (slots : Span) (z : ℕ) → ((n : MapId) → a.loan n ≡ b.loan n) → ((x : ℕ) → ws x ≡ us x) → IsUnseen a ws slots z → IsUnseen b us slots z
+unseen_alike a b ws us slots z loans owners none x off same = none x off (seen_alike a b (ws x) x loans ∙ ap (λ (o : Owner). seen_at b o x) (owners x) ∙ same)
 
 -- ---- what stands beside the rows
 

@@ -4,7 +4,9 @@ pub mod Outcomes
 pub mod Loans
 pub mod Owned
 pub mod WholeBlocks
+pub mod Seen
 pub mod Rests
+pub mod Lasts
 pub mod Worlds
 pub mod BookReads
 pub mod Regions

@@ -1,112 +1,37 @@
--- What a mapping of a book is: the one entry of a lot of its hart, which does not bounce.
-use Rattle.std.proofs.Common.{◌≡◌, ℕ, ◌+◌, ◌<◌, ◌≤◌, Bool, true, false, List, [], ◌∷◌, length, refl, sym, ap, ◌∙◌, inl, inr, subst, arith, Option, Some, None}
-use Rattle.std.specs.Prelude.{◌-◌, ◌==◌, ◌&&◌, nat_le, nat_lt, not, All, find, option_map, slice_index_or}
-use Rattle.std.proofs.lemmas.Bool.{and_parts, cases_lt, false≢true}
+-- What a mapping of a book is: an entry of a lot of its hart.
+use Rattle.std.proofs.Common.{◌≡◌, ℕ, ◌+◌, ◌<◌, ◌≤◌, cond, Bool, true, false, List, [], ◌∷◌, length, refl, sym, ap, ◌∙◌, inl, inr, subst, arith, Option, Some, None}
+use Rattle.std.specs.Prelude.{◌-◌, ◌==◌, ◌&&◌, nat_le, nat_lt, not, find, option_map, slice_get, slice_index_or}
+use Rattle.std.proofs.lemmas.Bool.{and_parts, and_from, cases_lt, false≢true}
 use Rattle.std.proofs.lemmas.Bool.Decides.{nat_tests}
 use Rattle.std.proofs.lemmas.List.{get_or_past}
-use Rattle.std.proofs.lemmas.List.Elements.{All-head}
-use Rattle.nc_num.specs.Places.{covers}
+use Rattle.std.proofs.lemmas.Option.{get_or_from_slice_get, slice_get-get_or, slice_get_past}
 use Rattle.nc_num.specs.declared.names.MapId.{MapId}
 use Rattle.nc_num.specs.declared.places.Span.{Span}
 use Rattle.nc_plan.specs.Plans.{In}
-use Rattle.nc_model.proofs.Faults.{covers-low}
 use Rattle.nc_sg.specs.Lists as sg
 use Rattle.nc_sg.specs.declared.list.Entry.{Entry}
 use Rattle.nc_scen.specs.declared.scenario.Scenario.{Scenario}
 use Rattle.nc_rules.specs.declared.lots.Kind.{Kind}
-use Rattle.nc_rules.specs.declared.lots.Kind.TheVariants.{Single}
+use Rattle.nc_rules.specs.declared.lots.Kind.TheVariants as kinds
 use Rattle.nc_rules.specs.declared.lots.Lot.{Lot}
+use Rattle.nc_rules.specs.declared.lots.LotId.{LotId}
 use Rattle.nc_rules.specs.Driver.{DriverState}
-use Rattle.nc_rules.specs.Lots.{Fixed, is_wanted, no_entry}
+use Rattle.nc_rules.specs.Lots.{Fixed, is_lot, is_wanted, map_id, grant_of, no_entry}
 use Rattle.nc_rules.specs.Turns.{is_area}
-use Rattle.nc_rules.specs.World.{WorldState, no_driver, driver_of}
+use Rattle.nc_rules.specs.World.{WorldState, no_driver, driver_of, hart}
+use Rattle.nc_rules.specs.World as worlds
 use Rattle.nc_scripts.specs.Drivers.{FitsKind, IsNamed, IsLotIn}
 use Rattle.nc_scripts.proofs.Lists.{found, all_in}
+use Rattle.nc_scripts.proofs.LotLaws.{its_name}
+use Rattle.nc_holds.specs.Held.{IsEntryOf}
 use Rattle.nc_holds.specs.Holds.{Holds}
 use Rattle.nc_holds.proofs.ListsA.{all_at}
-use Rattle.nc_rows.specs.Rows.{Loan, device_place}
+use Rattle.nc_holds.proofs.OwnerLots.{same_named}
+use Rattle.nc_rows.specs.Rows.{Loan}
 use Rattle.nc_flatness.specs.Books.{is_entry_of, loan_by, book_of}
-use Rattle.nc_flatness.specs.Flatness.{IsDirect, Flatness}
+use Rattle.nc_flatness.specs.Flatness.{is_mapping, IsMapping, Flatness}
 
--- ---- a lot that is direct
-
--- its one entry
-pub record IsDirectLot (lot : Lot) : Type 0 where
-  pub kind : lot.kind ≡ Single
-  pub first : lot.id.first ≡ 0
-  pub entry : Entry
-  pub only : lot.list.entries ≡ entry ∷ []
-  pub bounced : entry.bounced ≡ false
-
-only_by : (es : List Entry) → length es ≡ 1 → (e : Entry) × (es ≡ e ∷ [])
-only_by [] one = absurd (omega (arith, one))
-only_by (e ∷ []) one = (e, refl)
-only_by (e ∷ d ∷ es) one = absurd (omega (arith, one))
-
-single_by : (pool : Span) (lot : Lot) (kind : Kind) → kind ≡ Single → FitsKind pool kind lot.id lot.list.entries → IsNamed lot.id × (length lot.list.entries ≡ 1)
-single_by pool lot kind is fits = subst (λ (k : Kind). FitsKind pool k lot.id lot.list.entries) is fits
-
-pub direct_lot : (ram : ℕ) (f : Fixed) (lot : Lot) → IsLotIn ram f lot → IsDirect f lot → IsDirectLot lot
-direct_lot ram f lot is d =
-    let fits = single_by f.pool lot lot.kind d.kind is.kind in
-    let one = only_by lot.list.entries fits.1 in
-    record {
-      kind = d.kind;
-      first = fits.0.first;
-      entry = one.0;
-      only = one.1;
-      bounced = All-head (λ (e : Entry). e.bounced ≡ false) one.0 [] (subst (λ (es : List Entry). All (λ (e : Entry). e.bounced ≡ false) es) one.1 d.direct);
-    }
-
--- ---- a mapping of the book
-
--- mapping n is the entry of this lot
-pub record IsLoan (w : WorldState) (n : MapId) (l : Loan) : Type 0 where
-  pub hart : n.hart.0 < length w.machine.harts
-  pub lot : Lot
-  pub here : In lot (driver_of w n.hart.0).lots
-  pub is : IsDirectLot lot
-  pub label : lot.id.label.0 ≡ n.label.0
-  pub number : n.entry ≡ 0
-  pub lent : is_wanted lot.side ≡ false
-  pub loan : l ≡ loan_by (driver_of w n.hart.0).fixed n lot
-  pub lot_is : l.lot ≡ lot.id
-  pub area : l.area ≡ false
-  pub buffer : l.grant.buffer ≡ is.entry.span
-  pub device : l.grant.device ≡ is.entry.span
-  pub dir : l.grant.dir ≡ lot.list.dir
-  pub chan : l.grant.chan ≡ lot.chan
-
-pub record IsNamedSo (n : MapId) (lot : Lot) : Type 0 where
-  pub lent : is_wanted lot.side ≡ false
-  pub label : lot.id.label.0 ≡ n.label.0
-  pub number : n.entry ≡ 0
-
-not_true : (b : Bool) → not b ≡ true → b ≡ false
-not_true true e = absurd (false≢true e)
-not_true false e = refl
-
-pub named_by : (n : MapId) (lot : Lot) → IsDirectLot lot → is_entry_of n lot ≡ true → IsNamedSo n lot
-named_by n lot is e =
-    let a = and_parts (not (is_wanted lot.side)) (lot.id.label.0 == n.label.0 && (nat_le lot.id.first n.entry && nat_lt n.entry (lot.id.first + length lot.list.entries))) e in
-    let b = and_parts (lot.id.label.0 == n.label.0) (nat_le lot.id.first n.entry && nat_lt n.entry (lot.id.first + length lot.list.entries)) a.1 in
-    let c = and_parts (nat_le lot.id.first n.entry) (nat_lt n.entry (lot.id.first + length lot.list.entries)) b.1 in
-    let label : lot.id.label.0 ≡ n.label.0 = let t = b.0 in grind (arith, nat_tests) in
-    let below : n.entry < lot.id.first + length lot.list.entries = let t = c.1 in grind (arith, nat_tests) in
-    let one : length lot.list.entries ≡ 1 = ap length is.only in
-    record { lent = not_true (is_wanted lot.side) a.0; label = label; number = omega (arith, below, one, is.first) }
-
-entry_at : (lot : Lot) (n : MapId) → (is : IsDirectLot lot) → n.entry ≡ 0 → slice_index_or lot.list.entries (n.entry - lot.id.first) no_entry ≡ is.entry
-entry_at lot n is number =
-    let zero_is : n.entry - lot.id.first ≡ 0 = omega (arith, number, is.first) in
-    ap (λ k. slice_index_or lot.list.entries k no_entry) zero_is ∙ ap (λ (es : List Entry). slice_index_or es 0 no_entry) is.only
-
-device_is : (slots_at : ℕ) (e : Entry) → e.bounced ≡ false → sg.device slots_at e ≡ e.span
-device_is slots_at e off = rw off refl
-
-some_by : (f : Fixed) (n : MapId) (o : Option Lot) (l : Loan) → option_map (loan_by f n) o ≡ Some l → (lot : Lot) × (o ≡ Some lot) × (l ≡ loan_by f n lot)
-some_by f n None l e = absurd (cc)
-some_by f n (Some lot) l e = let same : loan_by f n lot ≡ l = cc in (lot, refl, sym same)
+-- ---- the lots of a driver
 
 -- a driver that is there
 lots_past : (w : WorldState) (h : ℕ) → length w.drivers ≤ h → (driver_of w h).lots ≡ []
@@ -118,13 +43,87 @@ hart_of_lot w h lot k here = elim (cases_lt h (length w.machine.harts)) [
   | inr past ↦ elim (subst (λ (lots : List Lot). In lot lots) (lots_past w h (omega (arith, k.drivers, past))) here) [ ]
 ]
 
-pub lot_direct : (sc : Scenario) (f : List ℕ) (w : WorldState) (h : ℕ) (lot : Lot) → Flatness sc f w → In lot (driver_of w h).lots → IsDirectLot lot
-lot_direct sc f w h lot flat here =
+-- what is known of each lot
+pub lot_in : (sc : Scenario) (f : List ℕ) (w : WorldState) (h : ℕ) (lot : Lot) → Flatness sc f w → In lot (driver_of w h).lots → IsLotIn (length w.machine.cache.ram) (driver_of w h).fixed lot
+lot_in sc f w h lot flat here =
     let lt = hart_of_lot w h lot flat.world.holds here in
-    let d = (flat.world.holds.each h lt).driver in
+    all_at (IsLotIn (length w.machine.cache.ram) (driver_of w h).fixed) (driver_of w h).lots lot (flat.world.holds.each h lt).driver.lots here
+
+pub lot_of : (sc : Scenario) (f : List ℕ) (w : WorldState) (h : ℕ) (lot : Lot) → Flatness sc f w → In lot (driver_of w h).lots → IsMapping (driver_of w h).fixed lot
+lot_of sc f w h lot flat here =
+    let lt = hart_of_lot w h lot flat.world.holds here in
     let drives = flat.bytes.drives h (subst (λ k. h < k) flat.world.of_scenario.harts lt) in
-    direct_lot (length w.machine.cache.ram) (driver_of w h).fixed lot (all_at (IsLotIn (length w.machine.cache.ram) (driver_of w h).fixed) (driver_of w h).lots lot d.lots here)
-    (all_at (IsDirect (driver_of w h).fixed) (driver_of w h).lots lot drives.direct here)
+    all_at (IsMapping (driver_of w h).fixed) (driver_of w h).lots lot drives.lots here
+
+-- a mapping is no area, and has a script's name
+pub mapping_area : (k : Kind) → is_mapping k ≡ true → is_area k ≡ false
+mapping_area kinds.Single is = refl
+mapping_area kinds.List is = refl
+mapping_area kinds.Area is = absurd (false≢true is)
+mapping_area kinds.Copy is = refl
+
+mapping_named : (pool : Span) (k : Kind) (id : LotId) (es : List Entry) → is_mapping k ≡ true → FitsKind pool k id es → IsNamed id
+mapping_named pool kinds.Single id es is fits = fits.0
+mapping_named pool kinds.List id es is fits = fits.0
+mapping_named pool kinds.Area id es is fits = fits.0
+mapping_named pool kinds.Copy id es is fits = absurd (false≢true is)
+
+pub lot_first : (sc : Scenario) (f : List ℕ) (w : WorldState) (h : ℕ) (lot : Lot) → Flatness sc f w → In lot (driver_of w h).lots → lot.id.first ≡ 0
+lot_first sc f w h lot flat here = (mapping_named (driver_of w h).fixed.pool lot.kind lot.id lot.list.entries (lot_of sc f w h lot flat here).kind (lot_in sc f w h lot flat here).kind).first
+
+label_lot : (lot : Lot) (id : LotId) → lot.id.label.0 ≡ id.label.0 → lot.id.first ≡ id.first → is_lot id lot ≡ true
+label_lot lot id a b = its_name lot id (λ i. record { label = record { 0 = a i }; first = b i })
+
+-- two lots of one driver with one label are one
+pub one_lot : (sc : Scenario) (f : List ℕ) (w : WorldState) (h : ℕ) (a b : Lot) → Flatness sc f w → In a (driver_of w h).lots → In b (driver_of w h).lots → a.id.label.0 ≡ b.id.label.0 → a ≡ b
+one_lot sc f w h a b flat here there same =
+    let lt = hart_of_lot w h a flat.world.holds here in
+    same_named (driver_of w h).lots b.id a b (flat.world.holds.each h lt).driver.apart here there (label_lot a b.id same (lot_first sc f w h a flat here ∙ sym (lot_first sc f w h b flat there))) (its_name b b.id refl)
+
+-- ---- a mapping of the book
+
+-- mapping n is entry i of this lot
+pub record IsLoan (w : WorldState) (n : MapId) (l : Loan) : Type 0 where
+  pub hart : n.hart.0 < length w.machine.harts
+  pub lot : Lot
+  pub i : ℕ
+  pub entry : Entry
+  pub here : IsEntryOf (driver_of w n.hart.0).lots lot i entry
+  pub kind : is_mapping lot.kind ≡ true
+  pub first : lot.id.first ≡ 0
+  pub label : lot.id.label.0 ≡ n.label.0
+  pub number : n.entry ≡ i
+  pub name : n ≡ map_id (worlds.hart n.hart.0) lot.id i
+  pub lent : is_wanted lot.side ≡ false
+  pub loan : l ≡ loan_by (driver_of w n.hart.0).fixed n lot
+  pub lot_is : l.lot ≡ lot.id
+  pub area : l.area ≡ false
+  pub buffer : l.grant.buffer ≡ entry.span
+  pub device : l.grant.device ≡ sg.device (driver_of w n.hart.0).fixed.slots_at entry
+  pub dir : l.grant.dir ≡ lot.list.dir
+  pub chan : l.grant.chan ≡ lot.chan
+
+record IsNamedSo (n : MapId) (lot : Lot) : Type 0 where
+  pub lent : is_wanted lot.side ≡ false
+  pub label : lot.id.label.0 ≡ n.label.0
+  pub below : n.entry < lot.id.first + length lot.list.entries
+
+not_true : (b : Bool) → not b ≡ true → b ≡ false
+not_true true e = absurd (false≢true e)
+not_true false e = refl
+
+named_by : (n : MapId) (lot : Lot) → is_entry_of n lot ≡ true → IsNamedSo n lot
+named_by n lot e =
+    let a = and_parts (not (is_wanted lot.side)) (lot.id.label.0 == n.label.0 && (nat_le lot.id.first n.entry && nat_lt n.entry (lot.id.first + length lot.list.entries))) e in
+    let b = and_parts (lot.id.label.0 == n.label.0) (nat_le lot.id.first n.entry && nat_lt n.entry (lot.id.first + length lot.list.entries)) a.1 in
+    let c = and_parts (nat_le lot.id.first n.entry) (nat_lt n.entry (lot.id.first + length lot.list.entries)) b.1 in
+    let label : lot.id.label.0 ≡ n.label.0 = let t = b.0 in grind (arith, nat_tests) in
+    let below : n.entry < lot.id.first + length lot.list.entries = let t = c.1 in grind (arith, nat_tests) in
+    record { lent = not_true (is_wanted lot.side) a.0; label = label; below = below }
+
+some_by : (f : Fixed) (n : MapId) (o : Option Lot) (l : Loan) → option_map (loan_by f n) o ≡ Some l → (lot : Lot) × (o ≡ Some lot) × (l ≡ loan_by f n lot)
+some_by f n None l e = absurd (cc)
+some_by f n (Some lot) l e = let same : loan_by f n lot ≡ l = cc in (lot, refl, sym same)
 
 pub loan_is : (sc : Scenario) (f : List ℕ) (w : WorldState) (n : MapId) (l : Loan) → Flatness sc f w → (book_of w).loan n ≡ Some l → IsLoan w n l
 loan_is sc f w n l flat e =
@@ -132,28 +131,78 @@ loan_is sc f w n l flat e =
     let some = some_by d.fixed n (find (is_entry_of n) d.lots) l e in
     let lot = some.0 in
     let it = found (λ (x : Lot). In x d.lots) (is_entry_of n) d.lots lot (all_in (λ (x : Lot). In x d.lots) d.lots (λ x k. k)) some.1 in
-    let is = lot_direct sc f w n.hart.0 lot flat it.is in
-    let named = named_by n lot is it.passes in
-    let entry = entry_at lot n is named.number in
+    let named = named_by n lot it.passes in
+    let first = lot_first sc f w n.hart.0 lot flat it.is in
+    let kind = (lot_of sc f w n.hart.0 lot flat it.is).kind in
+    let less : n.entry < length lot.list.entries = omega (arith, first, named.below) in
+    let entry = slice_index_or lot.list.entries n.entry no_entry in
+    let at : slice_index_or lot.list.entries (n.entry - lot.id.first) no_entry ≡ entry = let k : n.entry - lot.id.first ≡ n.entry = omega (arith, first) in ap (λ (j : ℕ). slice_index_or lot.list.entries j no_entry) k in
     record {
       hart = hart_of_lot w n.hart.0 lot flat.world.holds it.is;
       lot = lot;
-      here = it.is;
-      is = is;
+      i = n.entry;
+      entry = entry;
+      here = record { lot_in = it.is; entry = slice_get-get_or lot.list.entries n.entry no_entry less };
+      kind = kind;
+      first = first;
       label = named.label;
-      number = named.number;
+      number = refl;
+      name = let label = sym named.label in let entry : n.entry ≡ lot.id.first + n.entry = omega (arith, first) in λ i. record { hart = n.hart; label = record { 0 = label i }; entry = entry i };
       lent = named.lent;
       loan = some.2;
       lot_is = ap (λ (k : Loan). k.lot) some.2;
-      area = ap (λ (k : Loan). k.area) some.2 ∙ ap is_area is.kind;
-      buffer = ap (λ (k : Loan). k.grant.buffer) some.2 ∙ ap (λ (e : Entry). e.span) entry;
-      device = ap (λ (k : Loan). k.grant.device) some.2 ∙ ap (sg.device d.fixed.slots_at) entry ∙ device_is d.fixed.slots_at is.entry is.bounced;
+      area = ap (λ (k : Loan). k.area) some.2 ∙ mapping_area lot.kind kind;
+      buffer = ap (λ (k : Loan). k.grant.buffer) some.2 ∙ ap (λ (e : Entry). e.span) at;
+      device = ap (λ (k : Loan). k.grant.device) some.2 ∙ ap (sg.device d.fixed.slots_at) at;
       dir = ap (λ (k : Loan). k.grant.dir) some.2;
       chan = ap (λ (k : Loan). k.grant.chan) some.2;
     }
 
--- the channel sees its places as they are
-pub device_same : (w : WorldState) (n : MapId) (l : Loan) (x : ℕ) → IsLoan w n l → covers l.grant.buffer x ≡ true → device_place l x ≡ x
-device_same w n l x is on =
-    let at : l.grant.device.at ≡ l.grant.buffer.at = ap (λ (s : Span). s.at) (is.device ∙ sym is.buffer) in
-    omega (arith, at, covers-low l.grant.buffer x on)
+-- ---- the mapping that an entry is
+
+unwanted : (b : Bool) → b ≡ false → not b ≡ true
+unwanted true e = absurd (false≢true (sym e))
+unwanted false e = refl
+
+entry_named : (h : ℕ) (lot : Lot) (i : ℕ) → i < length lot.list.entries → is_wanted lot.side ≡ false → is_entry_of (map_id (hart h) lot.id i) lot ≡ true
+entry_named h lot i lt lent =
+    let label : (lot.id.label.0 == lot.id.label.0) ≡ true = grind (arith, nat_tests) in
+    let low : nat_le lot.id.first (lot.id.first + i) ≡ true = grind (arith, nat_tests) in
+    let high : nat_lt (lot.id.first + i) (lot.id.first + length lot.list.entries) ≡ true = grind (arith, nat_tests) in
+    and_from (not (is_wanted lot.side)) (lot.id.label.0 == lot.id.label.0 && (nat_le lot.id.first (lot.id.first + i) && nat_lt (lot.id.first + i) (lot.id.first + length lot.list.entries))) (unwanted (is_wanted lot.side) lent)
+    (and_from (lot.id.label.0 == lot.id.label.0) (nat_le lot.id.first (lot.id.first + i) && nat_lt (lot.id.first + i) (lot.id.first + length lot.list.entries)) label
+    (and_from (nat_le lot.id.first (lot.id.first + i)) (nat_lt (lot.id.first + i) (lot.id.first + length lot.list.entries)) low high))
+
+find_by : (p : Lot → Bool) (lot x : Lot) (o : Option Lot) (t : Bool) → p x ≡ t → (p x ≡ true → x ≡ lot) → (p x ≡ false → o ≡ Some lot) → cond t (Some x) o ≡ Some lot
+find_by p lot x o true e same more = ap Some (same e)
+find_by p lot x o false e same more = more e
+
+find_only : (p : Lot → Bool) (lots : List Lot) (lot : Lot) → In lot lots → p lot ≡ true → ((other : Lot) → In other lots → p other ≡ true → other ≡ lot) → find p lots ≡ Some lot
+find_only p [] lot here is alone = elim here [ ]
+find_only p (x ∷ lots) lot (inl same) is alone = find_by p lot x (find p lots) (p x) refl (λ e. same) (λ off. absurd (false≢true (sym off ∙ ap p same ∙ is)))
+find_only p (x ∷ lots) lot (inr here) is alone =
+    find_by p lot x (find p lots) (p x) refl (λ e. alone x (inl refl) e) (λ off. find_only p lots lot here is (λ other k e. alone other (inr k) e))
+
+-- a number of an entry is less than how many there are
+pub get_below : {X : Type 0} (xs : List X) (i : ℕ) (x : X) → slice_get xs i ≡ Some x → i < length xs
+get_below xs i x e = elim (cases_lt i (length xs)) [
+  | inl lt ↦ lt
+  | inr past ↦ let none = sym (slice_get_past xs i past) ∙ e in absurd (cc)
+]
+
+-- the loan of an entry of a lot that is not wanted
+pub entry_loan : (sc : Scenario) (f : List ℕ) (w : WorldState) (h : ℕ) (lot : Lot) (i : ℕ) (e : Entry) → Flatness sc f w → IsEntryOf (driver_of w h).lots lot i e → is_wanted lot.side ≡ false
+    → (book_of w).loan (map_id (hart h) lot.id i) ≡ Some (record { grant = grant_of (driver_of w h).fixed.slots_at lot (map_id (hart h) lot.id i) e; lot = lot.id; area = false })
+entry_loan sc f w h lot i e flat here lent =
+    let d = driver_of w h in
+    let n = map_id (hart h) lot.id i in
+    let alone : (other : Lot) → In other d.lots → is_entry_of n other ≡ true → other ≡ lot = λ other k t. one_lot sc f w h other lot flat k here.lot_in (named_by n other t).label in
+    let one : find (is_entry_of n) d.lots ≡ Some lot = find_only (is_entry_of n) d.lots lot here.lot_in (entry_named h lot i (get_below lot.list.entries i e here.entry) lent) alone in
+    let number : (lot.id.first + i) - lot.id.first ≡ i = omega arith in
+    let entry : slice_index_or lot.list.entries ((lot.id.first + i) - lot.id.first) no_entry ≡ e =
+    ap (λ (j : ℕ). slice_index_or lot.list.entries j no_entry) number ∙ get_or_from_slice_get lot.list.entries i e no_entry here.entry in
+    let area = mapping_area lot.kind (lot_of sc f w h lot flat here.lot_in).kind in
+    ap (option_map (loan_by d.fixed n)) one ∙ ap (λ (c : Entry). Some (loan_with c (is_area lot.kind))) entry ∙ ap (λ (t : Bool). Some (loan_with e t)) area
+  where
+    loan_with : Entry → Bool → Loan
+    loan_with c t = record { grant = grant_of (driver_of w h).fixed.slots_at lot (map_id (hart h) lot.id i) c; lot = lot.id; area = t }

@@ -10,7 +10,7 @@ use Rattle.nc_model.specs.declared.owners.Owner.{Owner}
 use Rattle.nc_own.specs.Books.{owner_in, transferred}
 use Rattle.nc_own.proofs.Follows.{owner_in-transferred}
 use Rattle.nc_scen.specs.Accepted.{IsAccepted}
-use Rattle.nc_scen.specs.Regions.{IsIn, pool_of}
+use Rattle.nc_scen.specs.Regions.{IsIn, slots_of, pool_of}
 use Rattle.nc_scen.specs.declared.scenario.BufferSpec.{BufferSpec}
 use Rattle.nc_scen.specs.declared.scenario.Scenario.{Scenario}
 
@@ -32,6 +32,9 @@ off_by a b x apart here = elim (cases_Bool (covers a x)) [ inl over ↦ absurd (
 
 pub pool_off : (sc : Scenario) (b x : ℕ) → IsAccepted sc → b < length sc.buffers → covers (pool_of sc) x ≡ true → covers (buffer_at sc b) x ≡ false
 pool_off sc b x a lt over = off_by (buffer_at sc b) (pool_of sc) x (a.buffers_off_pool b no_buffer lt x) (covers_in (pool_of sc) x over)
+
+pub slots_off : (sc : Scenario) (b x : ℕ) → IsAccepted sc → b < length sc.buffers → covers (slots_of sc) x ≡ true → covers (buffer_at sc b) x ≡ false
+slots_off sc b x a lt over = off_by (buffer_at sc b) (slots_of sc) x (a.buffers_off_slots b no_buffer lt x) (covers_in (slots_of sc) x over)
 
 -- ---- owners after a transfer
 

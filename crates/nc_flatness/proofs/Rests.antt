@@ -1,88 +1,89 @@
--- What the rest of a plan has and has not: no store of a last load's bytes, and so no last load is to be kept.
-use Rattle.std.proofs.Common.{◌≡◌, ℕ, ◌<◌, ◌≤◌, cond, Bool, true, false, List, [], ◌∷◌, ◌++◌, flat_map, length, refl, sym, ap, ◌∙◌, inl, inr, arith, Option, Some, None}
-use Rattle.std.specs.Prelude.{All}
-use Rattle.std.proofs.lemmas.Bool.{cases_lt}
+-- What the rest of a plan is still to do: the end of each lot that is not still, and a store of a last load's bytes as it
+-- comes next.
+use Rattle.std.proofs.Common.{◌≡◌, ℕ, ◌≤◌, Bool, true, false, List, [], ◌∷◌, length, refl, sym, ap, ◌∙◌, inl, inr, Option, Some, None}
+use Rattle.std.specs.Prelude.{not, ◌||◌}
+use Rattle.std.specs.List.{list_any}
+use Rattle.std.proofs.lemmas.Bool.{or_parts}
 use Rattle.std.proofs.lemmas.List.{get_or_past}
-use Rattle.std.proofs.lemmas.List.Elements.{All-head}
 use Rattle.nc_num.specs.declared.names.HartNo.{HartNo}
-use Rattle.nc_num.specs.declared.names.Label.{Label}
-use Rattle.nc_num.specs.declared.places.Block.{Block}
 use Rattle.nc_num.specs.declared.places.Span.{Span}
-use Rattle.nc_env.specs.declared.CboOp.{CboOp}
-use Rattle.nc_plan.specs.Parts.{comes_back}
-use Rattle.nc_plan.specs.Plans.{In, full, blocks, cbos, lend_op, return_op, written_back, dropped}
-use Rattle.nc_plan.specs.declared.effects.Effects.{Effects}
-use Rattle.nc_plan.specs.declared.ops.HartOp.{HartOp}
-use Rattle.nc_plan.specs.declared.ops.HartOp.TheVariants as hart_ops
-use Rattle.nc_plan.specs.declared.parts.Part.{Part}
+use Rattle.nc_plan.specs.Plans.{In, moved}
 use Rattle.nc_ops.specs.declared.ops.Op.{Op}
 use Rattle.nc_ops.specs.declared.ops.Op.TheVariants as ops
-use Rattle.nc_rules.specs.declared.steps.Phase.{Phase}
-use Rattle.nc_rules.specs.declared.steps.Phase.TheVariants.{Steps, Search, Work}
+use Rattle.nc_rules.specs.declared.lots.Lot.{Lot}
 use Rattle.nc_rules.specs.declared.lots.LotId.{LotId}
 use Rattle.nc_rules.specs.declared.lots.Side.{Side}
 use Rattle.nc_rules.specs.declared.lots.Side.TheVariants as sides
+use Rattle.nc_rules.specs.declared.steps.Phase.{Phase}
+use Rattle.nc_rules.specs.declared.steps.Phase.TheVariants.{Steps, Search, Work}
+use Rattle.nc_rules.specs.declared.steps.Step.{Step}
 use Rattle.nc_rules.specs.declared.steps.Turn.{Turn}
 use Rattle.nc_rules.specs.declared.steps.Turn.TheVariants as turns
 use Rattle.nc_rules.specs.Driver.{DriverState, in_hand}
-use Rattle.nc_rules.specs.Lots.{parts}
-use Rattle.nc_rules.specs.Plans.{hart_step, op_steps, turning}
+use Rattle.nc_rules.specs.Lots.{Fixed, is_lot}
+use Rattle.nc_rules.specs.Turns.{with_side, set_side, lots_after}
 use Rattle.nc_rules.specs.World.{WorldState, no_driver, driver_of}
-use Rattle.nc_scripts.proofs.Lists.{all_to}
-use Rattle.nc_holds.proofs.ListsA.{of_map, of_flat_map}
+use Rattle.nc_holds.proofs.ListsA.{all_at, in_filter, same_some}
 use Rattle.nc_holds.specs.Rests.{RestAt}
-use Rattle.nc_rows.specs.Rows.{Book}
-use Rattle.nc_rows.specs.Parts.{op_last, rest_last, LastIs, Lasts}
-use Rattle.nc_rules.specs.Machine.{MachineState, hart_of}
-use Rattle.nc_flatness.specs.Books.{book_of}
-use Rattle.nc_flatness.specs.Flatness.{IsHanding, IsPlanOf, PlanIs, PlanOf, StandsAt, Drives}
+use Rattle.nc_rows.specs.Ahead.{turns_lot, ends}
+use Rattle.nc_rows.specs.Parts.{act_last, rest_last}
+use Rattle.nc_flatness.specs.Flatness.{IsHanding, PlanIs, PlanOf, StandsAt, Drives}
+use Rattle.nc_flatness.specs.Plans.{IsStill, IsStore, StepGoes, Loads, Stores, WritesBack, Drops, Gives, Fences, Ends, PlanGoes}
 
--- ---- the operations of a plan
+-- ---- the end of a lot
 
--- a cache operation
-abbrev pub IsCacheOp : HartOp → Type 0
-IsCacheOp op = (kind : CboOp) × (block : Block) × (op ≡ hart_ops.Cbo kind block)
+kept_in : (side : Side) (id : LotId) (lots : List Lot) (lot : Lot) → is_lot id lot ≡ false → In lot lots → In lot (set_side side id lots)
+kept_in side id [] lot off k = elim k [ ]
+kept_in side id (l ∷ lots) lot off (inl e) = inl (ap (with_side side id) e ∙ (rw off refl))
+kept_in side id (l ∷ lots) lot off (inr k) = inr (kept_in side id lots lot off k)
 
-one_of : (kind : CboOp) (size : ℕ) (span : Span) (op : HartOp) → In op (cbos kind size span) → IsCacheOp op
-one_of kind size span op k =
-    let from = of_map (λ (b : ℕ). hart_ops.Cbo kind (record { 0 = b })) op (blocks size span) k in
-    (kind, record { 0 = from.0 }, sym from.2)
+-- a lot that a turn is not of is there behind it
+pub stays_in : (t : Turn) (lots : List Lot) (lot : Lot) → turns_lot lot.id t ≡ false → In lot lots → In lot (lots_after t lots)
+stays_in turns.Stay lots lot off here = here
+stays_in (turns.Pass range to) lots lot off here = here
+stays_in (turns.Own range) lots lot off here = here
+stays_in (turns.Lend id) lots lot off here = kept_in sides.Lending id lots lot off here
+stays_in (turns.Give id) lots lot off here = kept_in sides.Device id lots lot off here
+stays_in (turns.Return id) lots lot off here = kept_in sides.Returning id lots lot off here
+stays_in (turns.Sync id) lots lot off here = kept_in sides.Synced id lots lot off here
+stays_in (turns.Settle id) lots lot off here = kept_in sides.Own id lots lot off here
+stays_in (turns.End id) lots lot off here = in_filter (λ (l : Lot). not (is_lot id l)) lot lots here (ap not off)
 
-written_op : (e : Effects) (size : ℕ) (p : Part) (op : HartOp) → In op (written_back e size p) → IsCacheOp op
-unfolding written_back
-written_op e size p op k = one_of (lend_op e p.dir) size p.device op k
+later_by : (a b : Bool) → (a ≡ false → b ≡ true) → (a || b) ≡ true
+later_by true b more = refl
+later_by false b more = more refl
 
-dropped_by : (e : Effects) (size : ℕ) (p : Part) (op : HartOp) (t : Bool) → In op (cond t (cbos (return_op e) size p.device) []) → IsCacheOp op
-dropped_by e size p op true k = one_of (return_op e) size p.device op k
-dropped_by e size p op false k = elim k [ ]
+-- a lot that is not still has its end in the rest
+pub ends_later : (f : Fixed) (lots : List Lot) (rest : List Step) (lot : Lot) → PlanGoes f lots rest → In lot lots → (IsStill lot → ⊥) → list_any (ends lot.id) rest ≡ true
+ends_later f lots [] lot goes here moves = absurd (moves (all_at IsStill lots lot goes here))
+ends_later f lots (s ∷ rest) lot goes here moves =
+    later_by (ends lot.id s) (list_any (ends lot.id) rest) (λ off. ends_later f (lots_after s.last lots) rest lot goes.1 (stays_in s.last lots lot (or_parts (turns_lot lot.id s.last) _ off).0 here) moves)
 
-dropped_op : (e : Effects) (size : ℕ) (p : Part) (op : HartOp) → In op (dropped e size p) → IsCacheOp op
-unfolding dropped
-dropped_op e size p op k = dropped_by e size p op (comes_back p.dir) k
+-- ---- a store of a last load's bytes
 
-part_op : (each : Part → List HartOp) (ps : List Part) (op : HartOp) → ((p : Part) (op : HartOp) → In op (each p) → IsCacheOp op) → In op (flat_map each ps) → IsCacheOp op
-part_op each ps op h k = let from = of_flat_map each op ps k in h from.0 op from.2
+-- the step that comes next is one, of a piece
+pub record IsNextStore (f : Fixed) (lots : List Lot) (span : Span) : Type 0 where
+  pub step : Step
+  pub rest : List Step
+  pub is : IsStore f lots step rest
+  pub span_is : span ≡ moved is.from.at is.to.at is.span
 
-pub cache_ops : (d : DriverState) (label : Label) (side : Side) (each : Effects → ℕ → Part → List HartOp) (turn : LotId → Turn) → ((p : Part) (op : HartOp) → In op (each d.fixed.effects d.fixed.size p) → IsCacheOp op) → (is : IsPlanOf d label side each turn)
-    → All IsCacheOp is.ops
-cache_ops d label side each turn h is =
-    all_to (λ (op : HartOp). In op (flat_map (each d.fixed.effects d.fixed.size) (parts d.fixed is.lot))) IsCacheOp is.ops is.each_is
-    (λ op k. part_op (each d.fixed.effects d.fixed.size) (parts d.fixed is.lot) op h k)
+none_some : {A : Type 0} (o : Option A) (a : A) → o ≡ None → o ≡ Some a → ⊥
+none_some o a none some = let both = sym none ∙ some in absurd (cc)
 
-pub lending_ops : (d : DriverState) (label : Label) (is : IsPlanOf d label sides.Lending written_back turns.Give) → All IsCacheOp is.ops
-lending_ops d label is = cache_ops d label sides.Lending written_back turns.Give (λ p op k. written_op d.fixed.effects d.fixed.size p op k) is
+store_of : (f : Fixed) (lots : List Lot) (s : Step) (rest : List Step) (span : Span) → StepGoes f lots s rest → act_last s.act ≡ Some span → IsNextStore f lots span
+store_of f lots s rest span (Loads is) e = absurd (none_some (act_last s.act) span (ap (λ (t : Step). act_last t.act) is.step) e)
+store_of f lots s rest span (Stores is) e =
+    record { step = s; rest = rest; is = is; span_is = same_some span (moved is.from.at is.to.at is.span) (sym e ∙ ap act_last is.act) }
+store_of f lots s rest span (WritesBack is) e = absurd (none_some (act_last s.act) span (ap (λ (t : Step). act_last t.act) is.step) e)
+store_of f lots s rest span (Drops is) e = absurd (none_some (act_last s.act) span (ap (λ (t : Step). act_last t.act) is.step) e)
+store_of f lots s rest span (Gives is) e = absurd (none_some (act_last s.act) span (ap (λ (t : Step). act_last t.act) is.step) e)
+store_of f lots s rest span (Fences is) e = absurd (none_some (act_last s.act) span (ap (λ (t : Step). act_last t.act) is.step) e)
+store_of f lots s rest span (Ends is) e = absurd (none_some (act_last s.act) span (ap (λ (t : Step). act_last t.act) is.step) e)
 
-pub returning_ops : (d : DriverState) (label : Label) (turn : LotId → Turn) (is : IsPlanOf d label sides.Returning dropped turn) → All IsCacheOp is.ops
-returning_ops d label turn is = cache_ops d label sides.Returning dropped turn (λ p op k. dropped_op d.fixed.effects d.fixed.size p op k) is
-
--- ---- no store of a last load's bytes comes next
-
-last_by : (op : HartOp) → IsCacheOp op → op_last op ≡ None
-last_by op is = ap op_last is.2
-
-last_of : (ops : List HartOp) (turn : Turn) → All IsCacheOp ops → rest_last (op_steps ops ++ turning turn (hart_step full) ∷ []) ≡ None
-last_of [] turn all = refl
-last_of (op ∷ ops) turn all = last_by op (All-head IsCacheOp op ops all)
+goes_store : (f : Fixed) (lots : List Lot) (rest : List Step) (span : Span) → PlanGoes f lots rest → rest_last rest ≡ Some span → IsNextStore f lots span
+goes_store f lots [] span goes e = absurd (cc)
+goes_store f lots (s ∷ rest) span goes e = store_of f lots s rest span goes.0 e
 
 hand_last : (d : DriverState) (buf : ℕ) (to : HartNo) → IsHanding d buf to → rest_last d.rest ≡ None
 hand_last d buf to is = elim is.left [
@@ -90,64 +91,44 @@ hand_last d buf to is = elim is.left [
   | inr e ↦ ap rest_last e
 ]
 
-lend_last : (d : DriverState) (label : Label) → IsPlanOf d label sides.Lending written_back turns.Give → rest_last d.rest ≡ None
-lend_last d label is = ap rest_last is.left ∙ last_of is.ops (turns.Give is.lot.id) (lending_ops d label is)
+op_store : (d : DriverState) (o : Op) (span : Span) → PlanIs d o → rest_last d.rest ≡ Some span → IsNextStore d.fixed d.lots span
+op_store d (ops.Hand buf to) span is e = absurd (none_some (rest_last d.rest) span (hand_last d buf to is) e)
+op_store d (ops.Map label buf off len dir chan) span is e = goes_store d.fixed d.lots d.rest span is e
+op_store d (ops.Unmap label) span is e = goes_store d.fixed d.lots d.rest span is e
+op_store d (ops.ToCpu label) span is e = goes_store d.fixed d.lots d.rest span is e
+op_store d (ops.ToDev label) span is e = goes_store d.fixed d.lots d.rest span is e
+op_store d (ops.MapSg label entries dir chan) span is e = goes_store d.fixed d.lots d.rest span is e
+op_store d (ops.UnmapSg label count) span is e = goes_store d.fixed d.lots d.rest span is e
+op_store d (ops.Ld spot off len) span is e = absurd is
+op_store d (ops.St spot off bytes) span is e = absurd is
+op_store d (ops.Cbo op buf off) span is e = absurd is
+op_store d (ops.Fence pred succ) span is e = absurd is
+op_store d (ops.Take buf) span is e = absurd is
+op_store d (ops.Claim chan) span is e = absurd is
+op_store d (ops.Free chan) span is e = absurd is
+op_store d (ops.Regs chan src dst len cfg) span is e = absurd is
+op_store d (ops.Run chan) span is e = absurd is
+op_store d (ops.Poll chan) span is e = absurd is
+op_store d (ops.Regr chan off width) span is e = absurd is
+op_store d (ops.Regw chan off width value) span is e = absurd is
+op_store d (ops.Calloc label pages chan) span is e = absurd is
+op_store d (ops.Cgive label) span is e = absurd is
+op_store d (ops.Ctake label) span is e = absurd is
+op_store d (ops.Cfree label) span is e = absurd is
+op_store d (ops.Copy chan src src_off dst dst_off len cfg) span is e = absurd is
 
-back_last : (d : DriverState) (label : Label) (turn : LotId → Turn) → IsPlanOf d label sides.Returning dropped turn → rest_last d.rest ≡ None
-back_last d label turn is = ap rest_last is.left ∙ last_of is.ops (turn is.lot.id) (returning_ops d label turn is)
+hand_store : (d : DriverState) (o : Option Op) (span : Span) → PlanOf d o → rest_last d.rest ≡ Some span → IsNextStore d.fixed d.lots span
+hand_store d None span is e = absurd is
+hand_store d (Some o) span is e = op_store d o span is e
 
-op_rest : (d : DriverState) (o : Op) → PlanIs d o → rest_last d.rest ≡ None
-op_rest d (ops.Hand buf to) is = hand_last d buf to is
-op_rest d (ops.Map label buf off len dir chan) is = lend_last d label is
-op_rest d (ops.ToDev label) is = lend_last d label is
-op_rest d (ops.Unmap label) is = back_last d label turns.End is
-op_rest d (ops.ToCpu label) is = back_last d label turns.Sync is
-op_rest d (ops.Ld spot off len) is = absurd is
-op_rest d (ops.St spot off bytes) is = absurd is
-op_rest d (ops.Cbo op buf off) is = absurd is
-op_rest d (ops.Fence pred succ) is = absurd is
-op_rest d (ops.Take buf) is = absurd is
-op_rest d (ops.Claim chan) is = absurd is
-op_rest d (ops.Free chan) is = absurd is
-op_rest d (ops.Regs chan src dst len cfg) is = absurd is
-op_rest d (ops.Run chan) is = absurd is
-op_rest d (ops.Poll chan) is = absurd is
-op_rest d (ops.Regr chan off width) is = absurd is
-op_rest d (ops.Regw chan off width value) is = absurd is
-op_rest d (ops.MapSg label entries dir chan) is = absurd is
-op_rest d (ops.UnmapSg label count) is = absurd is
-op_rest d (ops.Calloc label pages chan) is = absurd is
-op_rest d (ops.Cgive label) is = absurd is
-op_rest d (ops.Ctake label) is = absurd is
-op_rest d (ops.Cfree label) is = absurd is
-op_rest d (ops.Copy chan src src_off dst dst_off len cfg) is = absurd is
+phase_store : (d : DriverState) (p : Phase) (span : Span) → StandsAt d p → RestAt p d.rest → rest_last d.rest ≡ Some span → IsNextStore d.fixed d.lots span
+phase_store d (Steps n) span is none e = absurd (none_some (rest_last d.rest) span (ap rest_last none) e)
+phase_store d (Search k) span is none e = absurd (none_some (rest_last d.rest) span (ap rest_last none) e)
+phase_store d Work span is none e = hand_store d (in_hand d) span is e
 
-hand_rest : (d : DriverState) (o : Option Op) → PlanOf d o → rest_last d.rest ≡ None
-hand_rest d None is = absurd is
-hand_rest d (Some o) is = op_rest d o is
+pub next_store : (d : DriverState) (span : Span) → Drives d → rest_last d.rest ≡ Some span → IsNextStore d.fixed d.lots span
+next_store d span is e = phase_store d d.phase span is.stands is.idle e
 
-phase_rest : (d : DriverState) (p : Phase) → StandsAt d p → RestAt p d.rest → rest_last d.rest ≡ None
-phase_rest d (Steps n) is none = ap rest_last none
-phase_rest d (Search k) is none = absurd is
-phase_rest d Work is none = hand_rest d (in_hand d) is
-
-pub no_last : (d : DriverState) → Drives d → rest_last d.rest ≡ None
-no_last d is = phase_rest d d.phase is.stands is.idle
-
-no_driver_rest : (w : WorldState) (h : ℕ) → length w.drivers ≤ h → (driver_of w h).rest ≡ []
-no_driver_rest w h past = ap (λ (d : DriverState). d.rest) (get_or_past w.drivers h no_driver past)
-
--- of no hart
-pub none_last : (w : WorldState) (n h : ℕ) → length w.drivers ≡ n → ((h : ℕ) → h < n → Drives (driver_of w h)) → rest_last (driver_of w h).rest ≡ None
-none_last w n h count drives = elim (cases_lt h n) [
-  | inl lt ↦ no_last (driver_of w h) (drives h lt)
-  | inr past ↦ ap rest_last (no_driver_rest w h (omega (arith, count, past)))
-]
-
-last_is : (a : Book) (f : List ℕ) (h : ℕ) (bytes : List ℕ) (o : Option Span) → o ≡ None → LastIs a f h bytes o
-last_is a f h bytes None e = tt
-last_is a f h bytes (Some s) e = absurd (cc)
-
--- so no last load is to be kept
-pub lasts_of : (f : List ℕ) (w : WorldState) (m : MachineState) (n : ℕ) → length w.drivers ≡ n → ((h : ℕ) → h < n → Drives (driver_of w h)) → Lasts (book_of w) f m
-lasts_of f w m n count drives h = last_is (book_of w) f h (hart_of m h).last (rest_last (driver_of w h).rest) (none_last w n h count drives)
+-- a hart that is not there has none
+pub no_rest : (w : WorldState) (h : ℕ) → length w.drivers ≤ h → (driver_of w h).rest ≡ []
+no_rest w h past = ap (λ (d : DriverState). d.rest) (get_or_past w.drivers h no_driver past)

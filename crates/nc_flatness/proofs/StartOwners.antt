@@ -1,6 +1,6 @@
 -- Who owns each place at the start.
-use Rattle.std.specs.Prelude.{true, false, slice_index_or, replicate}
-use Rattle.std.proofs.Common.{◌≡◌, ℕ, zero, suc, ◌<◌, List, [], ◌∷◌, length, refl, sym, ◌∙◌, inl, inr, arith, subst}
+use Rattle.std.specs.Prelude.{false, slice_index_or, replicate}
+use Rattle.std.proofs.Common.{◌≡◌, ℕ, suc, ◌<◌, List, [], ◌∷◌, length, refl, sym, ◌∙◌, inl, inr, arith, subst}
 use Rattle.std.proofs.lemmas.Bool.{cases_Bool}
 use Rattle.nc_num.specs.Places.{covers}
 use Rattle.nc_model.specs.declared.owners.Owner.{Owner}
@@ -16,26 +16,12 @@ use Rattle.nc_flatness.proofs.Regions.{moved_in, moved_out}
 abbrev pub nth : List BufferSpec → ℕ → BufferSpec
 nth bs i = slice_index_or bs i no_buffer
 
-pub length-owned : (os : List Owner) (bs : List BufferSpec) → length (owned_by_harts os bs) ≡ length os
-length-owned os [] = refl
-length-owned os (b ∷ bs) = length-owned (transferred os b.span (Thread b.owner)) bs ∙ length-transferred os b.span (Thread b.owner)
-
 -- a place of no buffer keeps its owner
 pub owner_elsewhere : (os : List Owner) (bs : List BufferSpec) (x : ℕ) → x < length os → ((i : ℕ) → i < length bs → covers (nth bs i).span x ≡ false) → owner_in (owned_by_harts os bs) x ≡ owner_in os x
 owner_elsewhere os [] x lt off = refl
 owner_elsewhere os (b ∷ bs) x lt off =
     owner_elsewhere (transferred os b.span (Thread b.owner)) bs x (omega (arith, length-transferred os b.span (Thread b.owner), lt)) (λ i less. off (suc i) (omega (arith, less)))
     ∙ moved_out os b.span (Thread b.owner) x lt (off 0 (omega arith))
-
--- a place of a buffer that no later one has is its hart's
-pub owner_here : (os : List Owner) (bs : List BufferSpec) (x i : ℕ) → x < length os → i < length bs → covers (nth bs i).span x ≡ true → ((j : ℕ) → i < j → j < length bs → covers (nth bs j).span x ≡ false)
-    → owner_in (owned_by_harts os bs) x ≡ Thread (nth bs i).owner
-owner_here os [] x i lt less over off = absurd (omega (arith, less))
-owner_here os (b ∷ bs) x zero lt less over off =
-    owner_elsewhere (transferred os b.span (Thread b.owner)) bs x (omega (arith, length-transferred os b.span (Thread b.owner), lt)) (λ i short. off (suc i) (omega arith) (omega (arith, short)))
-    ∙ moved_in os b.span (Thread b.owner) x lt over
-owner_here os (b ∷ bs) x (suc i) lt less over off =
-    owner_here (transferred os b.span (Thread b.owner)) bs x i (omega (arith, length-transferred os b.span (Thread b.owner), lt)) (omega (arith, less)) over (λ j more short. off (suc j) (omega (arith, more)) (omega (arith, short)))
 
 -- only harts and the pool own places
 abbrev pub IsPlainOwner : Owner → Type 0

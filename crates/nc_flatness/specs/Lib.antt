@@ -1,4 +1,5 @@
 pub mod Covered
 pub mod Books
+pub mod Plans
 pub mod Flatness
 pub mod Steps

@@ -1,5 +1,5 @@
 -- What one event does to flat memory, as statements.
-use Rattle.std.specs.Prelude.{ℕ, ◌≡◌, ◌⊎◌, Bool, true, List, ◌∷◌, length, Some}
+use Rattle.std.specs.Prelude.{ℕ, ◌≡◌, ◌⊎◌, Bool, true, false, List, ◌∷◌, length, Some}
 use Rattle.nc_num.specs.declared.names.ChanNo.{ChanNo}
 use Rattle.nc_num.specs.declared.names.HartNo.{HartNo}
 use Rattle.nc_num.specs.declared.places.Block.{Block}
@@ -14,6 +14,7 @@ use Rattle.nc_rules.specs.Flat.{event_marks}
 use Rattle.nc_rules.specs.Next.{next}
 use Rattle.nc_rules.specs.Start.{memory}
 use Rattle.nc_ops.specs.declared.ops.Op.{Op}
+use Rattle.nc_rules.specs.declared.steps.Phase.TheVariants.{Steps, Work}
 use Rattle.nc_rules.specs.Driver.{in_hand}
 use Rattle.nc_rules.specs.World.{WorldState, driver_of, start}
 use Rattle.nc_flatness.specs.Covered.{IsCovered, is_lending}
@@ -67,10 +68,23 @@ pub record MovesAreFlat : Type 0 where
   pub read : (sc : Scenario) (f : List ℕ) (w : WorldState) (chan : ChanNo) → IsNow sc f w (events.ChanRead chan) → Goes sc f w (events.ChanRead chan)
   pub write : (sc : Scenario) (f : List ℕ) (w : WorldState) (chan : ChanNo) → IsNow sc f w (events.ChanWrite chan) → Goes sc f w (events.ChanWrite chan)
 
--- a step of a driver whose operation neither lends nor takes back, and of one whose does
-abbrev pub StepsAreFlat : Bool → Type 0
-StepsAreFlat lends =
-    (sc : Scenario) (f : List ℕ) (w : WorldState) (h : HartNo) (o : Op) → IsNow sc f w (events.Issue h) → in_hand (driver_of w h.0) ≡ Some o → is_lending o ≡ lends
+-- a step of a driver whose operation neither lends nor takes back
+abbrev pub StepsAreFlat : Type 0
+StepsAreFlat =
+    (sc : Scenario) (f : List ℕ) (w : WorldState) (h : HartNo) (o : Op) → IsNow sc f w (events.Issue h) → in_hand (driver_of w h.0) ≡ Some o → is_lending o ≡ false
+    → Goes sc f w (events.Issue h)
+
+-- the start of one that does, and its search for slots
+pub record StartsAreFlat : Type 0 where
+  pub start : (sc : Scenario) (f : List ℕ) (w : WorldState) (h : HartNo) (o : Op) (n : ℕ) → IsNow sc f w (events.Issue h) → in_hand (driver_of w h.0) ≡ Some o → is_lending o ≡ true → (driver_of w h.0).phase ≡ Steps n
+      → Goes sc f w (events.Issue h)
+  pub tried : (sc : Scenario) (f : List ℕ) (w : WorldState) (h : HartNo) → IsNow sc f w (events.Try h) → Goes sc f w (events.Try h)
+  pub told : (sc : Scenario) (f : List ℕ) (w : WorldState) (h : HartNo) (got : Bool) → IsNow sc f w (events.Told h got) → Goes sc f w (events.Told h got)
+
+-- a step of its plan
+abbrev pub PlansAreFlat : Type 0
+PlansAreFlat =
+    (sc : Scenario) (f : List ℕ) (w : WorldState) (h : HartNo) (o : Op) → IsNow sc f w (events.Issue h) → in_hand (driver_of w h.0) ≡ Some o → is_lending o ≡ true → (driver_of w h.0).phase ≡ Work
     → Goes sc f w (events.Issue h)
 
 -- every event

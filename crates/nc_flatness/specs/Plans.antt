@@ -1,0 +1,189 @@
+-- What is left of the plan of a mapping, step by step: what each step is for, and that behind all of them each lot of the
+-- hart is with its channel or synced. This project's own.
+use Rattle.std.specs.Prelude.{ℕ, ◌≡◌, ◌⊎◌, ◌≤◌, ◌+◌, ◌/◌, Bool, true, false, List, [], ◌∷◌, Some, None, All}
+use Rattle.std.specs.List.{list_any}
+use Rattle.nc_num.specs.Places.{covers}
+use Rattle.nc_num.specs.declared.names.MapId.{MapId}
+use Rattle.nc_num.specs.declared.names.MemType.TheVariants.{Pma}
+use Rattle.nc_num.specs.declared.places.Block.{Block}
+use Rattle.nc_num.specs.declared.places.Span.{Span}
+use Rattle.nc_env.specs.declared.CboOp.{CboOp}
+use Rattle.nc_queue.specs.Entries.{writes_back}
+use Rattle.nc_lines.specs.Lines.{gives_at}
+use Rattle.nc_plan.specs.Parts.{comes_back}
+use Rattle.nc_plan.specs.Plans.{In, full, moved}
+use Rattle.nc_plan.specs.declared.ops.HartOp.TheVariants as hart_ops
+use Rattle.nc_plan.specs.declared.ops.Payload.TheVariants.{Last}
+use Rattle.nc_sg.specs.Lists as sg
+use Rattle.nc_sg.specs.declared.list.Entry.{Entry}
+use Rattle.nc_rules.specs.declared.lots.Kind.TheVariants.{Single}
+use Rattle.nc_rules.specs.declared.lots.Lot.{Lot}
+use Rattle.nc_rules.specs.declared.lots.LotId.{LotId}
+use Rattle.nc_rules.specs.declared.lots.Side.{Side}
+use Rattle.nc_rules.specs.declared.lots.Side.TheVariants as sides
+use Rattle.nc_rules.specs.declared.steps.Act.TheVariants as acts
+use Rattle.nc_rules.specs.declared.steps.Step.{Step}
+use Rattle.nc_rules.specs.declared.steps.Turn.{Turn}
+use Rattle.nc_rules.specs.declared.steps.Turn.TheVariants as turns
+use Rattle.nc_rules.specs.Lots.{Fixed, is_lot}
+use Rattle.nc_rules.specs.Plans.{hart_step, turning}
+use Rattle.nc_rules.specs.Turns.{lots_after}
+use Rattle.nc_calls.specs.PlaceLaws.{drops_copies}
+use Rattle.nc_holds.specs.Held.{IsEntryOf}
+use Rattle.nc_rows.specs.Ahead.{coming, is_full}
+use Rattle.nc_rows.specs.Parts.{rest_last}
+
+-- ---- the lots of a hart
+
+-- it is with its channel, or synced: there is no sync of a scatter list
+abbrev pub IsStill : Lot → Type 0
+IsStill lot = (lot.side ≡ sides.Device) ⊎ ((lot.side ≡ sides.Synced) × (lot.kind ≡ Single))
+
+-- the plan is of this lot, which has this side, and each other lot is still
+pub record IsInHand (lots : List Lot) (lot : Lot) (side : Side) : Type 0 where
+  pub here : In lot lots
+  pub side_is : lot.side ≡ side
+  pub others : All (λ other. is_lot lot.id other ≡ false → IsStill other) lots
+
+-- the range by which the channel sees an entry
+abbrev pub device_of : Fixed → Entry → Span
+device_of f e = sg.device f.slots_at e
+
+-- ---- what is to come for a lot, whichever of its mappings is asked for
+
+-- a store of the last load's bytes comes behind its load alone
+abbrev pub LoadsFirst : List Step → Type 0
+LoadsFirst rest = rest_last rest ≡ None
+
+abbrev pub HasFull : LotId → List Step → Bool → Type 0
+HasFull id rest t = (n : MapId) → list_any is_full (coming n id rest) ≡ t
+
+abbrev pub HasByte : Fixed → LotId → List Step → ℕ → Bool → Type 0
+HasByte f id rest x t = (n : MapId) → list_any (gives_at f.size x) (coming n id rest) ≡ t
+
+-- ---- copies
+
+abbrev pub IsWithin : Span → Span → Type 0
+IsWithin span range = (range.at ≤ span.at) × (span.at + span.len ≤ range.at + range.len)
+
+-- a range of the lot goes into its slot before the lot is lent, and comes out of it again behind the full fence
+pub record GoesIn (f : Fixed) (lots : List Lot) (lot : Lot) (e : Entry) (from to : Span) : Type 0 where
+  pub hand : IsInHand lots lot sides.Lending
+  pub from_is : from ≡ e.span
+  pub to_is : to ≡ device_of f e
+
+pub record ComesOut (f : Fixed) (lots : List Lot) (lot : Lot) (e : Entry) (rest : List Step) (from to : Span) : Type 0 where
+  pub hand : IsInHand lots lot sides.Returning
+  pub back : comes_back lot.list.dir ≡ true
+  pub fenced : HasFull lot.id rest false
+  pub from_is : from ≡ device_of f e
+  pub to_is : to ≡ e.span
+
+-- entry i of the lot bounces, and is copied from the first range to the second
+pub record IsCopied (f : Fixed) (lots : List Lot) (rest : List Step) (from to : Span) : Type 0 where
+  pub lot : Lot
+  pub i : ℕ
+  pub entry : Entry
+  pub here : IsEntryOf lots lot i entry
+  pub bounced : entry.bounced ≡ true
+  pub way : GoesIn f lots lot entry from to ⊎ ComesOut f lots lot entry rest from to
+
+-- a piece is loaded, of which the store comes next
+pub record IsLoad (f : Fixed) (lots : List Lot) (s : Step) (rest : List Step) : Type 0 where
+  pub from : Span
+  pub to : Span
+  pub copied : IsCopied f lots rest from to
+  pub span : Span
+  pub step : s ≡ hart_step (hart_ops.Load span Pma)
+  pub within : IsWithin span from
+  pub next : rest_last rest ≡ Some (moved from.at to.at span)
+
+-- the turn with which a lot has come back
+abbrev pub IsBack : LotId → Turn → Type 0
+IsBack id turn = (turn ≡ turns.Sync id) ⊎ (turn ≡ turns.End id)
+
+-- a piece is stored, and no later store of the plan gives its bytes; with the last piece that comes out the lot is back
+pub record IsStore (f : Fixed) (lots : List Lot) (s : Step) (rest : List Step) : Type 0 where
+  pub from : Span
+  pub to : Span
+  pub copied : IsCopied f lots rest from to
+  pub span : Span
+  pub act : s.act ≡ acts.Op (hart_ops.Store (moved from.at to.at span) Pma Last)
+  pub first : s.first ≡ turns.Stay
+  pub within : IsWithin span from
+  pub once : (y : ℕ) → covers (moved from.at to.at span) y ≡ true → HasByte f copied.lot.id rest y false
+  pub next : LoadsFirst rest
+  pub last : (s.last ≡ turns.Stay) ⊎ (IsBack copied.lot.id s.last × (copied.lot.side ≡ sides.Returning) × (rest ≡ []))
+
+-- ---- cache operations
+
+-- a block is written back before the lot is lent
+pub record IsWriteBack (f : Fixed) (lots : List Lot) (s : Step) (rest : List Step) : Type 0 where
+  pub lot : Lot
+  pub hand : IsInHand lots lot sides.Lending
+  pub op : CboOp
+  pub block : Block
+  pub step : s ≡ hart_step (hart_ops.Cbo op block)
+  pub writes : writes_back op ≡ true
+  pub next : LoadsFirst rest
+
+-- a block that the device may have written is dropped before the full fence
+pub record IsDrop (f : Fixed) (lots : List Lot) (s : Step) (rest : List Step) : Type 0 where
+  pub lot : Lot
+  pub hand : IsInHand lots lot sides.Returning
+  pub back : comes_back lot.list.dir ≡ true
+  pub op : CboOp
+  pub block : Block
+  pub step : s ≡ hart_step (hart_ops.Cbo op block)
+  pub drops : drops_copies op ≡ true
+  pub i : ℕ
+  pub entry : Entry
+  pub here : IsEntryOf lots lot i entry
+  pub place : ℕ
+  pub covered : covers (device_of f entry) place ≡ true
+  pub met : place / f.size ≡ block.0
+  pub ahead : HasFull lot.id rest true
+  pub next : LoadsFirst rest
+
+-- ---- full fences
+
+-- the lot is its channel's
+pub record IsGive (f : Fixed) (lots : List Lot) (s : Step) (rest : List Step) : Type 0 where
+  pub lot : Lot
+  pub hand : IsInHand lots lot sides.Lending
+  pub step : s ≡ turning (turns.Give lot.id) (hart_step full)
+  pub over : rest ≡ []
+
+-- what bounces comes out of its slot behind it
+pub record IsFence (f : Fixed) (lots : List Lot) (s : Step) (rest : List Step) : Type 0 where
+  pub lot : Lot
+  pub hand : IsInHand lots lot sides.Returning
+  pub step : s ≡ hart_step full
+  pub only : HasFull lot.id rest false
+  pub next : LoadsFirst rest
+  pub out : (i : ℕ) (e : Entry) (x : ℕ) → IsEntryOf lots lot i e → e.bounced ≡ true → comes_back lot.list.dir ≡ true → covers e.span x ≡ true → HasByte f lot.id rest x true
+
+-- nothing comes out of a slot, and the lot is back
+pub record IsEnd (f : Fixed) (lots : List Lot) (s : Step) (rest : List Step) : Type 0 where
+  pub lot : Lot
+  pub hand : IsInHand lots lot sides.Returning
+  pub turn : Turn
+  pub is_back : IsBack lot.id turn
+  pub step : s ≡ turning turn (hart_step full)
+  pub over : rest ≡ []
+  pub straight : comes_back lot.list.dir ≡ true → All (λ e. e.bounced ≡ false) lot.list.entries
+
+-- ---- all steps
+
+pub data StepGoes (f : Fixed) (lots : List Lot) (s : Step) (rest : List Step) : Type 0 where
+  Loads : IsLoad f lots s rest → StepGoes f lots s rest
+  Stores : IsStore f lots s rest → StepGoes f lots s rest
+  WritesBack : IsWriteBack f lots s rest → StepGoes f lots s rest
+  Drops : IsDrop f lots s rest → StepGoes f lots s rest
+  Gives : IsGive f lots s rest → StepGoes f lots s rest
+  Fences : IsFence f lots s rest → StepGoes f lots s rest
+  Ends : IsEnd f lots s rest → StepGoes f lots s rest
+
+abbrev pub PlanGoes : Fixed → List Lot → List Step → Type 0
+PlanGoes f lots [] = All IsStill lots
+PlanGoes f lots (s ∷ rest) = StepGoes f lots s rest × PlanGoes f (lots_after s.last lots) rest
