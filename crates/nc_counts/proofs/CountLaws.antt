@@ -38,7 +38,6 @@ record AreBelow (w : WorldState) : Type 0 where
   touches : w.touches ≤ 2 ^ 64 - 1
 
 touched_on : (w : WorldState) (t : Option Touch) → w.touches ≤ 2 ^ 64 - 1 → (touched_by w t).touches ≡ more w.touches (touches_of t)
-unfolding touches_of
 touched_on w None le = omega (arith, le)
 touched_on w (Some t) le = refl
 
@@ -55,11 +54,16 @@ abbrev changed : WorldState → Outcome → WorldState
 changed w o = with_moves (record w { machine = o.machine; drivers = o.drivers; slots = o.slots }) o.moves
 
 done_goes : (w : WorldState) (e : Event) (o : Outcome) → AreBelow w → Tells o → Goes w (counted (after_outcome w o)) (records.Event e ∷ o.records)
-done_goes w e o below tells = record {
-  events = ap one_more (touched_events (changed w o) o.touch) ∙ ap (λ (n : ℕ). more w.events n) (sym (count-cons is_event (records.Event e) o.records ∙ ap (λ (n : ℕ). 1 + n) tells.of_events));
-  touches = touched_on (changed w o) o.touch below.touches ∙ ap (λ (n : ℕ). more w.touches n) (sym (count-cons is_touch (records.Event e) o.records ∙ tells.of_touches));
-  owners = touched_owners (changed w o) o.touch ∙ ap (owners_moved w.owners) (sym tells.of_owners);
-}
+done_goes w e o below tells =
+    let one : count_by is_event (records.Event e ∷ o.records) ≡ 1 + count_by is_event o.records = count-cons is_event (records.Event e) o.records in
+    let none : count_by is_touch (records.Event e ∷ o.records) ≡ 0 + count_by is_touch o.records = count-cons is_touch (records.Event e) o.records in
+    let more_events : 1 ≡ count_by is_event (records.Event e ∷ o.records) = omega (arith, one, tells.of_events) in
+    let more_touches : touches_of o.touch ≡ count_by is_touch (records.Event e ∷ o.records) = omega (arith, none, tells.of_touches) in
+    record {
+      events = ap one_more (touched_events (changed w o) o.touch) ∙ ap (λ (n : ℕ). more w.events n) more_events;
+      touches = touched_on (changed w o) o.touch below.touches ∙ ap (λ (n : ℕ). more w.touches n) more_touches;
+      owners = touched_owners (changed w o) o.touch ∙ ap (owners_moved w.owners) (sym tells.of_owners);
+    }
 
 same_goes : (w : WorldState) → AreBelow w → Goes w w []
 same_goes w below = record { events = omega (arith, below.events); touches = omega (arith, below.touches); owners = refl }
@@ -113,13 +117,15 @@ start_owners : (sc : Scenario) → (start sc).owners ≡ first_owners sc
 unfolding start
 start_owners sc = refl
 
+from_none : (n k : ℕ) → n ≡ 0 → more n k ≡ up_to_end k
+from_none n k e = ap up_to_end (omega (arith, e))
+
 pub counts_always : EachRunIsCounted
 counts_always sc es =
     let goes = run_goes (start sc) es (start_below sc) in
-    record {
-      events = goes.events ∙ ap (λ (n : ℕ). more n (count_by is_event (run.records (start sc) es))) (start_events sc);
-      touches = goes.touches ∙ ap (λ (n : ℕ). more n (count_by is_touch (run.records (start sc) es))) (start_touches sc);
-    }
+    let events : more (start sc).events (count_by is_event (run.records (start sc) es)) ≡ up_to_end (count_by is_event (run.records (start sc) es)) = from_none (start sc).events (count_by is_event (run.records (start sc) es)) (start_events sc) in
+    let touches : more (start sc).touches (count_by is_touch (run.records (start sc) es)) ≡ up_to_end (count_by is_touch (run.records (start sc) es)) = from_none (start sc).touches (count_by is_touch (run.records (start sc) es)) (start_touches sc) in
+    record { events = goes.events ∙ events; touches = goes.touches ∙ touches }
 
 pub owners_always : EachRunTellsOwners
 owners_always sc es =

@@ -96,12 +96,11 @@ plain_calm (r ∷ rs) all = calm_by r rs (All-head (λ (r : Record). is_plain r 
 
 -- ---- touches, and what is moved
 
-pub touches_of : Option Touch → ℕ
+abbrev pub touches_of : Option Touch → ℕ
 touches_of None = 0
 touches_of (Some t) = 1
 
 touch_tells : (t : Option Touch) → Tell (touch_records t) 0 (touches_of t) []
-unfolding touches_of
 touch_tells None = nil_calm
 touch_tells (Some t) = record { of_events = refl; of_touches = refl; of_owners = refl }
 
