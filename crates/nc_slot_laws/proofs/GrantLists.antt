@@ -7,7 +7,7 @@ use Rattle.std.proofs.lemmas.List.Sums.{sum_by-cons}
 use Rattle.nc_num.specs.Places.{covers}
 use Rattle.nc_num.specs.declared.names.HartNo.{HartNo}
 use Rattle.nc_num.specs.declared.names.MapId.{MapId}
-use Rattle.nc_model.specs.Grants.{IsGrants, CanAdd}
+use Rattle.nc_model.specs.Grants.{IsGrants, CanAdd, without}
 use Rattle.nc_model.specs.Rights.{same_map, is_of, has_device}
 use Rattle.nc_model.specs.declared.owners.Grant.{Grant}
 use Rattle.nc_model.specs.declared.touches.Touch.{Touch}
@@ -72,22 +72,22 @@ added ram grants (g ∷ new) is can = added ram (grants ++ g ∷ []) new (grants
 
 ended : (ram : ℕ) (grants : List Grant) (ms : List MapId) → IsGrants ram grants → IsGrants ram (grants_ended grants ms)
 ended ram grants [] is = is
-ended ram grants (m ∷ ms) is = ended ram _ ms (grants-without ram grants m is)
+ended ram grants (m ∷ ms) is = ended ram (without grants m) ms (grants-without ram grants m is)
+
+none_added : (w : WorldState) (e : Event) → mover e ≡ None → CanAddAll (length w.owners) w.grants (outcome w e).moves.grants
+unfolding outcome
+none_added w (events.Issue h) at = absurd (cc)
+none_added w (events.Try h) at = absurd (cc)
+none_added w (events.Told h got) at = absurd (cc)
+none_added w (events.Drain h i) at = absurd (cc)
+none_added w (events.Fill h b) at = tt
+none_added w (events.Evict h b) at = tt
+none_added w (events.ChanRead chan) at = tt
+none_added w (events.ChanWrite chan) at = tt
 
 can_by : (w : WorldState) (e : Event) (o : Option HartNo) → IsEvent w e → mover e ≡ o → CanAddAll (length w.owners) w.grants (outcome w e).moves.grants
 can_by w e (Some h) is at = (moves_may owner_laws w e h is.sound is.holds is.there is.may at).grants
-can_by w e None is at = none e at
-  where
-    none : (e : Event) → mover e ≡ None → CanAddAll (length w.owners) w.grants (outcome w e).moves.grants
-    unfolding outcome
-    none (events.Issue h) at = absurd (cc)
-    none (events.Try h) at = absurd (cc)
-    none (events.Told h got) at = absurd (cc)
-    none (events.Drain h i) at = absurd (cc)
-    none (events.Fill h b) at = tt
-    none (events.Evict h b) at = tt
-    none (events.ChanRead chan) at = tt
-    none (events.ChanWrite chan) at = tt
+can_by w e None is at = none_added w e at
 
 touched_grants : (w : WorldState) (t : Option Touch) → (touched_by w t).grants ≡ w.grants
 touched_grants w None = refl

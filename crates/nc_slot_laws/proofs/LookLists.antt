@@ -1,5 +1,5 @@
 -- Lists of records and of looks.
-use Rattle.std.proofs.Common.{◌≡◌, ℕ, zero, suc, ◌+◌, ◌<◌, ◌≤◌, Bool, true, false, List, [], ◌∷◌, ◌++◌, length, map, flat_map, refl, sym, ap, subst, ◌∙◌, arith, Option, Some, None, length-append, length-map}
+use Rattle.std.proofs.Common.{◌≡◌, ℕ, zero, suc, ◌+◌, ◌<◌, ◌≤◌, Bool, true, false, List, [], ◌∷◌, ◌++◌, length, map, flat_map, refl, sym, ap, subst, ◌∙◌, arith, Option, Some, None, length-append}
 use Rattle.std.specs.Prelude.{All, ◌||◌, ◌-◌, drop, if◌then◌else◌}
 use Rattle.std.specs.List.{list_any, range_with_len}
 use Rattle.std.proofs.lemmas.Bool.{false≢true, or_from, or_parts}
@@ -108,13 +108,13 @@ pub last_append : (before : Option Event) (rs ss : List Record) → last_event b
 last_append before [] ss = refl
 last_append before (r ∷ rs) ss = last_append (later before (event_in r)) rs ss
 
+later_by : (before : Option Event) (rs : List Record) (e : Event) (o : Option Event) → (last_event None rs ≡ Some e → last_event before rs ≡ Some e) → last_event (later None o) rs ≡ Some e → last_event (later before o) rs ≡ Some e
+later_by before rs e None rest is = rest is
+later_by before rs e (Some f) rest is = is
+
 pub last_later : (before : Option Event) (rs : List Record) (e : Event) → last_event None rs ≡ Some e → last_event before rs ≡ Some e
 last_later before [] e is = absurd (cc)
-last_later before (r ∷ rs) e is = by (event_in r) is
-  where
-    by : (o : Option Event) → last_event (later None o) rs ≡ Some e → last_event (later before o) rs ≡ Some e
-    by None is = last_later before rs e is
-    by (Some f) is = is
+last_later before (r ∷ rs) e is = later_by before rs e (event_in r) (λ at. last_later before rs e at) is
 
 pub looks_append : (h : HartNo) (rs ss : List Record) → looks h (rs ++ ss) ≡ looks h rs ++ looks h ss
 looks_append h rs ss = flat_map-append (λ r. look_of h (look_in r)) rs ss
@@ -143,7 +143,7 @@ ends_all xs = record { front = []; is = refl }
 pub ends_more : (h : HartNo) (k : ℕ) (seen : List Look) → EndsIn seen (misses h k) → EndsIn (seen ++ miss h k ∷ []) (misses h (k + 1))
 ends_more h k seen ends = record {
   front = ends.front;
-  is = ap (λ (ls : List Look). ls ++ miss h k ∷ []) ends.is ∙ append_assoc ends.front (misses h k) (miss h k ∷ []) ∙ ap (λ (ls : List Look). ends.front ++ ls) (sym (map-range_with_len_more (miss h) 0 k k refl));
+  is = ap (λ (ls : List Look). ls ++ miss h k ∷ []) ends.is ∙ append_assoc ends.front (misses h k) (miss h k ∷ []) ∙ ap (λ (ls : List Look). ends.front ++ ls) (sym (map-range_with_len_more (miss h) 0 k k (omega arith)));
 }
 
 length-misses : (h : HartNo) (n : ℕ) → length (misses h n) ≡ n
@@ -172,7 +172,7 @@ since_last h seen [] = record { front = []; is = append-nil seen }
 since_last h seen (r ∷ rs) = since_by h seen r rs (is_step h (event_in r)) (λ next. since_last h next rs)
 
 pub ends_on : {A : Type 0} (xs ys zs : List A) → EndsIn xs ys → EndsIn ys zs → EndsIn xs zs
-ends_on xs ys zs a b = record { front = a.front ++ b.front; is = a.is ∙ ap (λ (ls : List A). a.front ++ ls) b.is ∙ sym (append_assoc a.front b.front zs) }
+ends_on {A = A} xs ys zs a b = record { front = a.front ++ b.front; is = a.is ∙ ap (λ (ls : List A). a.front ++ ls) b.is ∙ sym (append_assoc a.front b.front zs) }
 
 -- ---- where an answer stands
 

@@ -1,5 +1,5 @@
 -- Where there are slots, no start and no step of an operation is refused for want of one; and no good answer says so.
-use Rattle.std.proofs.Common.{◌≡◌, ℕ, zero, suc, ◌+◌, ◌<◌, Bool, true, false, List, [], ◌∷◌, length, refl, sym, ap, ◌∙◌, arith, Option, Some, None}
+use Rattle.std.proofs.Common.{◌≡◌, ℕ, zero, suc, ◌+◌, ◌*◌, ◌<◌, Bool, true, false, List, [], ◌∷◌, length, refl, sym, ap, ◌∙◌, arith, Option, Some, None}
 use Rattle.std.specs.Prelude.{◌==◌, ◌&&◌, not, nat_le, if◌then◌else◌, Result, Ok, Err, slice_get, option_map, is_some}
 use Rattle.std.specs.List.{find, list_any}
 use Rattle.std.proofs.lemmas.Bool.{false≢true}
@@ -18,6 +18,9 @@ use Rattle.nc_plan.specs.declared.effects.CboOff.{CboOff}
 use Rattle.nc_plan.specs.declared.effects.Effects.{Effects}
 use Rattle.nc_plan.specs.declared.ops.HartOp.{HartOp}
 use Rattle.nc_plan.specs.Accesses as accesses
+use Rattle.nc_plan.specs.declared.access.At.TheVariants as at
+use Rattle.nc_num.specs.declared.names.MemType.TheVariants.{Pma, Nc}
+use Rattle.nc_sg.specs.Lists.{segments}
 use Rattle.nc_plan.specs.Registers as registers
 use Rattle.nc_pdma_regs.specs.Table.{register_at}
 use Rattle.nc_model.specs.declared.owners.Owner.{Owner}
@@ -38,12 +41,13 @@ use Rattle.nc_rules.specs.declared.answers.Answer.TheVariants as answers
 use Rattle.nc_rules.specs.declared.answers.Refusal.{Refusal}
 use Rattle.nc_rules.specs.declared.answers.Refusal.TheVariants as refusals
 use Rattle.nc_rules.specs.declared.lots.Kind.{Kind}
+use Rattle.nc_rules.specs.declared.lots.Kind.TheVariants as kinds
 use Rattle.nc_rules.specs.declared.lots.Lot.{Lot}
 use Rattle.nc_rules.specs.declared.lots.LotId.{LotId}
 use Rattle.nc_rules.specs.declared.steps.Seen.{Seen}
 use Rattle.nc_rules.specs.declared.steps.Seen.TheVariants as seen
 use Rattle.nc_rules.specs.declared.steps.Step.{Step}
-use Rattle.nc_rules.specs.Lots.{Fixed, lot_named, map_id, some_lot_waits, lot_id}
+use Rattle.nc_rules.specs.Lots.{Fixed, lot_named, map_id, some_lot_waits, lot_id, ranges_lot, only_entry, bus_of_lot}
 use Rattle.nc_rules.specs.Refusals.{◌>>=◌, wanted, some_or, some_bytes, buffer_of, part_of, all_some, ranges_of, unused, named, owned_but, owned, owned_from, legal, planned, lendable, small_enough, slots_there, placeable}
 use Rattle.nc_rules.specs.Accesses as access
 use Rattle.nc_rules.specs.Accesses.{spot_at, piece_step}
@@ -131,9 +135,8 @@ planned_clear (Err off) = refl
 
 -- where there are slots none is wanting at the start
 slots_by : (n : ℕ) (t : Bool) → 0 < n → Clear (wanted refusals.NoSlot (not (t && n == 0)))
-slots_by zero t some = absurd (omega (arith, some))
-slots_by (suc n) true some = refl
-slots_by (suc n) false some = refl
+slots_by n true some = let off : (n == 0) ≡ false = grind (arith, nat_tests) in rw off refl
+slots_by n false some = refl
 
 place_clear : (f : Fixed) (lots : List Lot) → 0 < f.slots → Clear (placeable f lots)
 place_clear f lots some =
@@ -142,13 +145,16 @@ place_clear f lots some =
 
 -- ---- starts
 
+abbrev none : List Lot
+none = []
+
 map_clear : (f : Fixed) (lots : List Lot) (label : Label) (entry : SgEntry) (dir : Dir) (chan : ChanNo) (owners : List Owner) → 0 < f.slots → Clear (map_begin f lots label entry dir chan owners)
 map_clear f lots label entry dir chan owners some =
     then_clear (all_some (entry ∷ [])) _ (all_clear (entry ∷ []))
     (λ _. then_clear (ranges_of f (entry ∷ [])) _ (ranges_clear f (entry ∷ []))
     (λ ranges. then_clear (unused lots label) _ (wanted_clear refusals.LabelUsed _ refl)
     (λ _. then_clear (owned_from f.me (lot_id label 0) 0 owners ranges) _ (from_clear f.me (lot_id label 0) 0 owners ranges)
-    (λ _. then_clear (lendable f.effects dir) _ (planned_clear (effects.needs f.effects dir)) (λ _. place_clear f _ some)))))
+    (λ _. then_clear (lendable f.effects dir) _ (planned_clear (effects.needs f.effects dir)) (λ _. place_clear f (ranges_lot f (lot_id label 0) kinds.Single dir chan ranges ∷ []) some)))))
 
 map_sg_clear : (f : Fixed) (lots : List Lot) (label : Label) (es : List SgEntry) (dir : Dir) (chan : ChanNo) (owners : List Owner) → 0 < f.slots → Clear (map_sg_begin f lots label es dir chan owners)
 map_sg_clear f lots label es dir chan owners some =
@@ -157,7 +163,7 @@ map_sg_clear f lots label es dir chan owners some =
     (λ _. then_clear (ranges_of f es) _ (ranges_clear f es)
     (λ ranges. then_clear (unused lots label) _ (wanted_clear refusals.LabelUsed _ refl)
     (λ _. then_clear (owned_from f.me (lot_id label 0) 0 owners ranges) _ (from_clear f.me (lot_id label 0) 0 owners ranges)
-    (λ _. then_clear (lendable f.effects dir) _ (planned_clear (effects.needs f.effects dir)) (λ _. place_clear f _ some))))))
+    (λ _. then_clear (lendable f.effects dir) _ (planned_clear (effects.needs f.effects dir)) (λ _. place_clear f (ranges_lot f (lot_id label 0) kinds.List dir chan ranges ∷ []) some))))))
 
 copy_clear : (f : Fixed) (src dst : SgEntry) (chan : ChanNo) (owners : List Owner) → 0 < f.slots → Clear (copy_begin f src dst chan owners)
 copy_clear f src dst chan owners some =
@@ -165,7 +171,7 @@ copy_clear f src dst chan owners some =
     (λ _. then_clear (ranges_of f (src ∷ dst ∷ [])) _ (ranges_clear f (src ∷ dst ∷ []))
     (λ ranges. then_clear (owned_from f.me copies.source 0 owners ranges) _ (from_clear f.me copies.source 0 owners ranges)
     (λ _. then_clear (lendable f.effects ToDev) _ (planned_clear (effects.needs f.effects ToDev))
-    (λ _. then_clear (lendable f.effects FromDev) _ (planned_clear (effects.needs f.effects FromDev)) (λ _. place_clear f _ some)))))
+    (λ _. then_clear (lendable f.effects FromDev) _ (planned_clear (effects.needs f.effects FromDev)) (λ _. place_clear f (copies.ends_of f chan ranges) some)))))
 
 calloc_clear : (f : Fixed) (lots : List Lot) (label : Label) (count : ℕ) (chan : ChanNo) (pages : PageMap) → Clear (calloc_begin f lots label count chan pages)
 calloc_clear f lots label count chan pages =
@@ -176,16 +182,17 @@ calloc_clear f lots label count chan pages =
     (λ _. then_clear (some_or refusals.NoPage (lowest_span pages count)) _ (or_clear refusals.NoPage (lowest_span pages count) refl) (λ span. refl)))))
 
 needs_clear : (lots : List Lot) (label : Label) (kind : Kind) → Clear (needs_lot (named lots label kind))
-needs_clear lots label kind = then_clear (named lots label kind) _ (named_clear lots label kind) (λ lot. refl)
+needs_clear lots label kind = then_clear (named lots label kind) (λ lot. Ok none) (named_clear lots label kind) (λ lot. refl)
 
 unmap_sg_clear : (lots : List Lot) (label : Label) (count : ℕ) → Clear (unmap_sg_begin lots label count)
 unmap_sg_clear lots label count =
-    then_clear (named lots label _) _ (named_clear lots label _)
-    (λ lot. then_clear (wanted (refusals.BadCount (length lot.list.entries)) (length lot.list.entries == count)) _ (wanted_clear (refusals.BadCount (length lot.list.entries)) (length lot.list.entries == count) refl) (λ _. refl))
+    then_clear (named lots label kinds.List) _ (named_clear lots label kinds.List)
+    (λ lot. then_clear (wanted (refusals.BadCount (length lot.list.entries)) (length lot.list.entries == count)) (λ _. Ok none) (wanted_clear (refusals.BadCount (length lot.list.entries)) (length lot.list.entries == count) refl) (λ _. refl))
 
 cfree_clear : (f : Fixed) (lots : List Lot) (label : Label) (owners : List Owner) → Clear (cfree_begin f lots label owners)
 cfree_clear f lots label owners =
-    then_clear (named lots label _) _ (named_clear lots label _) (λ lot. then_clear (owned f.me owners _) _ (owned_clear f.me owners _) (λ _. refl))
+    then_clear (named lots label kinds.Area) _ (named_clear lots label kinds.Area)
+    (λ lot. then_clear (owned f.me owners (only_entry lot).span) (λ _. Ok none) (owned_clear f.me owners (only_entry lot).span) (λ _. refl))
 
 pub begin_clear : (f : Fixed) (lots : List Lot) (owners : List Owner) (pages : PageMap) (o : Op) → 0 < f.slots → Clear (begin f lots owners pages o)
 unfolding begin meaning access.load access.store cache_ops.cache_operation cache_ops.fence mappings.map_single mappings.unmap_single mappings.sync_for_cpu mappings.sync_for_device lists.map_sg lists.unmap_sg areas.calloc areas.give_area areas.take_area areas.free_area handing.hand handing.take channels.claim channels.free channels.set_up channels.run channels.poll channels.read_register channels.write_register copies.copy
@@ -194,14 +201,14 @@ begin_clear f lots owners pages (ops.St spot off bytes) some = refl
 begin_clear f lots owners pages (ops.Cbo op buf off) some = refl
 begin_clear f lots owners pages (ops.Fence pred succ) some = refl
 begin_clear f lots owners pages (ops.Map label buf off len dir chan) some = map_clear f lots label (record { buf = buf; off = off; len = len }) dir chan owners some
-begin_clear f lots owners pages (ops.Unmap label) some = needs_clear lots label _
-begin_clear f lots owners pages (ops.ToCpu label) some = needs_clear lots label _
-begin_clear f lots owners pages (ops.ToDev label) some = needs_clear lots label _
+begin_clear f lots owners pages (ops.Unmap label) some = needs_clear lots label kinds.Single
+begin_clear f lots owners pages (ops.ToCpu label) some = needs_clear lots label kinds.Single
+begin_clear f lots owners pages (ops.ToDev label) some = needs_clear lots label kinds.Single
 begin_clear f lots owners pages (ops.MapSg label entries dir chan) some = map_sg_clear f lots label entries dir chan owners some
 begin_clear f lots owners pages (ops.UnmapSg label count) some = unmap_sg_clear lots label count
 begin_clear f lots owners pages (ops.Calloc label count chan) some = calloc_clear f lots label count chan pages
-begin_clear f lots owners pages (ops.Cgive label) some = needs_clear lots label _
-begin_clear f lots owners pages (ops.Ctake label) some = needs_clear lots label _
+begin_clear f lots owners pages (ops.Cgive label) some = needs_clear lots label kinds.Area
+begin_clear f lots owners pages (ops.Ctake label) some = needs_clear lots label kinds.Area
 begin_clear f lots owners pages (ops.Cfree label) some = cfree_clear f lots label owners
 begin_clear f lots owners pages (ops.Hand buf to) some = then_clear (owned f.me owners (buffer_of f buf)) _ (owned_clear f.me owners (buffer_of f buf)) (λ _. refl)
 begin_clear f lots owners pages (ops.Take buf) some = refl
@@ -223,19 +230,20 @@ piece_clear (Err fault) = refl
 
 spot_clear : (f : Fixed) (lots : List Lot) (spot : Spot) (off len : ℕ) → Clear (spot_at f lots spot off len)
 spot_clear f lots (spots.Buffer buf) off len =
-    then_clear (some_bytes len) _ (some_clear len) (λ _. then_clear (part_of (buffer_of f buf) off len) _ (part_clear (buffer_of f buf) off len) (λ range. refl))
+    then_clear (some_bytes len) _ (some_clear len) (λ _. then_clear (part_of (buffer_of f buf) off len) (λ range. Ok (at.Ram range.at Pma)) (part_clear (buffer_of f buf) off len) (λ range. refl))
 spot_clear f lots spots.Virtual off len =
-    then_clear (some_bytes len) _ (some_clear len) (λ _. then_clear (wanted refusals.BadRange _) _ (wanted_clear refusals.BadRange _ refl) (λ _. refl))
+    then_clear (some_bytes len) _ (some_clear len) (λ _. then_clear (wanted refusals.BadRange (nat_le (off + len) (4096 * length f.table))) (λ _. Ok (at.Virtual off)) (wanted_clear refusals.BadRange (nat_le (off + len) (4096 * length f.table)) refl) (λ _. refl))
 spot_clear f lots (spots.Area label) off len =
     then_clear (some_bytes len) _ (some_clear len)
-    (λ _. then_clear (named lots label _) _ (named_clear lots label _) (λ lot. then_clear (part_of _ off len) _ (part_clear _ off len) (λ range. refl)))
+    (λ _. then_clear (named lots label kinds.Area) _ (named_clear lots label kinds.Area) (λ lot. then_clear (part_of (only_entry lot).span off len) (λ range. Ok (at.Ram range.at Nc)) (part_clear (only_entry lot).span off len) (λ range. refl)))
 
 bus_clear : (f : Fixed) (lots : List Lot) (arg : BusArg) → Clear (bus_of f lots arg)
 bus_clear f lots (bus.At n) = refl
-bus_clear f lots (bus.Map label) = then_clear (named lots label _) _ (named_clear lots label _) (λ lot. refl)
+bus_clear f lots (bus.Map label) = then_clear (named lots label kinds.Single) (λ lot. Ok (bus_of_lot f lot)) (named_clear lots label kinds.Single) (λ lot. refl)
 bus_clear f lots (bus.Segment label n) =
-    then_clear (named lots label _) _ (named_clear lots label _) (λ lot. then_clear (some_or refusals.NoLabel _) _ (or_clear refusals.NoLabel _ refl) (λ segment. refl))
-bus_clear f lots (bus.Area label) = then_clear (named lots label _) _ (named_clear lots label _) (λ lot. refl)
+    then_clear (named lots label kinds.List) _ (named_clear lots label kinds.List)
+    (λ lot. then_clear (some_or refusals.NoLabel (slice_get (segments f.slots_at lot.list.entries) n)) (λ segment. Ok segment.bus) (or_clear refusals.NoLabel (slice_get (segments f.slots_at lot.list.entries) n) refl) (λ segment. refl))
+bus_clear f lots (bus.Area label) = then_clear (named lots label kinds.Area) (λ lot. Ok (bus_of_lot f lot)) (named_clear lots label kinds.Area) (λ lot. refl)
 
 known_clear : (off width : ℕ) → Clear (known off width)
 known_clear off width = wanted_clear (refusals.BadMmio off width) (is_some (register_at off width)) refl

@@ -24,7 +24,7 @@ use Rattle.nc_rules.specs.declared.records.Record.TheVariants as records
 use Rattle.nc_rules.specs.declared.steps.Next.{Next}
 use Rattle.nc_rules.specs.declared.steps.Next.TheVariants as nexts
 use Rattle.nc_rules.specs.declared.steps.Phase.TheVariants.{Steps}
-use Rattle.nc_rules.specs.declared.steps.Seen.TheVariants as seen
+use Rattle.nc_rules.specs.declared.steps.Seen.TheVariants.{Nothing, Control}
 use Rattle.nc_rules.specs.Machine.{MachineState, grantee_of}
 use Rattle.nc_rules.specs.Calls.{issue_next, issue_answer, leaving, drain_next, fill_next, fill_answer, evict_next, evict_answer, chan_read_next, chan_read_told, chan_write_next, chan_write_told, control_of, claim_next, take_next}
 use Rattle.nc_rules.specs.Driver.{DriverState, Went, next_of, searched, searching, is_script, waits_for, started, told, done, lent}
@@ -86,7 +86,7 @@ record Middle (g : HartNo) (slots : ℕ) (base mid : List Look) (rs : List Recor
 quiet_middle : (g : HartNo) (slots : ℕ) (base : List Look) (rs : List Record) → AreQuiet rs → Middle g slots base base rs
 quiet_middle g slots base rs quiet = record {
   since = quiet_since g base rs quiet;
-  none = λ zero. quiet_looks g rs quiet;
+  none = λ z. quiet_looks g rs quiet;
   last = λ e. quiet_last e rs quiet;
   answers = quiet_answers rs quiet;
 }
@@ -94,7 +94,7 @@ quiet_middle g slots base rs quiet = record {
 middle_join : (g : HartNo) (slots : ℕ) (a b c : List Look) (rs ss : List Record) → Middle g slots a b rs → Middle g slots b c ss → Middle g slots a c (rs ++ ss)
 middle_join g slots a b c rs ss x y = record {
   since = since_append g a rs ss ∙ ap (λ (ls : List Look). looks_since g ls ss) x.since ∙ y.since;
-  none = λ zero. looks_append g rs ss ∙ (rw (x.none zero, y.none zero) refl);
+  none = λ z. looks_append g rs ss ∙ (rw (x.none z, y.none z) refl);
   last = λ e. last_append e rs ss ∙ ap (λ (o : Option Event). last_event o ss) (x.last e) ∙ y.last e;
   answers = any_join x.answers y.answers;
 }
@@ -112,7 +112,7 @@ record Begun (g : HartNo) (slots : ℕ) (seen mid : List Look) (e : Event) (rs :
 begun : (g : HartNo) (slots : ℕ) (seen mid : List Look) (e : Event) (rs : List Record) → Middle g slots (at_first g seen e) mid rs → Begun g slots seen mid e rs
 begun g slots seen mid e rs m = record {
   since = ap (λ (ls : List Look). looks_since g ls rs) (first_by (is_step g (Some e)) seen) ∙ m.since;
-  none = λ zero. m.none zero;
+  none = λ z. m.none z;
   last = m.last (Some e);
   answers = m.answers;
 }
@@ -148,10 +148,10 @@ goes_kept w g slots seen mid e h machine went now touch rs d m go =
     subst (λ (ss : List Record). Kept g slots seen (records.Event e ∷ ss) d) (sym is)
     (record {
       goes = subst (λ (ls : List Look). HasSeen g ls d) (sym (since_append g seen (records.Event e ∷ front) answer ∙ answered_since g h op went.moves.answer (looks_since g seen (records.Event e ∷ front)) ∙ b.since)) go.goes;
-      none = λ zero. looks_append g (records.Event e ∷ front) answer ∙ (rw (b.none zero, answered_looks g h op went.moves.answer) refl);
-      answers = λ n a before behind at no.
+      none = λ z. looks_append g (records.Event e ∷ front) answer ∙ (rw (b.none z, answered_looks g h op went.moves.answer) refl);
+      answers = λ n a before behind at un.
           let l = last_answer (records.Event e ∷ front) before behind h g op n went.moves.answer a b.answers at in
-          let f = go.noslot l.hart (ap noslot_in l.is ∙ no) in
+          let f = go.noslot l.hart (ap noslot_in l.is ∙ un) in
           found before l.front b f;
     })
   where
@@ -160,7 +160,7 @@ goes_kept w g slots seen mid e h machine went now touch rs d m go =
         subst (λ (ss : List Record). Found g slots seen ss) (sym same)
         (record {
           since = subst (λ (ls : List Look). EndsIn ls (misses g slots)) (sym b.since) f.0;
-          event = λ zero. b.last ∙ ap (λ (x : Event). Some x) (f.1 zero);
+          event = λ z. b.last ∙ ap (λ (x : Event). Some x) (f.1 z);
         })
 
 -- ---- the machine alone goes on
@@ -182,7 +182,7 @@ runs_kept w g slots seen e machine touch rs d off quiet has =
     record {
       goes = subst (λ (ls : List Look). HasSeen g ls d) (sym (b.since ∙ base)) has;
       none = b.none;
-      answers = λ op a before behind at no. absurd (no_answer (records.Event e ∷ (touch_records touch ++ rs)) before behind g op a b.answers at);
+      answers = λ op a before behind at un. absurd (no_answer (records.Event e ∷ (touch_records touch ++ rs)) before behind g op a b.answers at);
     }
 
 -- ---- whose hart it is
@@ -224,17 +224,17 @@ step_going sc w g h seen went now lt call = elim (cases_eq g.0 h.0) [
       (subst (λ (d : DriverState). Going g sc.slots [] (events.Issue h) h went d) (sym (driver_same w h g went (omega (arith, lt, now.is.holds.drivers)) same))
       (record {
         goes = λ k at. none k (call.first.at k at);
-        noslot = λ mine no. (none sc.slots (sym (slots_are sc w h now.is lt) ∙ call.answer no), λ zero. ap (λ (x : HartNo). events.Issue x) mine);
+        noslot = λ mine un. (none sc.slots (sym (slots_are sc w h now.is lt) ∙ call.answer un), λ z. ap (λ (x : HartNo). events.Issue x) mine);
       }))
   | inr ne ↦
       let first : at_first g seen (events.Issue h) ≡ seen = rw (not_mine h g ne) refl in
       subst (λ (ls : List Look). Going g sc.slots ls (events.Issue h) h went (driver_by w h went g)) (sym first)
       (subst (λ (d : DriverState). Going g sc.slots seen (events.Issue h) h went d) (sym (driver_other w h g went ne))
-      (record { goes = now.has; noslot = λ mine no. absurd (ne (sym (ap (λ (x : HartNo). x.0) mine))) }))
+      (record { goes = now.has; noslot = λ mine un. absurd (ne (sym (ap (λ (x : HartNo). x.0) mine))) }))
 ]
   where
     none : (k : ℕ) → k ≡ 0 → EndsIn [] (misses g k)
-    none k zero = subst (λ (n : ℕ). EndsIn [] (misses g n)) (sym zero) (ends_nil [])
+    none k e = subst (λ (n : ℕ). EndsIn [] (misses g n)) (sym e) (ends_nil [])
 
 step_kept : (sc : Scenario) (w : WorldState) (g h : HartNo) (seen : List Look) (machine : MachineState) (went : Went) (touch : Option Touch) (rs : List Record) → Now sc w g seen → h.0 < length w.machine.harts → IsStart (driver_of w h.0) went → AreQuiet rs
     → Kept g sc.slots seen (records.Event (events.Issue h) ∷ (goes w h machine went w.slots touch rs).records) (driver_by w h went g)
@@ -258,16 +258,16 @@ issue_by sc w g h seen nexts.Start now lt e may =
     step_kept sc w g h seen w.machine (started (driver_of w h.0) w.owners w.pages) None [] now lt (start_is (driver_of w h.0) w.owners w.pages (no_search (driver_of w h.0) nexts.Start e refl)) tt
 issue_by sc w g h seen (nexts.Op op) now lt e may =
     step_kept sc w g h seen (issue_next w.machine h.0 op) (done (driver_of w h.0) (seen_of (issue_answer w.machine h.0 op))) (issue_touch w h (is_script (driver_of w h.0).phase) op) (op_records w.machine h (is_script (driver_of w h.0).phase) op) now lt
-    (done_is (driver_of w h.0) (seen_of (issue_answer w.machine h.0 op)) (no_search (driver_of w h.0) (nexts.Op op) e refl)) (plain_quiet _ (plain_op w.machine h (is_script (driver_of w h.0).phase) op))
+    (done_is (driver_of w h.0) (seen_of (issue_answer w.machine h.0 op)) (no_search (driver_of w h.0) (nexts.Op op) e refl)) (plain_quiet (op_records w.machine h (is_script (driver_of w h.0).phase) op) (plain_op w.machine h (is_script (driver_of w h.0).phase) op))
 issue_by sc w g h seen (nexts.Claim chan) now lt e may =
     step_kept sc w g h seen (claim_next w.machine h chan.0) (done (driver_of w h.0) (claim_seen (grantee_of w.machine chan.0))) None [] now lt
     (done_is (driver_of w h.0) (claim_seen (grantee_of w.machine chan.0)) (no_search (driver_of w h.0) (nexts.Claim chan) e refl)) tt
 issue_by sc w g h seen (nexts.Poll chan) now lt e may =
-    step_kept sc w g h seen w.machine (done (driver_of w h.0) (seen.Control (control_of w.machine chan.0))) (poll_touch w h chan) [] now lt
-    (done_is (driver_of w h.0) (seen.Control (control_of w.machine chan.0)) (no_search (driver_of w h.0) (nexts.Poll chan) e refl)) tt
+    step_kept sc w g h seen w.machine (done (driver_of w h.0) (Control (control_of w.machine chan.0))) (poll_touch w h chan) [] now lt
+    (done_is (driver_of w h.0) (Control (control_of w.machine chan.0)) (no_search (driver_of w h.0) (nexts.Poll chan) e refl)) tt
 issue_by sc w g h seen (nexts.Take buf) now lt e may =
-    step_kept sc w g h seen (take_next w.machine h.0 buf) (done (driver_of w h.0) seen.Nothing) None [] now lt
-    (done_is (driver_of w h.0) seen.Nothing (no_search (driver_of w h.0) (nexts.Take buf) e refl)) tt
+    step_kept sc w g h seen (take_next w.machine h.0 buf) (done (driver_of w h.0) Nothing) None [] now lt
+    (done_is (driver_of w h.0) Nothing (no_search (driver_of w h.0) (nexts.Take buf) e refl)) tt
 
 -- ---- a look
 
@@ -293,7 +293,7 @@ look_middle sc w g h seen mid k got e r is lt same =
     let first : at_first g seen e ≡ seen = rw (is.step g) refl in
     record {
       since = ap (λ (ls : List Look). looks_since g ls (r ∷ [])) first ∙ is.since g seen ∙ ap (λ (o : Option Look). seen ++ look_of g o) is.look_is ∙ same;
-      none = λ zero. absurd (omega (arith, lt, zero));
+      none = λ z. absurd (omega (arith, lt, z));
       last = is.last;
       answers = is.answer;
     }
@@ -307,9 +307,9 @@ missed_going sc w g h seen k e now lt at few same =
     let ends : EndsIn (seen ++ look h k false ∷ []) (misses g (k + 1)) = subst (λ (x : HartNo). EndsIn (seen ++ look x k false ∷ []) (misses g (k + 1))) (sym mine) (ends_more g k seen before) in
     record {
       goes = λ j is. subst (λ (n : ℕ). EndsIn (seen ++ look h k false ∷ []) (misses g n)) (sym (m.next j is)) ends;
-      noslot = λ _ no.
-          let all : k + 1 ≡ sc.slots = omega (arith, m.answer no, slots_are sc w h now.is lt, few) in
-          (subst (λ (n : ℕ). EndsIn (seen ++ look h k false ∷ []) (misses g n)) all ends, λ zero. absurd (omega (arith, zero, few)));
+      noslot = λ _ un.
+          let all : k + 1 ≡ sc.slots = omega (arith, m.answer un, slots_are sc w h now.is lt, few) in
+          (subst (λ (n : ℕ). EndsIn (seen ++ look h k false ∷ []) (misses g n)) all ends, λ z. absurd (omega (arith, z, few)));
     }
 
 got_going : (sc : Scenario) (w : WorldState) (g h : HartNo) (seen : List Look) (k : ℕ) (e : Event) → searching (driver_of w h.0) ≡ Some k
@@ -318,7 +318,7 @@ got_going sc w g h seen k e at =
     let call = got_is (driver_of w h.0) k at in
     record {
       goes = λ j is. subst (λ (n : ℕ). EndsIn (seen ++ look h k true ∷ []) (misses g n)) (sym (call.first.at j is)) (ends_nil (seen ++ look h k true ∷ []));
-      noslot = λ _ no. absurd (false≢true (sym call.answer ∙ no));
+      noslot = λ _ un. absurd (false≢true (sym call.answer ∙ un));
     }
 
 look_going : (sc : Scenario) (w : WorldState) (g h : HartNo) (seen : List Look) (k : ℕ) (got : Bool) (e : Event) → Now sc w g seen → h.0 < length w.machine.harts → searching (driver_of w h.0) ≡ Some k → k < sc.slots → g.0 ≡ h.0
@@ -344,7 +344,7 @@ look_kept sc w g h seen k got e slots r now lt at is =
           let mid = look_middle sc w g h seen seen k got e r is few (ap (λ (ls : List Look). seen ++ ls) (look_other h g (look h k got) refl ne) ∙ append-nil seen) in
           goes_kept w g sc.slots seen seen e h w.machine went slots None (r ∷ []) (driver_by w h went g) mid
           (subst (λ (d : DriverState). Going g sc.slots seen e h went d) (sym (driver_other w h g went ne))
-          (record { goes = now.has; noslot = λ mine no. absurd (ne (sym (ap (λ (x : HartNo). x.0) mine))) }))
+          (record { goes = now.has; noslot = λ mine un. absurd (ne (sym (ap (λ (x : HartNo). x.0) mine))) }))
     ]
 
 try_at : (sc : Scenario) (w : WorldState) (g h : HartNo) (seen : List Look) (k : ℕ) (o : Option HartNo) (slots : List (Option HartNo)) → Now sc w g seen → h.0 < length w.machine.harts → searching (driver_of w h.0) ≡ Some k
@@ -378,7 +378,7 @@ token_kept : (sc : Scenario) (w : WorldState) (g h : HartNo) (seen : List Look) 
     → ((k : ℕ) → searching went.driver ≡ Some k → searching (driver_of w h.0) ≡ Some k) → noslot_in went.moves.answer ≡ false → AreQuiet rs → KeptBy sc w g seen (events.Drain h i) (goes w h machine went w.slots touch rs)
 token_kept sc w g h seen i machine went touch rs now lt back none quiet =
     goes_kept w g sc.slots seen seen (events.Drain h i) h machine went w.slots touch rs (driver_by w h went g) (quiet_middle g sc.slots seen rs quiet)
-    (record { goes = has; noslot = λ mine no. absurd (false≢true (sym none ∙ no)) })
+    (record { goes = has; noslot = λ mine un. absurd (false≢true (sym none ∙ un)) })
   where
     has : HasSeen g seen (driver_by w h went g)
     has k at = elim (cases_eq g.0 h.0) [
@@ -401,7 +401,7 @@ leaves_kept sc w g h seen i machine touch rs (entries.Mark pred succ) now lt qui
 drain_kept : (sc : Scenario) (w : WorldState) (g h : HartNo) (seen : List Look) (i : ℕ) (o : Option Entry) → Now sc w g seen → h.0 < length w.machine.harts → KeptBy sc w g seen (events.Drain h i) (drain_outcome w h i o)
 unfolding drain_outcome
 drain_kept sc w g h seen i None now lt = runs_kept w g sc.slots seen (events.Drain h i) w.machine None [] (driver_of w g.0) refl tt now.has
-drain_kept sc w g h seen i (Some e) now lt = leaves_kept sc w g h seen i (drain_next w.machine h.0 i) (drain_touch w h e) (drain_records w.machine h e) e now lt (plain_quiet _ (plain_drain w.machine h e))
+drain_kept sc w g h seen i (Some e) now lt = leaves_kept sc w g h seen i (drain_next w.machine h.0 i) (drain_touch w h e) (drain_records w.machine h e) e now lt (plain_quiet (drain_records w.machine h e) (plain_drain w.machine h e))
 
 -- ---- every event
 
@@ -415,15 +415,15 @@ outcome_kept sc w g seen (events.Told h got) now is =
     word_kept sc w g h seen (events.Told h got) (told_outcome w h got) (searching (driver_of w h.0)) refl is.may (λ k at. told_at sc w g h seen k got (holder_of w.slots k) (told_slots got w.slots h k) now is.there at)
 outcome_kept sc w g seen (events.Drain h i) now is = drain_kept sc w g h seen i (leaving w.machine h.0 i) now is.there
 outcome_kept sc w g seen (events.Fill h b) now is =
-    runs_kept w g sc.slots seen (events.Fill h b) (fill_next w.machine h.0 b.0) None (answer_records w.machine.size (fill_answer w.machine h.0 b.0)) (driver_of w g.0) refl (plain_quiet _ (plain_answer w.machine.size (fill_answer w.machine h.0 b.0))) now.has
+    runs_kept w g sc.slots seen (events.Fill h b) (fill_next w.machine h.0 b.0) None (answer_records w.machine.size (fill_answer w.machine h.0 b.0)) (driver_of w g.0) refl (plain_quiet (answer_records w.machine.size (fill_answer w.machine h.0 b.0)) (plain_answer w.machine.size (fill_answer w.machine h.0 b.0))) now.has
 outcome_kept sc w g seen (events.Evict h b) now is =
-    runs_kept w g sc.slots seen (events.Evict h b) (evict_next w.machine h.0 b.0) None (answer_records w.machine.size (evict_answer w.machine h.0 b.0)) (driver_of w g.0) refl (plain_quiet _ (plain_answer w.machine.size (evict_answer w.machine h.0 b.0))) now.has
+    runs_kept w g sc.slots seen (events.Evict h b) (evict_next w.machine h.0 b.0) None (answer_records w.machine.size (evict_answer w.machine h.0 b.0)) (driver_of w g.0) refl (plain_quiet (answer_records w.machine.size (evict_answer w.machine h.0 b.0)) (plain_answer w.machine.size (evict_answer w.machine h.0 b.0))) now.has
 outcome_kept sc w g seen (events.ChanRead chan) now is =
     runs_kept w g sc.slots seen (events.ChanRead chan) (chan_read_next w.machine chan.0) (transaction_touch w chan Read (chan_read_told w.machine chan.0)) (read_records chan (chan_read_told w.machine chan.0)) (driver_of w g.0) refl
-    (plain_quiet _ (plain_read chan (chan_read_told w.machine chan.0))) now.has
+    (plain_quiet (read_records chan (chan_read_told w.machine chan.0)) (plain_read chan (chan_read_told w.machine chan.0))) now.has
 outcome_kept sc w g seen (events.ChanWrite chan) now is =
     runs_kept w g sc.slots seen (events.ChanWrite chan) (chan_write_next w.machine chan.0) (transaction_touch w chan Write (chan_write_told w.machine chan.0)) (write_records chan (chan_write_told w.machine chan.0)) (driver_of w g.0) refl
-    (plain_quiet _ (plain_write chan (chan_write_told w.machine chan.0))) now.has
+    (plain_quiet (write_records chan (chan_write_told w.machine chan.0)) (plain_write chan (chan_write_told w.machine chan.0))) now.has
 
 drivers_after : (w : WorldState) (o : Outcome) → (counted (after_outcome w o)).drivers ≡ o.drivers
 drivers_after w o = touched (with_moves (record w { machine = o.machine; drivers = o.drivers; slots = o.slots }) o.moves) o.touch
@@ -449,7 +449,7 @@ event_if sc w g seen e true may now there =
 event_if sc w g seen e false off now there =
     subst (λ (rs : List Record). Kept g sc.slots seen rs (driver_of (next w e) g.0)) (sym (off_records w e off))
     (subst (λ (x : WorldState). Kept g sc.slots seen [] (driver_of x g.0)) (sym (next_same w e off))
-    (record { goes = now.has; none = λ zero. refl; answers = λ op a before behind at no. absurd (no_answer [] before behind g op a refl at) }))
+    (record { goes = now.has; none = λ z. refl; answers = λ op a before behind at un. absurd (no_answer [] before behind g op a refl at) }))
 
 event_kept : (sc : Scenario) (w : WorldState) (g : HartNo) (seen : List Look) (e : Event) → Now sc w g seen → IsThere (length sc.harts) sc.block_size sc.ram e → Kept g sc.slots seen (event_records w e) (driver_of (next w e) g.0)
 event_kept sc w g seen e now there = event_if sc w g seen e (enabled w e) refl now there
@@ -464,25 +464,25 @@ record RunKept (g : HartNo) (slots : ℕ) (seen : List Look) (rs : List Record) 
 behind_found : (g : HartNo) (slots : ℕ) (seen : List Look) (rs before : List Record) → Found g slots (looks_since g seen rs) before → Found g slots seen (rs ++ before)
 behind_found g slots seen rs before f = record {
   since = subst (λ (ls : List Look). EndsIn ls (misses g slots)) (sym (since_append g seen rs before)) f.since;
-  event = λ zero. last_append None rs before ∙ last_later (last_event None rs) before (events.Issue g) (f.event zero);
+  event = λ z. last_append None rs before ∙ last_later (last_event None rs) before (events.Issue g) (f.event z);
 }
 
 run_kept : (sc : Scenario) (w : WorldState) (g : HartNo) (seen : List Look) (es : List Event) → Now sc w g seen → AreThere sc es → RunKept g sc.slots seen (run.records w es)
 unfolding run.records
-run_kept sc w g seen [] now there = record { none = λ zero. refl; answers = λ op a before behind at no. absurd (no_answer [] before behind g op a refl at) }
+run_kept sc w g seen [] now there = record { none = λ z. refl; answers = λ op a before behind at un. absurd (no_answer [] before behind g op a refl at) }
 run_kept sc w g seen (e ∷ es) now there =
     let here = All-head (IsThere (length sc.harts) sc.block_size sc.ram) e es there in
     let one = event_kept sc w g seen e now here in
     let rest = run_kept sc (next w e) g (looks_since g seen (event_records w e)) es (record { is = worlds_stay sc w e now.is here; has = one.goes }) (All-tail (IsThere (length sc.harts) sc.block_size sc.ram) e es there) in
     record {
-      none = λ zero. looks_append g (event_records w e) (run.records (next w e) es) ∙ (rw (one.none zero, rest.none zero) refl);
-      answers = λ op a before behind at no. by one rest op a before behind no (split (event_records w e) (run.records (next w e) es) before (records.Ans g op a) behind at);
+      none = λ z. looks_append g (event_records w e) (run.records (next w e) es) ∙ (rw (one.none z, rest.none z) refl);
+      answers = λ op a before behind at un. by one rest op a before behind un (split (event_records w e) (run.records (next w e) es) before (records.Ans g op a) behind at);
     }
   where
     by : Kept g sc.slots seen (event_records w e) (driver_of (next w e) g.0) → RunKept g sc.slots (looks_since g seen (event_records w e)) (run.records (next w e) es) → (op : ℕ) (a : Answer) (before behind : List Record) → is_noslot a ≡ true
         → SplitBy (event_records w e) (run.records (next w e) es) before (records.Ans g op a) behind → Found g sc.slots seen before
-    by one rest op a before behind no (in_first ws at) = one.answers op a before ws at no
-    by one rest op a before behind no (in_second ws at left) = subst (λ (ss : List Record). Found g sc.slots seen ss) (sym at) (behind_found g sc.slots seen (event_records w e) ws (rest.answers op a ws behind left no))
+    by one rest op a before behind un (in_first ws at) = one.answers op a before ws at un
+    by one rest op a before behind un (in_second ws at left) = subst (λ (ss : List Record). Found g sc.slots seen ss) (sym at) (behind_found g sc.slots seen (event_records w e) ws (rest.answers op a ws behind left un))
 
 -- ---- the law
 
@@ -501,13 +501,13 @@ start_seen sc g is k at =
     subst (λ (n : ℕ). EndsIn [] (misses g n)) (sym ((steps_first (driver_of (start sc) g.0) 0 (start_phase sc g.0 is)).at k at)) (ends_nil [])
 
 pub searched_always : EachIsSearched
-searched_always sc es h op a before behind accepted there at no =
+searched_always sc es h op a before behind accepted there at un =
     let world = worlds_start sc accepted in
     let run_is = run_kept sc (start sc) h [] es (record { is = world; has = start_seen sc h world }) there in
-    let found = run_is.answers op a before behind at no in
+    let found = run_is.answers op a before behind at un in
     record {
       looked = last_misses h sc.slots (looks h before) (ends_on (looks h before) (looks_since h [] before) (misses h sc.slots) (since_last h [] before) found.since);
       since = last_misses h sc.slots (looks_since h [] before) found.since;
-      none = λ zero. front_looks h before (records.Ans h op a ∷ behind) (ap (looks h) (sym at) ∙ run_is.none zero);
+      none = λ z. front_looks h before (records.Ans h op a ∷ behind) (ap (looks h) (sym at) ∙ run_is.none z);
       start = found.event;
     }

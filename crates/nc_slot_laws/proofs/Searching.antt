@@ -138,8 +138,8 @@ pub record IsStart (d : DriverState) (went : Went) : Type 0 where
   pub answer : noslot_in went.moves.answer ≡ true → d.fixed.slots ≡ 0
 
 no_slots : (n : ℕ) → (0 < n → ⊥) → n ≡ 0
-no_slots zero no = refl
-no_slots (suc n) no = absurd (no (omega arith))
+no_slots zero off = refl
+no_slots (suc n) off = absurd (off (omega arith))
 
 call_start : (d : DriverState) (went : Went) → IsCall went → IsStart d went
 call_start d went call = record { first = call.first; answer = λ e. absurd (false≢true (sym call.answer ∙ e)) }
@@ -237,10 +237,10 @@ past : (n k : ℕ) → nat_lt k n ≡ false → n ≤ k
 past n k e = elim (cases_lt k n) [ inl lt ↦ absurd (grind (arith, nat_tests)) | inr le ↦ omega (arith, le) ]
 
 missed_by : (d : DriverState) (o : Op) (k : ℕ) (t : Bool) → nat_lt (k + 1) d.fixed.slots ≡ t → IsMiss d k (if t then stays (searches d (k + 1)) else give_up d o refusals.NoSlot)
-missed_by d o k true e = record { next = λ j s. word_is (searches d (k + 1)) (k + 1) j refl s; answer = λ no. absurd (false≢true no) }
+missed_by d o k true e = record { next = λ j s. word_is (searches d (k + 1)) (k + 1) j refl s; answer = λ un. absurd (false≢true un) }
 missed_by d o k false e = record {
   next = λ j s. absurd (off_steps 0 j (search_is (over d (without_wanted d.lots)) j s).phase);
-  answer = λ no. past d.fixed.slots (k + 1) e;
+  answer = λ un. past d.fixed.slots (k + 1) e;
 }
 
 pub missed_is : (d : DriverState) (k : ℕ) → searching d ≡ Some k → IsMiss d k (told d false)

@@ -77,13 +77,15 @@ once w k h g a b i j all x y =
 
 -- ---- a word that is held
 
+times_by : (w k : ℕ) (ks : List ℕ) (t : Bool) → (k == w) ≡ t → 1 ≤ times w (k ∷ ks) → (1 ≤ times w ks → In w ks) → In w (k ∷ ks)
+times_by w k ks true e le rest = inl (eqb-true k w e)
+times_by w k ks false e le rest =
+    let less : times w (k ∷ ks) ≡ times w ks = times-cons w k ks ∙ rw e (omega arith) in
+    inr (rest (omega (arith, le, less)))
+
 in_times : (w : ℕ) (ks : List ℕ) → 1 ≤ times w ks → In w ks
 in_times w [] le = absurd (omega (arith, le))
-in_times w (k ∷ ks) le = by (k == w) refl
-  where
-    by : (t : Bool) → (k == w) ≡ t → In w (k ∷ ks)
-    by true e = inl (eqb-true k w e)
-    by false e = inr (in_times w ks (omega (arith, le, times-cons w k ks ∙ rw e refl)))
+in_times w (k ∷ ks) le = times_by w k ks (k == w) refl le (λ less. in_times w ks less)
 
 record IsHeldAt (k : ℕ) (es : List Entry) : Type 0 where
   i : ℕ
@@ -91,16 +93,17 @@ record IsHeldAt (k : ℕ) (es : List Entry) : Type 0 where
   here : slice_get es i ≡ Some entry
   slot : entry.slot ≡ Some k
 
+later : (k : ℕ) (e : Entry) (es : List Entry) → IsHeldAt k es → IsHeldAt k (e ∷ es)
+later k e es r = record { i = suc r.i; entry = r.entry; here = r.here; slot = r.slot }
+
+held_by : (k : ℕ) (e : Entry) (es : List Entry) (o : Option ℕ) → e.slot ≡ o → In k (cons_option o (held es)) → (In k (held es) → IsHeldAt k es) → IsHeldAt k (e ∷ es)
+held_by k e es None s here rest = later k e es (rest here)
+held_by k e es (Some n) s (inl same) rest = record { i = 0; entry = e; here = refl; slot = s ∙ ap (λ (m : ℕ). Some m) same }
+held_by k e es (Some n) s (inr here) rest = later k e es (rest here)
+
 held_at : (k : ℕ) (es : List Entry) → In k (held es) → IsHeldAt k es
 held_at k [] here = elim here [ ]
-held_at k (e ∷ es) here = by e.slot refl here
-  where
-    later : IsHeldAt k es → IsHeldAt k (e ∷ es)
-    later r = record { i = suc r.i; entry = r.entry; here = r.here; slot = r.slot }
-    by : (o : Option ℕ) → e.slot ≡ o → In k (cons_option o (held es)) → IsHeldAt k (e ∷ es)
-    by None s here = later (held_at k es here)
-    by (Some n) s (inl same) = record { i = 0; entry = e; here = refl; slot = s ∙ ap (λ (m : ℕ). Some m) same }
-    by (Some n) s (inr here) = later (held_at k es here)
+held_at k (e ∷ es) here = held_by k e es e.slot refl here (λ less. held_at k es less)
 
 counts_one : (b : Bool) (n : ℕ) → b ≡ true → n ≡ (if b then 1 else 0) → 1 ≤ n
 counts_one true n is e = omega (arith, e)

@@ -5,7 +5,6 @@ ghost use Rattle.nc_slot_laws.specs.Looks.{EachIsSearched};
 
 /// After each front of the events each slot is held by one hart at most, for one entry of its lots, and its word says
 /// which; and the device ranges of two grants share no byte.
-#[tactic(auto, using(crate::proofs::SlotLaws::given_once))]
 pub fn slots_law()
     ensures { EachIsGivenOnce }
 {}
@@ -13,7 +12,6 @@ pub fn slots_law()
 /// Before each answer that no slot was found the hart's last looks at slot words, as many as there are slots, are at the
 /// words 0, 1, .. in turn, each missed, since its last step. Without slots it is refused by the step that starts the
 /// operation.
-#[tactic(auto, using(crate::proofs::SearchLaws::searched_always))]
 pub fn noslot_law()
     ensures { EachIsSearched }
 {}
