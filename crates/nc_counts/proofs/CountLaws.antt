@@ -1,8 +1,7 @@
 -- The counts after a run, and its owners.
-use Rattle.std.proofs.Common.{◌≡◌, ℕ, ◌+◌, ◌-◌, ◌^◌, ◌≤◌, Bool, true, false, List, [], ◌∷◌, ◌++◌, Option, Some, None, refl, sym, ap, ◌∙◌, subst, arith, cond}
-use Rattle.std.specs.Prelude.{min, flat_map, if◌then◌else◌}
+use Rattle.std.proofs.Common.{◌≡◌, ℕ, ◌+◌, ◌-◌, ◌^◌, ◌≤◌, Bool, true, false, List, [], ◌∷◌, ◌++◌, Option, Some, None, refl, sym, ap, ◌∙◌, arith}
+use Rattle.std.specs.Prelude.{min, if◌then◌else◌}
 use Rattle.std.specs.List.{count_by}
-use Rattle.std.proofs.lemmas.Bool.{false≢true}
 use Rattle.std.proofs.lemmas.Grind.{flat_map-append}
 use Rattle.nc_num.specs.declared.places.Span.{Span}
 use Rattle.nc_model.specs.declared.owners.Owner.{Owner}
@@ -17,7 +16,7 @@ use Rattle.nc_rules.specs.Next.{touched_by, after_outcome, performed, counted, n
 use Rattle.nc_rules.specs.Outcomes.{Outcome, outcome}
 use Rattle.nc_rules.specs.Run as run
 use Rattle.nc_rules.specs.World.{WorldState, start, first_owners, owners_moved, one_more, with_moves}
-use Rattle.nc_counts.specs.Counts.{is_event, is_touch, owner_change, owner_changes, up_to_end, AreCounted, EachRunIsCounted, EachRunTellsOwners}
+use Rattle.nc_counts.specs.Counts.{is_event, is_touch, owner_change, owner_changes, up_to_end, EachRunIsCounted, EachRunTellsOwners}
 use Rattle.nc_counts.proofs.Tells.{count-append, count-cons, touches_of, Tells, outcome_tells}
 
 -- ---- one event

@@ -1,6 +1,6 @@
 -- What the records of an event tell of events, of touches and of owners.
-use Rattle.std.proofs.Common.{◌≡◌, ℕ, ◌+◌, Bool, true, false, List, [], ◌∷◌, ◌++◌, map, Option, Some, None, refl, sym, ap, ◌∙◌, subst, arith, cond}
-use Rattle.std.specs.Prelude.{flat_map, is_none}
+use Rattle.std.proofs.Common.{◌≡◌, ℕ, ◌+◌, Bool, true, List, [], ◌∷◌, ◌++◌, Option, Some, None, refl, ◌∙◌, arith, cond}
+use Rattle.std.specs.Prelude.{is_none}
 use Rattle.std.specs.List.{count_by}
 use Rattle.std.proofs.lemmas.Bool.{false≢true}
 use Rattle.std.proofs.lemmas.Grind.{flat_map-append}
@@ -11,7 +11,7 @@ use Rattle.nc_num.specs.declared.names.HartNo.{HartNo}
 use Rattle.nc_num.specs.declared.places.Span.{Span}
 use Rattle.nc_queue.specs.declared.entry.Entry.{Entry}
 use Rattle.nc_queue.specs.declared.entry.Entry.TheVariants as entries
-use Rattle.nc_slots.specs.SlotWords.{holder_of, answer_to, tried}
+use Rattle.nc_slots.specs.SlotWords.{holder_of, tried}
 use Rattle.nc_model.specs.declared.owners.Access.TheVariants.{Read, Write}
 use Rattle.nc_model.specs.declared.owners.Owner.{Owner}
 use Rattle.nc_model.specs.declared.touches.Touch.{Touch}
@@ -26,13 +26,12 @@ use Rattle.nc_rules.specs.declared.steps.Seen.TheVariants as seen
 use Rattle.nc_rules.specs.Machine.{MachineState, grantee_of}
 use Rattle.nc_rules.specs.Calls.{drain_next, leaving, issue_next, issue_answer, control_of, claim_next, take_next, fill_next, fill_answer, evict_next, evict_answer, chan_read_next, chan_read_told, chan_write_next, chan_write_told}
 use Rattle.nc_rules.specs.Watched.{issue_touch, poll_touch, drain_touch, transaction_touch}
-use Rattle.nc_rules.specs.Turns.{Moved, moved}
 use Rattle.nc_rules.specs.Driver.{Went, next_of, searching, is_script, started, told, done, lent}
-use Rattle.nc_rules.specs.Records.{touch_records, op_records, drain_records, answer_records, read_records, write_records, try_records, told_records, told_answer, owner_records, back_records, answered, moves_records}
+use Rattle.nc_rules.specs.Records.{touch_records, op_records, drain_records, answer_records, read_records, write_records, try_records, told_records, owner_records, back_records, answered}
 use Rattle.nc_rules.specs.Outcomes.{Outcome, goes, runs, seen_of, claim_seen, got_word, told_slots, step_outcome, start_outcome, op_outcome, claim_outcome, poll_outcome, take_outcome, try_outcome, told_outcome, at_word, leaves, drain_outcome, outcome}
 use Rattle.nc_rules.specs.World.{WorldState, driver_of}
 use Rattle.nc_counts.specs.Counts.{is_event, is_touch, owner_change, owner_changes}
-use Rattle.nc_counts.proofs.Plain.{is_plain, ArePlain, plain_nil, plain_op, plain_drain, plain_answer, plain_read, plain_write, plain_backs}
+use Rattle.nc_counts.proofs.Plain.{is_plain, ArePlain, plain_op, plain_drain, plain_answer, plain_read, plain_write, plain_backs}
 
 pub count-append : (p : Record → Bool) (rs ss : List Record) → count_by p (rs ++ ss) ≡ count_by p rs + count_by p ss
 count-append p rs ss = sum_by-append (λ r. cond (p r) 1 0) rs ss

@@ -4,10 +4,9 @@ use Rattle.std.specs.Prelude.{slice_get}
 use Rattle.std.specs.List.{count_by}
 use Rattle.std.proofs.lemmas.Bool.Decides.{nat_tests}
 use Rattle.std.proofs.lemmas.List.Sums.{sum_by-cons}
-use Rattle.nc_num.specs.Places.{covers}
 use Rattle.nc_num.specs.declared.names.HartNo.{HartNo}
 use Rattle.nc_num.specs.declared.names.MapId.{MapId}
-use Rattle.nc_model.specs.Grants.{IsGrants, CanAdd, without}
+use Rattle.nc_model.specs.Grants.{IsGrants, without}
 use Rattle.nc_model.specs.Rights.{same_map, is_of, has_device}
 use Rattle.nc_model.specs.declared.owners.Grant.{Grant}
 use Rattle.nc_model.specs.declared.touches.Touch.{Touch}
@@ -16,7 +15,6 @@ use Rattle.nc_scen.specs.declared.events.Event.{Event}
 use Rattle.nc_scen.specs.declared.events.Event.TheVariants as events
 use Rattle.nc_rules.specs.Next.{touched_by, after_outcome, counted, next}
 use Rattle.nc_rules.specs.Outcomes.{Outcome, outcome}
-use Rattle.nc_rules.specs.Turns.{Moved, moved}
 use Rattle.nc_rules.specs.World.{WorldState, with_moves, grants_added, grants_ended}
 use Rattle.nc_holds.specs.Holds.{CanAddAll, mover}
 use Rattle.nc_holds.proofs.EventGiven.{IsEvent}

@@ -1,8 +1,6 @@
 -- Where there are slots, no start and no step of an operation is refused for want of one; and no good answer says so.
-use Rattle.std.proofs.Common.{◌≡◌, ℕ, zero, suc, ◌+◌, ◌*◌, ◌<◌, Bool, true, false, List, [], ◌∷◌, length, refl, sym, ap, ◌∙◌, arith, Option, Some, None}
-use Rattle.std.specs.Prelude.{◌==◌, ◌&&◌, not, nat_le, if◌then◌else◌, Result, Ok, Err, slice_get, option_map, is_some}
-use Rattle.std.specs.List.{find, list_any}
-use Rattle.std.proofs.lemmas.Bool.{false≢true}
+use Rattle.std.proofs.Common.{◌≡◌, ℕ, ◌+◌, ◌*◌, ◌<◌, Bool, true, false, List, [], ◌∷◌, length, refl, arith, Option, Some, None}
+use Rattle.std.specs.Prelude.{◌==◌, ◌&&◌, not, nat_le, if◌then◌else◌, Result, Ok, Err, slice_get, is_some}
 use Rattle.std.proofs.lemmas.Bool.Decides.{nat_tests}
 use Rattle.nc_num.specs.declared.names.ChanNo.{ChanNo}
 use Rattle.nc_num.specs.declared.names.Dir.{Dir}
@@ -15,13 +13,10 @@ use Rattle.nc_env.specs.declared.Illegal.{Illegal}
 use Rattle.nc_pte.specs.declared.translation.PageFault.{PageFault}
 use Rattle.nc_plan.specs.Effects as effects
 use Rattle.nc_plan.specs.declared.effects.CboOff.{CboOff}
-use Rattle.nc_plan.specs.declared.effects.Effects.{Effects}
 use Rattle.nc_plan.specs.declared.ops.HartOp.{HartOp}
-use Rattle.nc_plan.specs.Accesses as accesses
 use Rattle.nc_plan.specs.declared.access.At.TheVariants as at
 use Rattle.nc_num.specs.declared.names.MemType.TheVariants.{Pma, Nc}
 use Rattle.nc_sg.specs.Lists.{segments}
-use Rattle.nc_plan.specs.Registers as registers
 use Rattle.nc_pdma_regs.specs.Table.{register_at}
 use Rattle.nc_model.specs.declared.owners.Owner.{Owner}
 use Rattle.nc_model.specs.declared.owners.Owner.TheVariants.{Lending}
@@ -46,7 +41,6 @@ use Rattle.nc_rules.specs.declared.lots.Lot.{Lot}
 use Rattle.nc_rules.specs.declared.lots.LotId.{LotId}
 use Rattle.nc_rules.specs.declared.steps.Seen.{Seen}
 use Rattle.nc_rules.specs.declared.steps.Seen.TheVariants as seen
-use Rattle.nc_rules.specs.declared.steps.Step.{Step}
 use Rattle.nc_rules.specs.Lots.{Fixed, lot_named, map_id, some_lot_waits, lot_id, ranges_lot, only_entry, bus_of_lot}
 use Rattle.nc_rules.specs.Refusals.{◌>>=◌, wanted, some_or, some_bytes, buffer_of, part_of, all_some, ranges_of, unused, named, owned_but, owned, owned_from, legal, planned, lendable, small_enough, slots_there, placeable}
 use Rattle.nc_rules.specs.Accesses as access

@@ -1,6 +1,6 @@
 -- Each answer that no slot was found stands behind a miss of every word.
-use Rattle.std.proofs.Common.{◌≡◌, ℕ, zero, suc, ◌+◌, ◌<◌, ◌≤◌, Bool, true, false, List, [], ◌∷◌, ◌++◌, length, inl, inr, refl, sym, ap, subst, ◌∙◌, arith, Option, Some, None}
-use Rattle.std.specs.Prelude.{◌==◌, ◌≢◌, ◌&&◌, not, is_none, is_some, if◌then◌else◌, slice_set}
+use Rattle.std.proofs.Common.{◌≡◌, ℕ, ◌+◌, ◌<◌, Bool, true, false, List, [], ◌∷◌, ◌++◌, length, inl, inr, refl, sym, ap, subst, ◌∙◌, arith, Option, Some, None}
+use Rattle.std.specs.Prelude.{◌==◌, ◌≢◌, not, is_none, is_some, if◌then◌else◌, slice_set}
 use Rattle.std.specs.List.{list_any}
 use Rattle.std.proofs.lemmas.Bool.{false≢true, and_parts, cases_eq, cases_lt, or_from}
 use Rattle.std.proofs.lemmas.Bool.Decides.{nat_tests}
@@ -13,7 +13,6 @@ use Rattle.nc_queue.specs.declared.entry.Entry.TheVariants as entries
 use Rattle.nc_slots.specs.SlotWords.{holder_of, answer_to, tried}
 use Rattle.nc_model.specs.declared.owners.Access.TheVariants.{Read, Write}
 use Rattle.nc_model.specs.declared.touches.Touch.{Touch}
-use Rattle.nc_scen.specs.Accepted.{IsAccepted}
 use Rattle.nc_scen.specs.Events.{IsThere}
 use Rattle.nc_scen.specs.declared.events.Event.{Event}
 use Rattle.nc_scen.specs.declared.events.Event.TheVariants as events
@@ -32,10 +31,9 @@ use Rattle.nc_rules.specs.Events.{enabled, may_go_on, is_out}
 use Rattle.nc_rules.specs.Flat.{AreThere}
 use Rattle.nc_rules.specs.Next.{touched_by, after_outcome, counted, next, event_records}
 use Rattle.nc_rules.specs.Outcomes.{Outcome, goes, runs, seen_of, claim_seen, got_word, told_slots, step_outcome, start_outcome, op_outcome, claim_outcome, poll_outcome, take_outcome, try_outcome, told_outcome, at_word, leaves, drain_outcome, outcome}
-use Rattle.nc_rules.specs.Records.{touch_records, op_records, drain_records, answer_records, read_records, write_records, try_records, told_records, told_answer, owner_records, back_records, answered, moves_records}
+use Rattle.nc_rules.specs.Records.{touch_records, op_records, drain_records, answer_records, read_records, write_records, try_records, told_records, told_answer, owner_records, back_records, answered}
 use Rattle.nc_rules.specs.Run as run
 use Rattle.nc_rules.specs.Start.{first_driver}
-use Rattle.nc_rules.specs.Turns.{Moved, moved}
 use Rattle.nc_rules.specs.Watched.{issue_touch, poll_touch, drain_touch, transaction_touch}
 use Rattle.nc_rules.specs.World.{WorldState, no_driver, driver_of, with_moves, hart, start}
 use Rattle.nc_holds.proofs.CallTold.{slot_there}
@@ -43,9 +41,9 @@ use Rattle.nc_holds.proofs.EventGiven.{IsEvent}
 use Rattle.nc_holds.proofs.EventHolds.{next_is, next_same}
 use Rattle.nc_flatness.specs.Flatness.{IsWorldOf}
 use Rattle.nc_flatness.proofs.Worlds.{worlds_start, worlds_stay, event_now, driver_start}
-use Rattle.nc_counts.proofs.Plain.{plain_nil, plain_op, plain_drain, plain_answer, plain_read, plain_write, plain_backs}
-use Rattle.nc_slot_laws.specs.Looks.{Look, look_in, look_of, looks, is_step, looks_since, last_event, is_noslot, miss, misses, IsSearched, EachIsSearched}
-use Rattle.nc_slot_laws.proofs.LookLists.{is_answer, AreQuiet, plain_quiet, touch_quiet, owners_quiet, quiet_append, quiet_since, quiet_looks, quiet_last, quiet_answers, since_append, last_append, looks_append, last_later, front_looks, EndsIn, ends_nil, ends_all, ends_more, last_misses, since_last, ends_on, SplitBy, in_first, in_second, split, last_answer}
+use Rattle.nc_counts.proofs.Plain.{plain_op, plain_drain, plain_answer, plain_read, plain_write, plain_backs}
+use Rattle.nc_slot_laws.specs.Looks.{Look, look_in, look_of, looks, is_step, looks_since, last_event, is_noslot, misses, EachIsSearched}
+use Rattle.nc_slot_laws.proofs.LookLists.{is_answer, AreQuiet, plain_quiet, touch_quiet, owners_quiet, quiet_append, quiet_since, quiet_looks, quiet_last, quiet_answers, since_append, last_append, looks_append, last_later, front_looks, EndsIn, ends_nil, ends_more, last_misses, since_last, ends_on, SplitBy, in_first, in_second, split, last_answer}
 use Rattle.nc_slot_laws.proofs.Refusing.{noslot_in}
 use Rattle.nc_slot_laws.proofs.Searching.{IsStart, steps_first, start_is, done_is, got_is, missed_is, lent_is}
 
@@ -142,7 +140,7 @@ goes_kept w g slots seen mid e h machine went now touch rs d m go =
     let touches = touch_records touch in
     let front : List Record = touches ++ rs ++ (owners ++ backs) in
     let all = middle_join g slots base mid mid (touches ++ rs) (owners ++ backs) (middle_join g slots base base mid touches rs (quiet_middle g slots base touches (touch_quiet touch)) m)
-        (quiet_middle g slots mid (owners ++ backs) (quiet_append owners backs (owners_quiet went.moves.transfers) (plain_quiet backs (plain_backs h went.moves.backs)))) in
+    (quiet_middle g slots mid (owners ++ backs) (quiet_append owners backs (owners_quiet went.moves.transfers) (plain_quiet backs (plain_backs h went.moves.backs)))) in
     let b : Begun g slots seen mid e front = begun g slots seen mid e front all in
     let is : touches ++ rs ++ (owners ++ backs ++ answer) ≡ front ++ answer = sym (append_assoc (touches ++ rs) (owners ++ backs) answer) in
     subst (λ (ss : List Record). Kept g slots seen (records.Event e ∷ ss) d) (sym is)

@@ -7,13 +7,11 @@ use Rattle.nc_num.specs.declared.names.Label.{Label}
 use Rattle.nc_model.specs.declared.owners.Owner.{Owner}
 use Rattle.nc_coherent.specs.Pages.{PageMap}
 use Rattle.nc_ops.specs.declared.ops.Op.{Op}
-use Rattle.nc_rules.specs.declared.answers.Answer.{Answer}
 use Rattle.nc_rules.specs.declared.answers.Refusal.{Refusal}
 use Rattle.nc_rules.specs.declared.answers.Refusal.TheVariants as refusals
 use Rattle.nc_rules.specs.declared.lots.Lot.{Lot}
 use Rattle.nc_rules.specs.declared.steps.Act.{Act}
 use Rattle.nc_rules.specs.declared.steps.Act.TheVariants as acts
-use Rattle.nc_rules.specs.declared.steps.Next.{Next}
 use Rattle.nc_rules.specs.declared.steps.Next.TheVariants as nexts
 use Rattle.nc_rules.specs.declared.steps.Phase.{Phase}
 use Rattle.nc_rules.specs.declared.steps.Phase.TheVariants.{Steps, Search, Work}
@@ -23,10 +21,10 @@ use Rattle.nc_rules.specs.declared.steps.Step.{Step}
 use Rattle.nc_rules.specs.declared.steps.Turn.TheVariants as turns
 use Rattle.nc_rules.specs.Lots.{some_lot_waits, slot_given, lot_id}
 use Rattle.nc_rules.specs.Turns.{lots_after, lots_after_both, turned_by, without_wanted}
-use Rattle.nc_rules.specs.Operations.{has_start, step_at, begin, opening, plan_of, good_answer}
-use Rattle.nc_rules.specs.Driver.{DriverState, Went, in_hand, next_act, next_step, next_rest, next_in, next_of_op, next_of, searched, searching, stays, over, stands, kept, give_up, went_to, answered, opened, searches, placed, with_lots, begun, refused_step, steps_done, started_op, started_of, started, missed, told_word, told_of, told, busy, stepped_to, step_answer, stepped, worked, done_in, done_unless, done_of, done, lent}
-use Rattle.nc_slot_laws.specs.Looks.{is_unslotted, is_noslot}
-use Rattle.nc_slot_laws.proofs.Refusing.{unslotted_in, Clear, begin_clear, step_clear, noslot_in, good_not, bad_is}
+use Rattle.nc_rules.specs.Operations.{has_start, step_at, begin, opening, plan_of}
+use Rattle.nc_rules.specs.Driver.{DriverState, Went, in_hand, next_act, next_step, next_rest, next_in, next_of_op, next_of, searched, searching, stays, over, stands, kept, give_up, went_to, answered, opened, searches, placed, with_lots, begun, refused_step, steps_done, started_of, started, told_word, told, busy, stepped_to, step_answer, stepped, worked, done_in, done_unless, done_of, done, lent}
+use Rattle.nc_slot_laws.specs.Looks.{is_unslotted}
+use Rattle.nc_slot_laws.proofs.Refusing.{Clear, begin_clear, step_clear, noslot_in, good_not, bad_is}
 
 -- ---- the driver's phase
 

@@ -1,6 +1,6 @@
 -- Each slot is held once, and grants are apart, after every run.
-use Rattle.std.proofs.Common.{◌≡◌, ℕ, zero, suc, ◌+◌, ◌<◌, ◌≤◌, Bool, true, false, List, [], ◌∷◌, length, flat_map, inl, inr, refl, sym, ap, subst, ◌∙◌, arith, Option, Some, None}
-use Rattle.std.specs.Prelude.{◌==◌, slice_get, slice_set, slice_index_or, if◌then◌else◌, take, replicate}
+use Rattle.std.proofs.Common.{◌≡◌, ℕ, suc, ◌<◌, ◌≤◌, Bool, true, false, List, [], ◌∷◌, length, flat_map, inl, inr, refl, sym, ap, subst, ◌∙◌, arith, Option, Some, None}
+use Rattle.std.specs.Prelude.{◌==◌, slice_get, slice_set, if◌then◌else◌, take, replicate}
 use Rattle.std.specs.List.{cons_option}
 use Rattle.std.proofs.lemmas.Bool.{false≢true, cases_eq, cases_lt, eqb-true}
 use Rattle.std.proofs.lemmas.List.{get_or-set_same, get_or-set_other, get_or_past, get_or-replicate, length-set, length-replicate}
@@ -8,12 +8,11 @@ use Rattle.std.proofs.lemmas.List.Elements.{All-take}
 use Rattle.nc_num.specs.declared.names.HartNo.{HartNo}
 use Rattle.nc_plan.specs.Plans.{In}
 use Rattle.nc_model.specs.Grants.{IsGrants}
-use Rattle.nc_model.specs.declared.owners.Grant.{Grant}
 use Rattle.nc_model.specs.declared.touches.Touch.{Touch}
 use Rattle.nc_model.proofs.GrantLaws.{no_grants}
 use Rattle.nc_sg.specs.declared.list.Entry.{Entry}
 use Rattle.nc_sg.specs.Lists.{held}
-use Rattle.nc_slots.specs.SlotWords.{holder_of, tried, tried_at}
+use Rattle.nc_slots.specs.SlotWords.{holder_of, tried_at}
 use Rattle.nc_scen.specs.Accepted.{IsAccepted}
 use Rattle.nc_scen.specs.Events.{IsThere}
 use Rattle.nc_scen.specs.declared.events.Event.{Event}
@@ -29,10 +28,10 @@ use Rattle.nc_rules.specs.Driver.{DriverState, next_of, searching}
 use Rattle.nc_rules.specs.Flat.{AreThere}
 use Rattle.nc_rules.specs.Lots.{slots_held}
 use Rattle.nc_rules.specs.Next.{touched_by, after_outcome, counted, next}
-use Rattle.nc_rules.specs.Outcomes.{Outcome, outcome, start_outcome, op_outcome, claim_outcome, poll_outcome, take_outcome, step_outcome, try_outcome, told_outcome, told_slots, at_word, leaves, drain_outcome}
+use Rattle.nc_rules.specs.Outcomes.{Outcome, outcome, start_outcome, op_outcome, claim_outcome, poll_outcome, take_outcome, step_outcome, try_outcome, told_outcome, told_slots, at_word, drain_outcome}
 use Rattle.nc_rules.specs.Run.{after}
 use Rattle.nc_rules.specs.World.{WorldState, no_driver, driver_of, hart, with_moves, slots_back, start}
-use Rattle.nc_holds.specs.Held.{IsEntryOf, times_held, is_holder, WordsAgree}
+use Rattle.nc_holds.specs.Held.{times_held, is_holder}
 use Rattle.nc_holds.specs.Holds.{Holds, DriverHolds}
 use Rattle.nc_holds.proofs.EventGiven.{IsEvent}
 use Rattle.nc_holds.proofs.EventHolds.{next_is}
@@ -42,7 +41,7 @@ use Rattle.nc_holds.proofs.OwnerLots.{same_lot}
 use Rattle.nc_holds.proofs.WordLists.{times, times-cons, own_hart}
 use Rattle.nc_flatness.specs.Flatness.{IsWorldOf}
 use Rattle.nc_flatness.proofs.Worlds.{worlds_start}
-use Rattle.nc_slot_laws.specs.Slots.{HasSlot, IsOneEntry, HasOne, SlotsAreHeldOnce, IsGivenOnce, EachIsGivenOnce}
+use Rattle.nc_slot_laws.specs.Slots.{HasSlot, IsOneEntry, HasOne, IsGivenOnce, EachIsGivenOnce}
 use Rattle.nc_slot_laws.proofs.GrantLists.{by_number, grants_stay}
 use Rattle.nc_slot_laws.proofs.Runs.{kept_from, world_after}
 

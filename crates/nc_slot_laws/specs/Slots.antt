@@ -1,5 +1,5 @@
 -- No slot is given twice, and no byte of a device range is granted twice. This project's own.
-use Rattle.std.specs.Prelude.{ℕ, ◌≡◌, ◌<◌, true, List, take, length, Option, Some, slice_get}
+use Rattle.std.specs.Prelude.{ℕ, ◌≡◌, ◌<◌, true, List, take, length, Some, slice_get}
 use Rattle.nc_num.specs.Places.{covers}
 use Rattle.nc_num.specs.declared.names.HartNo.{HartNo}
 use Rattle.nc_slots.specs.SlotWords.{holder_of}
