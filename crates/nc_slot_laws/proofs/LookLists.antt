@@ -18,7 +18,7 @@ use Rattle.nc_rules.specs.declared.records.Record.{Record}
 use Rattle.nc_rules.specs.declared.records.Record.TheVariants as records
 use Rattle.nc_rules.specs.Records.{touch_records, owner_records, answered}
 use Rattle.nc_counts.proofs.Plain.{is_plain, ArePlain}
-use Rattle.nc_slot_laws.specs.Looks.{Look, look_in, look_of, looks, event_in, is_step, looks_since, later, last_event, miss, misses, last_of}
+use Rattle.nc_slot_laws.specs.Looks.{Look, look_in, look_of, looks, event_in, is_step, is_look, looks_since, later, last_event, miss, misses, last_of}
 
 abbrev pub is_answer : Record → Bool
 is_answer (records.Ans h op a) = true
@@ -114,6 +114,13 @@ later_by before rs e (Some f) rest is = is
 pub last_later : (before : Option Event) (rs : List Record) (e : Event) → last_event None rs ≡ Some e → last_event before rs ≡ Some e
 last_later before [] e is = absurd (cc)
 last_later before (r ∷ rs) e is = later_by before rs e (event_in r) (λ at. last_later before rs e at) is
+
+look_by : (g : HartNo) (before : Option Event) (rs : List Record) (o : Option Event) → last_event None rs ≡ o → is_look g o ≡ true → is_look g (last_event before rs) ≡ true
+look_by g before rs None at is = absurd (false≢true is)
+look_by g before rs (Some e) at is = rw (last_later before rs e at) is
+
+pub look_later : (g : HartNo) (before : Option Event) (rs : List Record) → is_look g (last_event None rs) ≡ true → is_look g (last_event before rs) ≡ true
+look_later g before rs is = look_by g before rs (last_event None rs) refl is
 
 pub looks_append : (h : HartNo) (rs ss : List Record) → looks h (rs ++ ss) ≡ looks h rs ++ looks h ss
 looks_append h rs ss = flat_map-append (λ r. look_of h (look_in r)) rs ss

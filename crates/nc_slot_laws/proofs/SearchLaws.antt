@@ -42,8 +42,8 @@ use Rattle.nc_holds.proofs.EventHolds.{next_is, next_same}
 use Rattle.nc_flatness.specs.Flatness.{IsWorldOf}
 use Rattle.nc_flatness.proofs.Worlds.{worlds_start, worlds_stay, event_now, driver_start}
 use Rattle.nc_counts.proofs.Plain.{plain_op, plain_drain, plain_answer, plain_read, plain_write, plain_backs}
-use Rattle.nc_slot_laws.specs.Looks.{Look, look_in, look_of, looks, is_step, looks_since, last_event, is_noslot, misses, EachIsSearched}
-use Rattle.nc_slot_laws.proofs.LookLists.{is_answer, AreQuiet, plain_quiet, touch_quiet, owners_quiet, quiet_append, quiet_since, quiet_looks, quiet_last, quiet_answers, since_append, last_append, looks_append, last_later, front_looks, EndsIn, ends_nil, ends_more, last_misses, since_last, ends_on, SplitBy, in_first, in_second, split, last_answer}
+use Rattle.nc_slot_laws.specs.Looks.{Look, look_in, look_of, looks, is_step, is_look, looks_since, last_event, is_noslot, misses, EachIsSearched}
+use Rattle.nc_slot_laws.proofs.LookLists.{is_answer, AreQuiet, plain_quiet, touch_quiet, owners_quiet, quiet_append, quiet_since, quiet_looks, quiet_last, quiet_answers, since_append, last_append, looks_append, last_later, look_later, front_looks, EndsIn, ends_nil, ends_more, last_misses, since_last, ends_on, SplitBy, in_first, in_second, split, last_answer}
 use Rattle.nc_slot_laws.proofs.Refusing.{noslot_in}
 use Rattle.nc_slot_laws.proofs.Searching.{IsStart, steps_first, start_is, done_is, got_is, missed_is, lent_is}
 
@@ -57,6 +57,7 @@ HasSeen g seen d = (k : ℕ) → searching d ≡ Some k → EndsIn seen (misses 
 record Found (g : HartNo) (slots : ℕ) (seen : List Look) (before : List Record) : Type 0 where
   since : EndsIn (looks_since g seen before) (misses g slots)
   event : slots ≡ 0 → last_event None before ≡ Some (events.Issue g)
+  look : 0 < slots → is_look g (last_event None before) ≡ true
 
 -- through an event with these records, behind which the hart's driver is this
 record Kept (g : HartNo) (slots : ℕ) (seen : List Look) (rs : List Record) (d : DriverState) : Type 0 where
@@ -125,9 +126,14 @@ answered_looks g h op (Some a) = refl
 
 -- ---- a driver goes on
 
+-- the event of such an answer
+record IsOf (g : HartNo) (slots : ℕ) (e : Event) : Type 0 where
+  start : slots ≡ 0 → e ≡ events.Issue g
+  look : 0 < slots → is_look g (Some e) ≡ true
+
 record Going (g : HartNo) (slots : ℕ) (mid : List Look) (e : Event) (h : HartNo) (went : Went) (d : DriverState) : Type 0 where
   goes : HasSeen g mid d
-  noslot : h ≡ g → noslot_in went.moves.answer ≡ true → EndsIn mid (misses g slots) × (slots ≡ 0 → e ≡ events.Issue g)
+  noslot : h ≡ g → noslot_in went.moves.answer ≡ true → EndsIn mid (misses g slots) × IsOf g slots e
 
 goes_kept : (w : WorldState) (g : HartNo) (slots : ℕ) (seen mid : List Look) (e : Event) (h : HartNo) (machine : MachineState) (went : Went) (now : List (Option HartNo)) (touch : Option Touch) (rs : List Record) (d : DriverState)
     → Middle g slots (at_first g seen e) mid rs → Going g slots mid e h went d → Kept g slots seen (records.Event e ∷ (goes w h machine went now touch rs).records) d
@@ -153,12 +159,13 @@ goes_kept w g slots seen mid e h machine went now touch rs d m go =
           found before l.front b f;
     })
   where
-    found : {front : List Record} (before : List Record) → before ≡ records.Event e ∷ front → Begun g slots seen mid e front → EndsIn mid (misses g slots) × (slots ≡ 0 → e ≡ events.Issue g) → Found g slots seen before
+    found : {front : List Record} (before : List Record) → before ≡ records.Event e ∷ front → Begun g slots seen mid e front → EndsIn mid (misses g slots) × IsOf g slots e → Found g slots seen before
     found {front} before same b f =
         subst (λ (ss : List Record). Found g slots seen ss) (sym same)
         (record {
           since = subst (λ (ls : List Look). EndsIn ls (misses g slots)) (sym b.since) f.0;
-          event = λ z. b.last ∙ ap (λ (x : Event). Some x) (f.1 z);
+          event = λ z. b.last ∙ ap (λ (x : Event). Some x) (f.1.start z);
+          look = λ some. ap (is_look g) b.last ∙ f.1.look some;
         })
 
 -- ---- the machine alone goes on
@@ -222,7 +229,9 @@ step_going sc w g h seen went now lt call = elim (cases_eq g.0 h.0) [
       (subst (λ (d : DriverState). Going g sc.slots [] (events.Issue h) h went d) (sym (driver_same w h g went (omega (arith, lt, now.is.holds.drivers)) same))
       (record {
         goes = λ k at. none k (call.first.at k at);
-        noslot = λ mine un. (none sc.slots (sym (slots_are sc w h now.is lt) ∙ call.answer un), λ z. ap (λ (x : HartNo). events.Issue x) mine);
+        noslot = λ mine un.
+            let zero_is : sc.slots ≡ 0 = sym (slots_are sc w h now.is lt) ∙ call.answer un in
+            (none sc.slots zero_is, record { start = λ z. ap (λ (x : HartNo). events.Issue x) mine; look = λ some. absurd (omega (arith, zero_is, some)) });
       }))
   | inr ne ↦
       let first : at_first g seen (events.Issue h) ≡ seen = rw (not_mine h g ne) refl in
@@ -275,6 +284,7 @@ look h k got = record { hart = h; word = k; missed = not got }
 
 record IsLook (h : HartNo) (k : ℕ) (got : Bool) (e : Event) (r : Record) : Type 0 where
   step : (g : HartNo) → is_step g (Some e) ≡ false
+  event : (g : HartNo) → is_look g (Some e) ≡ (h.0 == g.0)
   look_is : look_in r ≡ Some (look h k got)
   last : (x : Option Event) → last_event x (r ∷ []) ≡ x
   answer : list_any is_answer (r ∷ []) ≡ false
@@ -296,9 +306,9 @@ look_middle sc w g h seen mid k got e r is lt same =
       answers = is.answer;
     }
 
-missed_going : (sc : Scenario) (w : WorldState) (g h : HartNo) (seen : List Look) (k : ℕ) (e : Event) → Now sc w g seen → h.0 < length w.machine.harts → searching (driver_of w h.0) ≡ Some k → k < sc.slots → g.0 ≡ h.0
+missed_going : (sc : Scenario) (w : WorldState) (g h : HartNo) (seen : List Look) (k : ℕ) (e : Event) → ((x : HartNo) → is_look x (Some e) ≡ (h.0 == x.0)) → Now sc w g seen → h.0 < length w.machine.harts → searching (driver_of w h.0) ≡ Some k → k < sc.slots → g.0 ≡ h.0
     → Going g sc.slots (seen ++ look h k false ∷ []) e h (told (driver_of w h.0) false) (told (driver_of w h.0) false).driver
-missed_going sc w g h seen k e now lt at few same =
+missed_going sc w g h seen k e event now lt at few same =
     let m = missed_is (driver_of w h.0) k at in
     let mine : h ≡ g = same_hart h g same in
     let before : EndsIn seen (misses g k) = now.has k (ap (λ (n : ℕ). searching (driver_of w n)) same ∙ at) in
@@ -307,7 +317,7 @@ missed_going sc w g h seen k e now lt at few same =
       goes = λ j is. subst (λ (n : ℕ). EndsIn (seen ++ look h k false ∷ []) (misses g n)) (sym (m.next j is)) ends;
       noslot = λ _ un.
           let all : k + 1 ≡ sc.slots = omega (arith, m.answer un, slots_are sc w h now.is lt, few) in
-          (subst (λ (n : ℕ). EndsIn (seen ++ look h k false ∷ []) (misses g n)) all ends, λ z. absurd (omega (arith, z, few)));
+          (subst (λ (n : ℕ). EndsIn (seen ++ look h k false ∷ []) (misses g n)) all ends, record { start = λ z. absurd (omega (arith, z, few)); look = λ some. event g ∙ is_mine h g same });
     }
 
 got_going : (sc : Scenario) (w : WorldState) (g h : HartNo) (seen : List Look) (k : ℕ) (e : Event) → searching (driver_of w h.0) ≡ Some k
@@ -319,10 +329,10 @@ got_going sc w g h seen k e at =
       noslot = λ _ un. absurd (false≢true (sym call.answer ∙ un));
     }
 
-look_going : (sc : Scenario) (w : WorldState) (g h : HartNo) (seen : List Look) (k : ℕ) (got : Bool) (e : Event) → Now sc w g seen → h.0 < length w.machine.harts → searching (driver_of w h.0) ≡ Some k → k < sc.slots → g.0 ≡ h.0
+look_going : (sc : Scenario) (w : WorldState) (g h : HartNo) (seen : List Look) (k : ℕ) (got : Bool) (e : Event) → ((x : HartNo) → is_look x (Some e) ≡ (h.0 == x.0)) → Now sc w g seen → h.0 < length w.machine.harts → searching (driver_of w h.0) ≡ Some k → k < sc.slots → g.0 ≡ h.0
     → Going g sc.slots (seen ++ look h k got ∷ []) e h (told (driver_of w h.0) got) (told (driver_of w h.0) got).driver
-look_going sc w g h seen k true e now lt at few same = got_going sc w g h seen k e at
-look_going sc w g h seen k false e now lt at few same = missed_going sc w g h seen k e now lt at few same
+look_going sc w g h seen k true e event now lt at few same = got_going sc w g h seen k e at
+look_going sc w g h seen k false e event now lt at few same = missed_going sc w g h seen k e event now lt at few same
 
 few_words : (sc : Scenario) (w : WorldState) (h : HartNo) (k : ℕ) → IsWorldOf sc w → h.0 < length w.machine.harts → searching (driver_of w h.0) ≡ Some k → k < sc.slots
 few_words sc w h k is lt at =
@@ -337,7 +347,7 @@ look_kept sc w g h seen k got e slots r now lt at is =
       | inl same ↦
           let mid = look_middle sc w g h seen (seen ++ look h k got ∷ []) k got e r is few (ap (λ (ls : List Look). seen ++ ls) (look_mine h g (look h k got) refl same)) in
           goes_kept w g sc.slots seen (seen ++ look h k got ∷ []) e h w.machine went slots None (r ∷ []) (driver_by w h went g) mid
-          (subst (λ (d : DriverState). Going g sc.slots (seen ++ look h k got ∷ []) e h went d) (sym (driver_same w h g went (omega (arith, lt, now.is.holds.drivers)) same)) (look_going sc w g h seen k got e now lt at few same))
+          (subst (λ (d : DriverState). Going g sc.slots (seen ++ look h k got ∷ []) e h went d) (sym (driver_same w h g went (omega (arith, lt, now.is.holds.drivers)) same)) (look_going sc w g h seen k got e is.event now lt at few same))
       | inr ne ↦
           let mid = look_middle sc w g h seen seen k got e r is few (ap (λ (ls : List Look). seen ++ ls) (look_other h g (look h k got) refl ne) ∙ append-nil seen) in
           goes_kept w g sc.slots seen seen e h w.machine went slots None (r ∷ []) (driver_by w h went g) mid
@@ -349,22 +359,22 @@ try_at : (sc : Scenario) (w : WorldState) (g h : HartNo) (seen : List Look) (k :
     → KeptBy sc w g seen (events.Try h) (goes w h w.machine (told (driver_of w h.0) (is_none o)) slots None (try_records h k o))
 try_at sc w g h seen k None slots now lt at =
     look_kept sc w g h seen k true (events.Try h) slots (records.Try h k (answer_to None)) now lt at
-    (record { step = λ g. refl; look_is = refl; last = λ x. refl; answer = refl; since = λ g seen. refl })
+    (record { step = λ g. refl; event = λ g. refl; look_is = refl; last = λ x. refl; answer = refl; since = λ g seen. refl })
 try_at sc w g h seen k (Some x) slots now lt at =
     look_kept sc w g h seen k false (events.Try h) slots (records.Try h k (answer_to (Some x))) now lt at
-    (record { step = λ g. refl; look_is = refl; last = λ x. refl; answer = refl; since = λ g seen. refl })
+    (record { step = λ g. refl; event = λ g. refl; look_is = refl; last = λ x. refl; answer = refl; since = λ g seen. refl })
 
 told_at : (sc : Scenario) (w : WorldState) (g h : HartNo) (seen : List Look) (k : ℕ) (got : Bool) (o : Option HartNo) (slots : List (Option HartNo)) → Now sc w g seen → h.0 < length w.machine.harts → searching (driver_of w h.0) ≡ Some k
     → KeptBy sc w g seen (events.Told h got) (goes w h w.machine (told (driver_of w h.0) (got_word got o)) slots None (told_records h k got o))
 told_at sc w g h seen k true None slots now lt at =
     look_kept sc w g h seen k true (events.Told h true) slots (records.Told h k (told_answer true None)) now lt at
-    (record { step = λ g. refl; look_is = refl; last = λ x. refl; answer = refl; since = λ g seen. refl })
+    (record { step = λ g. refl; event = λ g. refl; look_is = refl; last = λ x. refl; answer = refl; since = λ g seen. refl })
 told_at sc w g h seen k true (Some x) slots now lt at =
     look_kept sc w g h seen k false (events.Told h true) slots (records.Told h k (told_answer true (Some x))) now lt at
-    (record { step = λ g. refl; look_is = refl; last = λ x. refl; answer = refl; since = λ g seen. refl })
+    (record { step = λ g. refl; event = λ g. refl; look_is = refl; last = λ x. refl; answer = refl; since = λ g seen. refl })
 told_at sc w g h seen k false o slots now lt at =
     look_kept sc w g h seen k false (events.Told h false) slots (records.Told h k (told_answer false o)) now lt at
-    (record { step = λ g. refl; look_is = refl; last = λ x. refl; answer = refl; since = λ g seen. refl })
+    (record { step = λ g. refl; event = λ g. refl; look_is = refl; last = λ x. refl; answer = refl; since = λ g seen. refl })
 
 word_kept : (sc : Scenario) (w : WorldState) (g h : HartNo) (seen : List Look) (e : Event) (f : ℕ → Outcome) (o : Option ℕ) → searching (driver_of w h.0) ≡ o → is_some o ≡ true → ((k : ℕ) → searching (driver_of w h.0) ≡ Some k → KeptBy sc w g seen e (f k)) → KeptBy sc w g seen e (at_word w f o)
 word_kept sc w g h seen e f None at may each = absurd (false≢true may)
@@ -463,6 +473,7 @@ behind_found : (g : HartNo) (slots : ℕ) (seen : List Look) (rs before : List R
 behind_found g slots seen rs before f = record {
   since = subst (λ (ls : List Look). EndsIn ls (misses g slots)) (sym (since_append g seen rs before)) f.since;
   event = λ z. last_append None rs before ∙ last_later (last_event None rs) before (events.Issue g) (f.event z);
+  look = λ some. ap (is_look g) (last_append None rs before) ∙ look_later g (last_event None rs) before (f.look some);
 }
 
 run_kept : (sc : Scenario) (w : WorldState) (g : HartNo) (seen : List Look) (es : List Event) → Now sc w g seen → AreThere sc es → RunKept g sc.slots seen (run.records w es)
@@ -507,5 +518,6 @@ searched_always sc es h op a before behind accepted there at un =
       looked = last_misses h sc.slots (looks h before) (ends_on (looks h before) (looks_since h [] before) (misses h sc.slots) (since_last h [] before) found.since);
       since = last_misses h sc.slots (looks_since h [] before) found.since;
       none = λ z. front_looks h before (records.Ans h op a ∷ behind) (ap (looks h) (sym at) ∙ run_is.none z);
+      last = found.look;
       start = found.event;
     }

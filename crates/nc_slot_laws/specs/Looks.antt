@@ -1,6 +1,6 @@
 -- What a run's records tell of a hart's looks at slot words, and what stands before an answer that no slot was found. This
 -- project's own.
-use Rattle.std.specs.Prelude.{ℕ, ◌≡◌, ◌-◌, ◌==◌, Bool, true, false, if◌then◌else◌, List, [], ◌∷◌, ◌++◌, length, map, flat_map, drop, Option, Some, None}
+use Rattle.std.specs.Prelude.{ℕ, ◌≡◌, ◌-◌, ◌<◌, ◌==◌, Bool, true, false, if◌then◌else◌, List, [], ◌∷◌, ◌++◌, length, map, flat_map, drop, Option, Some, None}
 use Rattle.std.specs.List.{range_with_len}
 use Rattle.nc_num.specs.declared.names.HartNo.{HartNo}
 use Rattle.nc_slots.specs.declared.slots.TryAnswer.{TryAnswer}
@@ -78,7 +78,19 @@ abbrev pub looks_since : HartNo → List Look → List Record → List Look
 looks_since h seen [] = seen
 looks_since h seen (r ∷ rs) = looks_since h (if is_step h (event_in r) then [] else seen ++ look_of h (look_in r)) rs
 
--- the event of the last record of one
+-- hart h looks at a slot word
+abbrev pub is_look : HartNo → Option Event → Bool
+is_look h None = false
+is_look h (Some (events.Try g)) = g.0 == h.0
+is_look h (Some (events.Told g got)) = g.0 == h.0
+is_look h (Some (events.Issue g)) = false
+is_look h (Some (events.Drain g i)) = false
+is_look h (Some (events.Fill g b)) = false
+is_look h (Some (events.Evict g b)) = false
+is_look h (Some (events.ChanRead chan)) = false
+is_look h (Some (events.ChanWrite chan)) = false
+
+-- the event of the last record of one, or else this
 abbrev pub later : Option Event → Option Event → Option Event
 later before None = before
 later before (Some e) = Some e
@@ -110,12 +122,13 @@ misses h n = map (miss h) (range_with_len 0 n)
 abbrev pub last_of : {A : Type 0} → ℕ → List A → List A
 last_of n xs = drop (length xs - n) xs
 
--- Each word was tried: the last looks of the hart, as many as there are slots, are at the words 0, 1, .. in turn, each
--- missed, and they stand behind its last step. Without slots it looks at none, and is refused by the step that starts the
--- operation
+-- What stands before an answer that no slot was found. Each word was tried: the last looks of the hart, as many as there
+-- are slots, are at the words 0, 1, .. in turn, each missed; they stand behind its last step; and the answer is of the
+-- event of the last of them. Without slots the hart looked at none, and is refused by the step that starts the operation
 pub record IsSearched (h : HartNo) (slots : ℕ) (before : List Record) : Type 0 where
   pub looked : last_of slots (looks h before) ≡ misses h slots
   pub since : last_of slots (looks_since h [] before) ≡ misses h slots
+  pub last : 0 < slots → is_look h (last_event None before) ≡ true
   pub none : slots ≡ 0 → looks h before ≡ []
   pub start : slots ≡ 0 → last_event None before ≡ Some (events.Issue h)
 
