@@ -124,7 +124,7 @@ last_of n xs = drop (length xs - n) xs
 
 -- What stands before an answer that no slot was found. Each word was tried: the last looks of the hart, as many as there
 -- are slots, are at the words 0, 1, .. in turn, each missed; they stand behind its last step; and the answer is of the
--- event of the last of them. Without slots the hart looked at none, and is refused by the step that starts the operation
+-- event of the last of them. Without slots the hart looked at none, and the answer is of its step
 pub record IsSearched (h : HartNo) (slots : ℕ) (before : List Record) : Type 0 where
   pub looked : last_of slots (looks h before) ≡ misses h slots
   pub since : last_of slots (looks_since h [] before) ≡ misses h slots

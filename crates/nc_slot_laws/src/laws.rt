@@ -10,8 +10,8 @@ pub fn slots_law()
 {}
 
 /// Before each answer that no slot was found the hart's last looks at slot words, as many as there are slots, are at the
-/// words 0, 1, .. in turn, each missed, since its last step. Without slots it is refused by the step that starts the
-/// operation.
+/// words 0, 1, .. in turn, each missed, since its last step, and the answer is of the event of the last. Without slots the
+/// hart looked at none, and the answer is of its step.
 pub fn noslot_law()
     ensures { EachIsSearched }
 {}
