@@ -4,10 +4,12 @@ use nc_calls::{
     calls_keep_shape, channels_by_place, drains_by_place, issues_by_place, loads_show_what_is_seen,
     machine_stays_sound, moves_by_place, queues_keep_order, start_is_empty, views_stay,
 };
+use nc_counts::{counts_law, owners_law};
 use nc_scripts::{
     drivers_stay, every_driver_begins, every_driver_stays, first_drivers, last_loads_follow,
     new_lots_are_free,
 };
+use nc_slot_laws::{noslot_law, slots_law};
 
 #[test]
 fn laws_are_called() {
@@ -27,4 +29,8 @@ fn laws_are_called() {
     every_driver_stays();
     last_loads_follow();
     new_lots_are_free();
+    counts_law();
+    owners_law();
+    slots_law();
+    noslot_law();
 }

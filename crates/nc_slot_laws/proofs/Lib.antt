@@ -1,0 +1,7 @@
+mod Runs
+mod GrantLists
+mod SlotLaws
+mod Refusing
+mod LookLists
+mod Searching
+mod SearchLaws
