@@ -1,4 +1,4 @@
-//! `dmasim run`: reads a scenario from standard input and writes its report to standard output.
+//! The program `dmasim`: carries out the command that its words name, over standard input and standard output.
 #![tactic(auto)]
 
 use nc_io::{StdSink, StdSource};
@@ -9,7 +9,8 @@ use std::io::{BufWriter, ErrorKind, Write};
 use std::process::ExitCode;
 use std::rt::Env;
 
-/// The words after the program's name; none where one is not UTF-8, which no command is. The error is that memory ran out.
+/// Returns the words after the program's name, or none where one is not UTF-8, which no command is. The error is that
+/// memory ran out.
 fn words<R: Env + AllocGlobal>(rt: &R, alloc: Global) -> Result<Vec<String>, AllocError> {
     let mut words = Vec::new(alloc);
     match env::args(rt) {

@@ -12,7 +12,7 @@ use nc_scen::Scenario;
 use nc_world::World;
 use std::alloc::{AllocError, Global};
 
-/// The part of a span that lies in its first block, and the rest of it.
+/// Splits a span into the part that lies in its first block, and the rest.
 fn split(span: Span, size: u32) -> (Span, Span)
     requires size { IsBlockSize size }
     requires some { 0 < span.len }
@@ -33,7 +33,7 @@ fn split(span: Span, size: u32) -> (Span, Span)
     (first, rest)
 }
 
-/// The bytes of a range: the caches', else memory's.
+/// Returns the bytes of a range: those of the caches, else memory's.
 fn bytes_of(alloc: Global, w: &World, size: u32, span: Span) -> Result<Vec<u8>, NoMemory>
     requires size { w.now.at.machine.size ≡ size }
     requires sized { IsBlockSize size }
@@ -87,7 +87,7 @@ fn put_left(text: &mut String, h: u8, op: Option<u32>) -> Result<(), AllocError>
     }
 }
 
-/// Writes where the scripts stand that are not at their end.
+/// Writes a line for each script that is not at its end.
 fn put_lefts(text: &mut String, w: &World) -> Result<(), AllocError>
     ensures { OnOk result (string_bytes text.new ≡ string_bytes text.old ++ left_lines 0 w.now.at.drivers) }
 {
@@ -105,8 +105,8 @@ fn put_end(text: &mut String, w: &World) -> Result<(), AllocError>
     write!(text, "end events {events} touches {touches}\n")
 }
 
-/// The lines after the events: the buffers, the scripts that are not at their end, and the counts. The world is the
-/// state of a run of the scenario.
+/// Returns the lines after the events: those of the buffers, those of the scripts that are not at their end, and the
+/// counts. The world is the state of a run of the scenario.
 ///
 /// # Errors
 ///

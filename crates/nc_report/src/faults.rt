@@ -27,7 +27,7 @@ fn refused_text(alloc: Global, refused: &Refused) -> Result<String, AllocError>
     }
 }
 
-/// The line of what is wrong with an input.
+/// Returns the line that tells what is wrong with an input.
 ///
 /// # Errors
 ///

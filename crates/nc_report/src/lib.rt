@@ -1,4 +1,4 @@
-//! The lines of a report: of events and records, of what stands after them, and of refused input.
+//! The lines of a report: those of events and their records, those after all events, and the line of a refused input.
 //!
 //! The contract for the layer above: each text is exactly the written one, to the byte, or memory ran out.
 #![tactic(auto)]

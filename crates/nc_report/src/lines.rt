@@ -41,7 +41,7 @@ fn touch(text: &mut String, t: Touch) -> Result<(), AllocError>
     )
 }
 
-/// A hart's bytes at a place, behind this word.
+/// Writes a hart's bytes at a place, behind this word.
 fn piece(
     text: &mut String,
     word: &str,
@@ -55,7 +55,7 @@ fn piece(
     write!(text, "{word} {} {} {}\n", hart.0, Six(at.0), InHex(*bytes))
 }
 
-/// A cache operation on a block, behind this word.
+/// Writes a cache operation on a block, behind this word.
 fn operation(
     text: &mut String,
     word: &str,
@@ -75,7 +75,7 @@ fn operation(
     )
 }
 
-/// A fence's sets, behind this word.
+/// Writes a fence's sets, behind this word.
 fn sets(text: &mut String, word: &str, hart: HartNo, pred: u8, succ: u8) -> Result<(), AllocError>
     ensures { OnOk result (string_bytes text.new ≡ string_bytes text.old
         ++ words (word.now ∷ decimal hart.0 ∷ decimal pred ∷ decimal succ ∷ [])) }
@@ -83,7 +83,7 @@ fn sets(text: &mut String, word: &str, hart: HartNo, pred: u8, succ: u8) -> Resu
     write!(text, "{word} {} {pred} {succ}\n", hart.0)
 }
 
-/// An IO store, behind this word.
+/// Writes an IO store, behind this word.
 fn target(text: &mut String, word: &str, hart: HartNo, to: IoTarget) -> Result<(), AllocError>
     ensures { OnOk result (string_bytes text.new ≡ string_bytes text.old
         ++ words (word.now ∷ decimal hart.0 ∷ target to ∷ [])) }
@@ -97,7 +97,7 @@ fn drained_mark(text: &mut String, hart: HartNo) -> Result<(), AllocError>
     write!(text, "dr {} mark\n", hart.0)
 }
 
-/// Where a copy came from, and the end of its line.
+/// Writes where a copy came from, to the end of its line.
 fn origin(text: &mut String, from: &Origin) -> Result<(), AllocError>
     ensures { OnOk result (string_bytes text.new ≡ string_bytes text.old ++ words (origin from.now ∷ [])) }
 {
@@ -108,7 +108,7 @@ fn origin(text: &mut String, from: &Origin) -> Result<(), AllocError>
     }
 }
 
-/// A copy that was got, behind this word.
+/// Writes a copy that came, behind this word.
 fn copy(
     text: &mut String,
     word: &str,
@@ -129,7 +129,7 @@ fn dropped(text: &mut String, hart: HartNo, at: Place) -> Result<(), AllocError>
     write!(text, "drop {} {}\n", hart.0, Six(at.0))
 }
 
-/// A channel's bytes at a place, behind this word.
+/// Writes a channel's bytes at a place, behind this word.
 fn transaction(
     text: &mut String,
     word: &str,
@@ -229,7 +229,7 @@ fn put_line(text: &mut String, entry: &Record) -> Result<(), AllocError>
 /// More bytes than the lines of most events have.
 const ROOM: usize = 256;
 
-/// The lines of some records.
+/// Returns the lines of some records.
 pub(crate) fn lines(alloc: Global, records: &[Record]) -> Result<String, AllocError>
     ensures { IfOk result (λ s. string_bytes s ≡ flat_map line records.now) }
 {
@@ -240,7 +240,7 @@ pub(crate) fn lines(alloc: Global, records: &[Record]) -> Result<String, AllocEr
     Ok(text)
 }
 
-/// The line of an event.
+/// Returns the line `e TOKEN` of an event.
 ///
 /// # Errors
 ///
@@ -253,7 +253,7 @@ pub fn event_line(alloc: Global, e: Event) -> Result<Vec<u8>, NoMemory>
     Ok(text.into_bytes())
 }
 
-/// The line of a record.
+/// Returns the line of a record.
 ///
 /// # Errors
 ///

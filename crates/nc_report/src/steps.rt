@@ -17,12 +17,12 @@ use nc_scen::Event;
 use nc_world::{Stepped, World};
 use std::alloc::Global;
 
-/// Makes one event, and writes the lines of its records in one piece; the records are dropped.
+/// Makes one event, writes the lines of its records in one piece, and drops the records.
 ///
 /// # Errors
 ///
-/// Where it stops, a front of the lines was written. `Failed`: the write failed, and the world is stepped. `NoMemory`:
-/// memory ran out, and the world is stepped or as before. In each case no records wait, and more events may follow.
+/// `Failed` where the write failed: the world is stepped. `NoMemory` where memory runs out: the world is stepped or as
+/// before. In both cases a prefix of the lines was written, no records wait, and more events may follow.
 pub fn step_out<K: Sink>(
     alloc: Global,
     w: &mut World,

@@ -33,7 +33,7 @@ pub struct Tally {
     pub missed: u64,
 }
 
-/// Counts some records too.
+/// Adds what some records count to a tally.
 fn counted(tally: Tally, records: &[Record]) -> Tally
     requires done { tally.done + count_by is_copydone records.now < 2 ^ 64 }
     requires missed { tally.missed + count_by is_noslot records.now < 2 ^ 64 }
@@ -45,7 +45,7 @@ fn counted(tally: Tally, records: &[Record]) -> Tally
     }
 }
 
-/// Makes one event and counts its answers; the records are dropped.
+/// Makes one event, counts its answers, and drops its records.
 fn step_counted(w: &mut World, e: Event, tally: Tally) -> Result<(Stepped, Tally), NoMemory>
     requires there { IsThere (length w.old.at.machine.harts) w.old.at.machine.size (length w.old.at.machine.cache.ram) e }
     requires none { w.old.records ≡ [] }
@@ -62,7 +62,7 @@ fn step_counted(w: &mut World, e: Event, tally: Tally) -> Result<(Stepped, Tally
     Ok((stepped, tally))
 }
 
-/// Makes the events of a scenario's schedule, and keeps no records of them.
+/// Makes the events of a scenario's schedule, and keeps no more of their records than the tally.
 fn run_counted(alloc: Global, sc: &Scenario) -> Result<(World, Tally), NoMemory>
     requires accepted { IsAccepted sc.now }
     ensures at { IfOk result (λ r. r.0.at ≡ after (start sc.now) (sched sc.now)) }
@@ -80,7 +80,7 @@ fn run_counted(alloc: Global, sc: &Scenario) -> Result<(World, Tally), NoMemory>
     Ok((w, tally))
 }
 
-/// A status, and the line that is written.
+/// The status and the line that the command `gen` owes.
 #[derive(Debug, Drop)]
 pub struct Generated {
     /// The status of the run.
@@ -89,7 +89,7 @@ pub struct Generated {
     pub line: Vec<u8>,
 }
 
-/// Runs the scenario of a number, and sums the run up.
+/// Runs the scenario that is made of a number, and sums the run up in a line.
 ///
 /// # Errors
 ///

@@ -1,7 +1,7 @@
 //! The top call of `dmasim`: words, streams and statuses.
 //!
 //! Its contract is the headline: whatever the words and the bytes of the input are, what is written and answered is
-//! what is due for them, or a failure that has its cause; and up to the first touch the run that is reported is flat.
+//! what is due for them, or a failure that has its cause; and up to the first touch the reported run shows flat memory.
 #![tactic(auto)]
 
 mod generated;

@@ -17,7 +17,7 @@ use nc_sched::Sched;
 use nc_world::World;
 use std::alloc::Global;
 
-/// Whether every script is at its end.
+/// Tells whether every script is at its end.
 fn at_end(w: &World) -> bool
     ensures { result ≡ at_end w.now.at }
 {
@@ -29,7 +29,7 @@ fn at_end(w: &World) -> bool
     true
 }
 
-/// 1 where there is a touch, else 7 where a script is not at its end, else 0.
+/// Returns the status of a run: 1 where it has a touch, else 7 where a script is not at its end, else 0.
 pub fn status_of(w: &World) -> u8
     ensures value { result ≡ status_at w.now.at }
     ensures kind { IsAnswer result }
@@ -44,8 +44,8 @@ pub fn status_of(w: &World) -> u8
     7
 }
 
-/// Makes the events of the scenario's schedule and writes the report as they happen. Where it stops, a front of the
-/// report was written.
+/// Makes the events of the scenario's schedule, and writes the report as they happen. Where a write fails or memory runs
+/// out, a prefix of the report was written.
 pub fn run_out<K: Sink>(alloc: Global, sc: &Scenario, out: &mut K) -> Result<u8, Stop>
     requires { IsAccepted sc.now }
     ensures status { IfOk result (λ n. n ≡ status sc.now (sched sc.now)) }

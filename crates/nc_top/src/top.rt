@@ -25,7 +25,7 @@ use nc_report::refused;
 use nc_scen::{ScenFault, Scenario, read};
 use std::alloc::Global;
 
-/// Writes what is due.
+/// Writes a text, and returns this status, or that of the failure.
 fn put<K: Sink>(out: &mut K, status: u8, text: &[u8]) -> u8
     requires { IsAnswer status }
     ensures written { IsAnswer result → (result ≡ status) × Appends (K.held out.old) (K.held out.new) text.now }

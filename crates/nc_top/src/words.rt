@@ -5,20 +5,20 @@ ghost use Rattle.nc_top.specs.Due.{command_of, is_migrate, is_pool, is_run, seed
 
 use nc_values::number_in;
 
-/// What is asked for.
+/// A command of the program.
 #[derive(Clone, Copy, Debug, PartialEq, Eq)]
 pub enum Command {
-    /// A scenario's report.
+    /// Writes a scenario's report.
     Run,
-    /// A scenario moved to version 2.
+    /// Writes a scenario moved to version 2.
     Migrate,
-    /// The lines of a pool of pieces.
+    /// Writes the lines of a pool of small pieces.
     Pool,
-    /// The line that sums up the run of a number's scenario.
+    /// Writes the line that sums up the run of a number's scenario.
     Gen(u64),
 }
 
-/// The command that the words are, None where they are none.
+/// Returns the command that the words name, or None where they name none.
 pub fn command_of(words: &Vec<String>) -> Option<Command>
     ensures { result ≡ command_of (map string_bytes words.now.items) }
 {
@@ -37,28 +37,28 @@ pub fn command_of(words: &Vec<String>) -> Option<Command>
     }
 }
 
-/// Whether the words are `run`.
+/// Tells whether the words are `run`.
 fn is_run(words: &Vec<String>) -> bool
     ensures { result ≡ is_run (map string_bytes words.now.items) }
 {
     words.len() == 1 && words[0].as_str() == "run"
 }
 
-/// Whether the words are `migrate`.
+/// Tells whether the words are `migrate`.
 fn is_migrate(words: &Vec<String>) -> bool
     ensures { result ≡ is_migrate (map string_bytes words.now.items) }
 {
     words.len() == 1 && words[0].as_str() == "migrate"
 }
 
-/// Whether the words are `pool`.
+/// Tells whether the words are `pool`.
 fn is_pool(words: &Vec<String>) -> bool
     ensures { result ≡ is_pool (map string_bytes words.now.items) }
 {
     words.len() == 1 && words[0].as_str() == "pool"
 }
 
-/// The number of the words `gen N`: in decimal digits without leading zeros, below 2^64.
+/// Returns the number of the words `gen N`: one below 2^64, in decimal digits without leading zeros.
 fn seed_in(words: &Vec<String>) -> Option<u64>
     ensures { result ≡ seed_in (map string_bytes words.now.items) }
 {
