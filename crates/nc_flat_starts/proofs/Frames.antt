@@ -1,7 +1,8 @@
--- A driver goes on while the machine's bytes stay, and one mapping's places change their owner, or none do.
-use Rattle.std.specs.Prelude.{Option, Some, None, All, true, false}
+-- A driver goes on, and with it no machine but what its hart issues: the entries of one lot change their owner, or keep it,
+-- and no other place does.
+use Rattle.std.specs.Prelude.{Option, Some, None, All, true, false, slice_get}
 use Rattle.std.specs.List.{list_any}
-use Rattle.std.proofs.Common.{◌≡◌, ◌≢◌, ℕ, ◌<◌, List, length, refl, sym, ap, ◌∙◌, inl, inr, subst}
+use Rattle.std.proofs.Common.{◌≡◌, ◌≢◌, ℕ, zero, suc, ◌<◌, List, [], ◌∷◌, length, refl, sym, ap, ◌∙◌, inl, inr, subst}
 use Rattle.std.proofs.lemmas.Bool.{cases_Bool, cases_eq, both_ways}
 use Rattle.std.proofs.lemmas.List.{get_or-set_same, get_or-set_other}
 use Rattle.nc_num.specs.Memory.{byte}
@@ -10,30 +11,88 @@ use Rattle.nc_num.specs.declared.names.HartNo.{HartNo}
 use Rattle.nc_num.specs.declared.names.MapId.{MapId}
 use Rattle.nc_num.specs.declared.places.Span.{Span}
 use Rattle.nc_env.specs.declared.CboOp.TheVariants as cbos
-use Rattle.nc_queue.specs.declared.entry.Entry.{Entry}
+use Rattle.nc_queue.specs.declared.entry.Entry.{Entry as QueueEntry}
 use Rattle.nc_queue.specs.declared.entry.Entry.TheVariants as entries
 use Rattle.nc_model.specs.declared.owners.Owner.{Owner}
 use Rattle.nc_model.specs.declared.owners.Owner.TheVariants.{Thread, Passing, Lending, Device, Returning, Synced, Pool}
 use Rattle.nc_own.specs.Books.{owner_in}
-use Rattle.nc_scen.specs.Regions.{pool_of}
+use Rattle.nc_scen.specs.Regions.{pool_of, slots_of}
 use Rattle.nc_scen.specs.declared.scenario.Scenario.{Scenario}
+use Rattle.nc_sg.specs.declared.list.Entry.{Entry}
+use Rattle.nc_rules.specs.declared.lots.Lot.{Lot}
+use Rattle.nc_rules.specs.declared.lots.Side.{Side}
 use Rattle.nc_rules.specs.declared.steps.Step.{Step}
-use Rattle.nc_rules.specs.Lots.{Fixed}
+use Rattle.nc_rules.specs.Lots.{Fixed, map_id, owner_of_side}
 use Rattle.nc_rules.specs.Machine.{MachineState, hart_of, queue_of}
 use Rattle.nc_rules.specs.Driver.{DriverState, Went}
 use Rattle.nc_rules.specs.Watched.{owner_of}
 use Rattle.nc_rules.specs.World.{WorldState, driver_of, no_driver, owners_moved}
 use Rattle.nc_scripts.proofs.Lists.{all_to}
 use Rattle.nc_rows.specs.Ahead.{is_full, settling, sending, coming}
+use Rattle.nc_rows.specs.Places.{CalmRow}
 use Rattle.nc_rows.specs.Rows.{Loan, Book, Row}
 use Rattle.nc_rows.specs.Parts.{IsQueued, MayBeHeld, rest_last, LastIs}
 use Rattle.nc_calls.specs.PlaceLaws.{NotHeld}
 use Rattle.nc_flatness.specs.Books.{loan_of, number_in, book_of, mapping_in, LiesIn}
-use Rattle.nc_flatness.specs.Flatness.{Drives, BytesStand, Flatness}
+use Rattle.nc_flatness.specs.Flatness.{Drives, IsUnseen, BytesStand, Flatness}
 use Rattle.nc_flatness.proofs.Outcomes.{gone}
-use Rattle.nc_flat_plans.specs.Books.{SameLoan, ReadsAlike}
-use Rattle.nc_flat_plans.specs.Turning.{HasNoArea}
-use Rattle.nc_flat_plans.proofs.BookRows.{row_same}
+use Rattle.nc_flat_starts.specs.Books.{SameLoan, ReadsAlike, HasNoArea}
+use Rattle.nc_flat_starts.proofs.BookRows.{row_same}
+
+-- ---- the places of a lot
+
+-- the place is one of entry i
+pub record IsPlace (lot : Lot) (i : ℕ) (e : Entry) (x : ℕ) : Type 0 where
+  pub entry : slice_get lot.list.entries i ≡ Some e
+  pub on : covers e.span x ≡ true
+
+abbrev pub IsOff : Lot → ℕ → Type 0
+IsOff lot x = (i : ℕ) (e : Entry) → IsPlace lot i e x → ⊥
+
+pub data IsSomewhere (lot : Lot) (x : ℕ) : Type 0 where
+  On : (i : ℕ) (e : Entry) → IsPlace lot i e x → IsSomewhere lot x
+  Off : IsOff lot x → IsSomewhere lot x
+
+-- the same of entries
+data IsFound (es : List Entry) (x : ℕ) : Type 0 where
+  Here : (i : ℕ) (e : Entry) → slice_get es i ≡ Some e → covers e.span x ≡ true → IsFound es x
+  Nowhere : ((i : ℕ) (e : Entry) → slice_get es i ≡ Some e → covers e.span x ≡ true → ⊥) → IsFound es x
+
+found_later : (d : Entry) (es : List Entry) (x : ℕ) → covers d.span x ≡ false → IsFound es x → IsFound (d ∷ es) x
+found_later d es x off (Here i e there on) = Here (suc i) e there on
+found_later d es x off (Nowhere none) = Nowhere never
+  where
+    never : (i : ℕ) (e : Entry) → slice_get (d ∷ es) i ≡ Some e → covers e.span x ≡ true → ⊥
+    never zero e there on = let same : d ≡ e = cc in both_ways (covers d.span x) off (subst (λ (k : Entry). covers k.span x ≡ true) (sym same) on)
+    never (suc i) e there on = none i e there on
+
+found_in : (es : List Entry) (x : ℕ) → IsFound es x
+found_in [] x = Nowhere (λ i e there on. absurd cc)
+found_in (e ∷ es) x = elim (cases_Bool (covers e.span x)) [
+  | inl on ↦ Here 0 e refl on
+  | inr off ↦ found_later e es x off (found_in es x)
+]
+
+somewhere_by : (lot : Lot) (x : ℕ) → IsFound lot.list.entries x → IsSomewhere lot x
+somewhere_by lot x (Here i e there on) = On i e (record { entry = there; on = on })
+somewhere_by lot x (Nowhere none) = Off (λ i e is. none i e is.entry is.on)
+
+pub somewhere : (lot : Lot) (x : ℕ) → IsSomewhere lot x
+somewhere lot x = somewhere_by lot x (found_in lot.list.entries x)
+
+-- ---- what goes on
+
+-- from the world's machine to m nothing changes that is another hart's alone
+pub record GoesBy (w : WorldState) (h : HartNo) (m : MachineState) : Type 0 where
+  pub size : m.size ≡ w.machine.size
+  pub pool : m.pool ≡ w.machine.pool
+  pub queues : (g : ℕ) → g ≢ h.0 → queue_of m g ≡ queue_of w.machine g
+  pub lasts : (g : ℕ) → g ≢ h.0 → (hart_of m g).last ≡ (hart_of w.machine g).last
+  pub unfenced : list_any is_full (queue_of m h.0) ≡ false
+  pub free : (x : ℕ) → NotHeld w.machine x → NotHeld m x
+
+pub goes_still : (sc : Scenario) (f : List ℕ) (w : WorldState) (h : HartNo) → BytesStand sc f w → GoesBy w h w.machine
+goes_still sc f w h s = record { size = refl; pool = refl; queues = λ g ne. refl; lasts = λ g ne. refl; unfenced = s.unfenced h.0; free = λ x free. free }
 
 -- a mapping of this owner has nothing to come
 abbrev pub IsRestful : Owner → Type 0
@@ -45,22 +104,24 @@ IsRestful (Device n) = Unit {0}
 IsRestful (Synced n) = Unit {0}
 IsRestful Pool = Unit {0}
 
--- hart h's driver and the owners before and behind, by the places of the span that change
-pub record Turns (sc : Scenario) (w : WorldState) (h : HartNo) (went : Went) (span : Span) (now : Owner) : Type 0 where
-  pub on : (x : ℕ) → x < sc.ram → covers span x ≡ true → owner_in (owners_moved w.owners went.moves.transfers) x ≡ now
-  pub off : (x : ℕ) → covers span x ≡ false → owner_in (owners_moved w.owners went.moves.transfers) x ≡ owner_of w x
+-- hart h's driver and the owners before and behind: each entry of the lot has this side behind, and nothing else changes
+pub record Turns (sc : Scenario) (f : List ℕ) (w : WorldState) (h : HartNo) (m : MachineState) (went : Went) (lot : Lot) (side : Side) : Type 0 where
+  pub on : (i : ℕ) (e : Entry) (x : ℕ) → x < sc.ram → IsPlace lot i e x → owner_in (owners_moved w.owners went.moves.transfers) x ≡ owner_of_side (map_id h lot.id i) side
+  pub off : (x : ℕ) → IsOff lot x → owner_in (owners_moved w.owners went.moves.transfers) x ≡ owner_of w x
+  pub beside : (i : ℕ) (e : Entry) (x : ℕ) → IsPlace lot i e x → (covers (pool_of sc) x ≡ false) × (covers (slots_of sc) x ≡ false)
+  pub mine : (i : ℕ) (e : Entry) (x : ℕ) (k : MapId) → IsPlace lot i e x → owner_of w x ≡ Returning k → k.hart.0 ≡ h.0
   -- the hart's other mappings stay, and none of them is being lent or taken back
-  pub others : (x : ℕ) (k : MapId) → x < sc.ram → covers span x ≡ false → mapping_in (owner_of w x) ≡ Some k → k.hart.0 ≡ h.0 → (loan_of went.driver k ≡ loan_of (driver_of w h.0) k) × IsRestful (owner_of w x)
+  pub others : (x : ℕ) (k : MapId) → x < sc.ram → IsOff lot x → mapping_in (owner_of w x) ≡ Some k → k.hart.0 ≡ h.0 → (loan_of went.driver k ≡ loan_of (driver_of w h.0) k) × IsRestful (owner_of w x)
   -- no message is begun or gone
   pub silent : (b : ℕ) → sending b went.driver.rest ≡ sending b (driver_of w h.0).rest
   pub fixed : went.driver.fixed ≡ (driver_of w h.0).fixed
   pub drives : Drives went.driver
-  pub lasting : rest_last went.driver.rest ≡ None
-  pub queue : All (IsQueued (book_of (gone w h w.machine went)) (owner_of (gone w h w.machine went)) w.machine.pool w.machine.size h.0) (queue_of w.machine h.0)
-  pub mine : (x : ℕ) (k : MapId) → covers span x ≡ true → owner_of w x ≡ Returning k → k.hart.0 ≡ h.0
-  pub unpooled : (x : ℕ) → covers (pool_of sc) x ≡ true → covers span x ≡ false
-  pub lies : (x : ℕ) (k : MapId) → x < sc.ram → covers span x ≡ true → mapping_in now ≡ Some k → LiesIn ((book_of (gone w h w.machine went)).loan k) x
-  pub row : (x v : ℕ) → x < sc.ram → covers span x ≡ true → Row (book_of w) (owner_of w x) v w.machine x → Row (book_of (gone w h w.machine went)) now v w.machine x
+  pub lasting : LastIs (book_of (gone w h m went)) f h.0 (hart_of m h.0).last (rest_last went.driver.rest)
+  pub queue : All (IsQueued (book_of (gone w h m went)) (owner_of (gone w h m went)) m.pool m.size h.0) (queue_of m h.0)
+  pub passes : (x v : ℕ) → x < sc.ram → covers (slots_of sc) x ≡ false → IsOff lot x → Row (book_of w) (owner_of w x) v w.machine x → Row (book_of w) (owner_of w x) v m x
+  pub lies : (i : ℕ) (e : Entry) (x : ℕ) (k : MapId) → x < sc.ram → IsPlace lot i e x → mapping_in (owner_of_side (map_id h lot.id i) side) ≡ Some k → LiesIn ((book_of (gone w h m went)).loan k) x
+  pub row : (i : ℕ) (e : Entry) (x v : ℕ) → x < sc.ram → IsPlace lot i e x → Row (book_of w) (owner_of w x) v w.machine x → Row (book_of (gone w h m went)) (owner_of_side (map_id h lot.id i) side) v m x
+  pub calm : (z : ℕ) → covers (slots_of sc) z ≡ true → IsUnseen (book_of (gone w h m went)) (owner_of (gone w h m went)) (slots_of sc) z → CalmRow m z
 
 -- ---- the drivers behind
 
@@ -103,7 +164,7 @@ loan_alike w h m went k (Some l) ne =
 abbrev pub StaysAside : WorldState → HartNo → Went → Owner → MapId → Type 0
 StaysAside w h went o k = k.hart.0 ≡ h.0 → (loan_of went.driver k ≡ loan_of (driver_of w h.0) k) × IsRestful o
 
-loan_aside : (w : WorldState) (h : HartNo) (m : MachineState) (went : Went) (o : Owner) (k : MapId) → h.0 < length w.drivers → StaysAside w h went o k → (book_of (gone w h m went)).loan k ≡ (book_of w).loan k
+pub loan_aside : (w : WorldState) (h : HartNo) (m : MachineState) (went : Went) (o : Owner) (k : MapId) → h.0 < length w.drivers → StaysAside w h went o k → (book_of (gone w h m went)).loan k ≡ (book_of w).loan k
 loan_aside w h m went o k lt aside = elim (cases_eq k.hart.0 h.0) [
   | inl own ↦ loan_hart w h m went k lt own ∙ (aside own).0 ∙ ap (λ (g : ℕ). loan_of (driver_of w g) k) (sym own)
   | inr ne ↦ loan_there w h m went k ne
@@ -134,7 +195,7 @@ reads_aside w h m went Pool x lt fixed silent aside = tt
 -- ---- what is queued, and loaded last
 
 -- of another hart's queue
-pub queued_aside : (w : WorldState) (h : HartNo) (m : MachineState) (went : Went) (g : ℕ) (pool : Span) (s : ℕ) (owner : ℕ → Owner) (e : Entry) → g ≢ h.0 → HasNoArea (book_of w)
+pub queued_aside : (w : WorldState) (h : HartNo) (m : MachineState) (went : Went) (g : ℕ) (pool : Span) (s : ℕ) (owner : ℕ → Owner) (e : QueueEntry) → g ≢ h.0 → HasNoArea (book_of w)
     → ((x : ℕ) (k : MapId) → owner_of w x ≡ Returning k → k.hart.0 ≢ h.0 → owner x ≡ Returning k) → IsQueued (book_of w) (owner_of w) pool s g e → IsQueued (book_of (gone w h m went)) owner pool s g e
 queued_aside w h m went g pool s owner (entries.Store span bytes kind) ne plain stays is = is
 queued_aside w h m went g pool s owner (entries.Cbo block cbos.Clean) ne plain stays is = tt
@@ -177,8 +238,14 @@ last_aside w h m went f g bytes ne is =
     subst (λ (rest : List Step). LastIs (book_of (gone w h m went)) f g bytes (rest_last rest)) (sym (rest_there w h m went g ne))
     (piece_aside (book_of w) (book_of (gone w h m went)) f g bytes (rest_last ((book_of w).rest g)) (λ k own. loan_there w h m went k (λ e. ne (sym own ∙ e))) is)
 
-pub last_here : (w : WorldState) (h : HartNo) (m : MachineState) (went : Went) (f : List ℕ) (g : ℕ) (bytes : List ℕ) → h.0 < length w.drivers → g ≡ h.0 → rest_last went.driver.rest ≡ None → LastIs (book_of (gone w h m went)) f g bytes (rest_last ((book_of (gone w h m went)).rest g))
-last_here w h m went f g bytes lt own none = subst (λ (o : Option Span). LastIs (book_of (gone w h m went)) f g bytes o) (sym (ap rest_last (rest_hart w h m went g lt own) ∙ none)) tt
+-- of its own, by what is left of its plan
+last_here : (w : WorldState) (h : HartNo) (m : MachineState) (went : Went) (f : List ℕ) → h.0 < length w.drivers → LastIs (book_of (gone w h m went)) f h.0 (hart_of m h.0).last (rest_last went.driver.rest)
+    → LastIs (book_of (gone w h m went)) f h.0 (hart_of m h.0).last (rest_last ((book_of (gone w h m went)).rest h.0))
+last_here w h m went f lt is = subst (λ (rest : List Step). LastIs (book_of (gone w h m went)) f h.0 (hart_of m h.0).last (rest_last rest)) (sym (rest_hart w h m went h.0 lt refl)) is
+
+-- with no store to come
+pub last_none : (a : Book) (f : List ℕ) (g : ℕ) (bytes : List ℕ) (o : Option Span) → o ≡ None → LastIs a f g bytes o
+last_none a f g bytes o none = subst (λ (k : Option Span). LastIs a f g bytes k) (sym none) tt
 
 -- ---- the whole
 
@@ -195,42 +262,57 @@ drives_by sc w h m went lt all now g there = elim (cases_eq g h.0) [
   | inr ne ↦ subst (λ (d : DriverState). Drives d) (sym (driver_there w h m went g ne)) (all g there)
 ]
 
-pub turn_bytes : (sc : Scenario) (f : List ℕ) (w : WorldState) (h : HartNo) (went : Went) (span : Span) (now : Owner) → Flatness sc f w → h.0 < length w.drivers → HasNoArea (book_of w) → Turns sc w h went span now → BytesStand sc f (gone w h w.machine went)
-turn_bytes sc f w h went span now i lt plain t =
-    let m = w.machine in
+-- a place that is the pool's, or a slot's, is of no entry
+outside : (lot : Lot) (x : ℕ) (span : Span) → ((i : ℕ) (e : Entry) → IsPlace lot i e x → covers span x ≡ false) → covers span x ≡ true → IsOff lot x
+outside lot x span beside over i e is = both_ways (covers span x) (beside i e is) over
+
+pub turn_bytes : (sc : Scenario) (f : List ℕ) (w : WorldState) (h : HartNo) (m : MachineState) (went : Went) (lot : Lot) (side : Side) → Flatness sc f w → h.0 < length w.drivers → HasNoArea (book_of w) → GoesBy w h m → Turns sc f w h m went lot side → BytesStand sc f (gone w h m went)
+turn_bytes sc f w h m went lot side flat lt plain by t =
     let v = gone w h m went in
-    let s = i.bytes in
-    let aside : (x : ℕ) → x < sc.ram → covers span x ≡ false → (k : MapId) → mapping_in (owner_of w x) ≡ Some k → StaysAside w h went (owner_of w x) k = λ x there beside k is own. t.others x k there beside is own in
+    let s = flat.bytes in
+    let aside : (x : ℕ) → x < sc.ram → IsOff lot x → (k : MapId) → mapping_in (owner_of w x) ≡ Some k → StaysAside w h went (owner_of w x) k = λ x there beside k is own. t.others x k there beside is own in
     record {
       flat_size = s.flat_size;
       drives = drives_by sc w h m went lt s.drives t.drives;
-      placed = λ x k there is. elim (cases_Bool (covers span x)) [
-        | inl over ↦ t.lies x k there over (sym (ap mapping_in (t.on x there over)) ∙ is)
-        | inr beside ↦
+      placed = λ x k there is. elim (somewhere lot x) [
+        | On i e place ↦ t.lies i e x k there place (sym (ap mapping_in (t.on i e x there place)) ∙ is)
+        | Off beside ↦
             let was = sym (ap mapping_in (t.off x beside)) ∙ is in
             subst (λ (o : Option Loan). LiesIn o x) (sym (loan_aside w h m went (owner_of w x) k lt (aside x there beside k was))) (s.placed x k there was)
       ];
-      pooled = λ x over. t.off x (t.unpooled x over) ∙ s.pooled x over;
-      rows = λ x there. elim (cases_Bool (covers span x)) [
-        | inl over ↦ subst (λ (o : Owner). Row (book_of v) o (byte f x) m x) (sym (t.on x there over)) (t.row x (byte f x) there over (s.rows x there))
-        | inr beside ↦
+      pooled = λ x over. t.off x (outside lot x (pool_of sc) (λ i e is. (t.beside i e x is).0) over) ∙ s.pooled x over;
+      slotted = λ x over. t.off x (outside lot x (slots_of sc) (λ i e is. (t.beside i e x is).1) over) ∙ s.slotted x over;
+      rows = λ x there unslotted. elim (somewhere lot x) [
+        | On i e place ↦ subst (λ (o : Owner). Row (book_of v) o (byte f x) m x) (sym (t.on i e x there place)) (t.row i e x (byte f x) there place (s.rows x there unslotted))
+        | Off beside ↦
             subst (λ (o : Owner). Row (book_of v) o (byte f x) m x) (sym (t.off x beside))
-            (row_same (book_of w) (book_of v) (owner_of w x) (byte f x) m x (reads_aside w h m went (owner_of w x) x lt t.fixed t.silent (aside x there beside)) (s.rows x there))
+            (row_same (book_of w) (book_of v) (owner_of w x) (byte f x) m x (reads_aside w h m went (owner_of w x) x lt t.fixed t.silent (aside x there beside)) (t.passes x (byte f x) there unslotted beside (s.rows x there unslotted)))
       ];
+      calm = t.calm;
       queued = λ g. elim (cases_eq g h.0) [
         | inl own ↦ subst (λ (j : ℕ). All (IsQueued (book_of v) (owner_of v) m.pool m.size j) (queue_of m j)) (sym own) t.queue
         | inr ne ↦
-            all_to (IsQueued (book_of w) (owner_of w) m.pool m.size g) (IsQueued (book_of v) (owner_of v) m.pool m.size g) (queue_of m g) (s.queued g)
-            (λ e is. queued_aside w h m went g m.pool m.size (owner_of v) e ne plain
-            (λ x k was other. elim (cases_Bool (covers span x)) [
-              | inl over ↦ absurd (other (t.mine x k over was))
-              | inr beside ↦ t.off x beside ∙ was
-            ]) is)
+            subst (λ (q : List QueueEntry). All (IsQueued (book_of v) (owner_of v) m.pool m.size g) q) (sym (by.queues g ne))
+            (subst (λ (k : ℕ). All (IsQueued (book_of v) (owner_of v) m.pool k g) (queue_of w.machine g)) (sym by.size)
+            (subst (λ (p : Span). All (IsQueued (book_of v) (owner_of v) p w.machine.size g) (queue_of w.machine g)) (sym by.pool)
+            (all_to (IsQueued (book_of w) (owner_of w) w.machine.pool w.machine.size g) (IsQueued (book_of v) (owner_of v) w.machine.pool w.machine.size g) (queue_of w.machine g) (s.queued g)
+            (λ e is. queued_aside w h m went g w.machine.pool w.machine.size (owner_of v) e ne plain
+            (λ x k was other. elim (somewhere lot x) [
+              | On i d place ↦ absurd (other (t.mine i d x k place was))
+              | Off beside ↦ t.off x beside ∙ was
+            ]) is))))
       ];
-      unfenced = s.unfenced;
-      uncached = λ x over. inl (free_pool sc f w x s over (subst (λ (p : Span). covers p x ≡ true) i.world.of_scenario.pool over));
+      unfenced = λ g. elim (cases_eq g h.0) [
+        | inl own ↦ ap (λ (j : ℕ). list_any is_full (queue_of m j)) own ∙ by.unfenced
+        | inr ne ↦ ap (list_any is_full) (by.queues g ne) ∙ s.unfenced g
+      ];
+      uncached = λ x over.
+          let was = subst (λ (p : Span). covers p x ≡ true) by.pool over in
+          inl (by.free x (free_pool sc f w x s was (subst (λ (p : Span). covers p x ≡ true) flat.world.of_scenario.pool was)));
       lasts = λ g. elim (cases_eq g h.0) [
-        | inl own ↦ last_here w h m went f g (hart_of m g).last lt own t.lasting
-        | inr ne ↦ last_aside w h m went f g (hart_of m g).last ne (s.lasts g)
+        | inl own ↦ subst (λ (j : ℕ). LastIs (book_of v) f j (hart_of m j).last (rest_last ((book_of v).rest j))) (sym own) (last_here w h m went f lt t.lasting)
+        | inr ne ↦
+            subst (λ (bytes : List ℕ). LastIs (book_of v) f g bytes (rest_last ((book_of v).rest g))) (sym (by.lasts g ne))
+            (last_aside w h m went f g (hart_of w.machine g).last ne (s.lasts g))
       ];
     }

@@ -14,7 +14,6 @@ use Rattle.nc_plan.specs.Effects.{effects_of}
 use Rattle.nc_queue.specs.Entries.{writes_back}
 use Rattle.nc_calls.specs.PlaceLaws.{drops_copies}
 use Rattle.nc_row_plans.specs.Plans.{WritesBack, DropsBlocks}
-use Rattle.nc_flat_plans.specs.Turning.{is_kept_op}
 
 -- the operation itself, a flush for an invalidate, or none
 abbrev pub IsOrFlush : CboOp → Result CboOp Illegal → Type 0
@@ -46,15 +45,3 @@ writes mode menvcfg senvcfg FromDev = decided_is mode menvcfg senvcfg Flush writ
 
 pub drops : (mode : Mode) (menvcfg senvcfg : ℕ) → DropsBlocks (effects_of mode menvcfg senvcfg)
 drops mode menvcfg senvcfg = decided_is mode menvcfg senvcfg Inval drops_copies refl refl
-
-pub writes_kept : (o : CboOp) → writes_back o ≡ true → is_kept_op o ≡ true
-writes_kept Clean is = refl
-writes_kept Flush is = refl
-writes_kept Inval is = absurd cc
-writes_kept Zero is = absurd cc
-
-pub drops_kept : (o : CboOp) → drops_copies o ≡ true → is_kept_op o ≡ true
-drops_kept Flush is = refl
-drops_kept Inval is = refl
-drops_kept Clean is = absurd cc
-drops_kept Zero is = absurd cc

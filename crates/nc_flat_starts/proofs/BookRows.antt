@@ -11,7 +11,7 @@ use Rattle.nc_rules.specs.Machine.{MachineState}
 use Rattle.nc_rows.specs.Ahead.{is_full, settling, sending}
 use Rattle.nc_rows.specs.Places.{ThreadRow}
 use Rattle.nc_rows.specs.Rows.{Loan, Book, device_place, PassingRow, LendingTo, LendingFrom, AllocatingRow, GivingRow, DeviceTo, DroppingRow, ComingRow, Either, ByDir, ahead_of, LentRow, DeviceRow, BackRow, SyncedRow, Row}
-use Rattle.nc_flat_plans.specs.Books.{SameLoan, ReadsAlike, BooksCarry}
+use Rattle.nc_flat_starts.specs.Books.{SameLoan, ReadsAlike, BooksCarry}
 
 passing_same : (h v b d : ℕ) (rest left : List Step) (m : MachineState) (x : ℕ) → d ≡ b → sending b left ≡ sending b rest → PassingRow h v b rest m x → PassingRow h v d left m x
 passing_same h v b d rest left m x buffer same row =

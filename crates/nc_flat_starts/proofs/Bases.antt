@@ -1,0 +1,241 @@
+-- The lots of a hart just before a turn of one of them: those that it has, with those that its operation made and the slots
+-- that they got.
+use Rattle.std.specs.Prelude.{Option, Some, None, All, ◌&&◌, ◌==◌, ◌+◌, ◌*◌, ◌%◌, not, is_none, unwrap_or, Bool, true, false, slice_get, option_map}
+use Rattle.std.specs.List.{list_any}
+use Rattle.std.proofs.Common.{◌≡◌, ◌≢◌, ◌⊎◌, ℕ, ◌<◌, ◌≤◌, List, [], ◌∷◌, ◌++◌, length, refl, sym, ap, ◌∙◌, inl, inr, subst, arith}
+use Rattle.std.proofs.lemmas.Bool.{cases_Bool, cases_eq, both_ways, cond-true, cond-false, eq-eqb, eqb-true, false_from_ne_true}
+use Rattle.nc_num.specs.Places.{covers}
+use Rattle.nc_num.specs.Sizes.{IsBlockSize}
+use Rattle.nc_num.specs.declared.names.HartNo.{HartNo}
+use Rattle.nc_num.specs.declared.names.MapId.{MapId}
+use Rattle.nc_num.specs.declared.places.Span.{Span}
+use Rattle.nc_model.proofs.Faults.{covers-from, covers-low, covers-high}
+use Rattle.nc_plan.specs.Parts.{is_bounced, in_slot, is_too_big}
+use Rattle.nc_plan.specs.Plans.{In}
+use Rattle.nc_plan.proofs.PlanLaws.{in_its_slot}
+use Rattle.nc_scen.specs.Regions.{slots_of, pool_of}
+use Rattle.nc_scen.specs.declared.scenario.Scenario.{Scenario}
+use Rattle.nc_sg.specs.Lists as sg
+use Rattle.nc_sg.specs.declared.list.Entry.{Entry}
+use Rattle.nc_rules.specs.declared.lots.Kind.{Kind}
+use Rattle.nc_rules.specs.declared.lots.Kind.TheVariants as kinds
+use Rattle.nc_rules.specs.declared.lots.Lot.{Lot}
+use Rattle.nc_rules.specs.declared.lots.LotId.{LotId}
+use Rattle.nc_rules.specs.declared.lots.Side.TheVariants as sides
+use Rattle.nc_rules.specs.Lots.{Fixed, is_wanted, owner_of_side, lot_waits}
+use Rattle.nc_rules.specs.Refusals.{buffer_of}
+use Rattle.nc_rules.specs.Turns.{is_area}
+use Rattle.nc_rules.specs.Start.{fixed_of, hart_spec}
+use Rattle.nc_rules.specs.World.{WorldState, driver_of, hart}
+use Rattle.nc_rules.specs.Driver.{DriverState}
+use Rattle.nc_scripts.specs.Drivers.{FitsKind, IsEntryIn, IsLotIn, AreApart}
+use Rattle.nc_scripts.proofs.Lists.{none_any, position_any}
+use Rattle.nc_holds.specs.Held.{Held, IsEntryOf, FitsSide, LiesInBuffer, slots_span}
+use Rattle.nc_holds.specs.Holds.{held_of}
+use Rattle.nc_holds.proofs.EventFrom.{EveryoneIn}
+use Rattle.nc_holds.proofs.GrantWords.{slot_once, slot_holder, slot_harts}
+use Rattle.nc_holds.proofs.ListsA.{all_at, at_get}
+use Rattle.nc_holds.proofs.OwnerLots.{same_lot, entry_in}
+use Rattle.nc_rules.specs.Watched.{owner_of}
+use Rattle.nc_model.specs.declared.owners.Owner.{Owner}
+use Rattle.nc_rows.specs.Laws.{seen_at}
+use Rattle.nc_rows.specs.Rows.{device_place}
+use Rattle.nc_flatness.specs.Books.{loan_of, book_of}
+use Rattle.nc_flatness.specs.Flatness.{is_mapping, IsMapping, IsStillOrWanted, IsUnseen, Flatness}
+use Rattle.nc_flatness.proofs.Seen.{slot_at, seen, seen_ways, slot_slots, has_slot, of_device}
+use Rattle.nc_flatness.specs.Plans.{IsStill}
+use Rattle.nc_flat_starts.proofs.Lots.{loan_in}
+use Rattle.nc_flat_starts.proofs.PlansGo.{IsPlanned}
+use Rattle.nc_flat_starts.proofs.Sides.{Others}
+
+-- what the hart holds with these lots and slot words
+abbrev pub with_these : WorldState → ℕ → List Lot → List (Option HartNo) → Held
+with_these w h lots slots = record (held_of w h) { lots = lots; slots = slots }
+
+pub record IsBase (sc : Scenario) (f : List ℕ) (w : WorldState) (h : HartNo) (lots : List Lot) (lot : Lot) : Type 0 where
+  pub flat : Flatness sc f w
+  pub lt : h.0 < length sc.harts
+  pub slots : List (Option HartNo)
+  pub each : EveryoneIn w h.0 (with_these w h.0 lots slots)
+  pub mappings : All (IsMapping (driver_of w h.0).fixed) lots
+  pub here : In lot lots
+  pub placed : lot_waits lot ≡ false
+  -- mappings of other labels are as they are
+  pub loans : (k : MapId) → (k.label.0 ≡ lot.id.label.0 → ⊥) → loan_in (driver_of w h.0).fixed lots k ≡ loan_of (driver_of w h.0) k
+  -- a lot that is lent, or was, is one of them
+  pub kept : (other : Lot) → In other (driver_of w h.0).lots → is_wanted other.side ≡ false → In other lots
+  pub still : All IsStillOrWanted (driver_of w h.0).lots
+  pub others : Others IsStill lot.id lots
+  -- no plan is left
+  pub idle : (driver_of w h.0).rest ≡ []
+
+-- ---- kinds
+
+pub mapping_first : (pool : Span) (kind : Kind) (id : LotId) (es : List Entry) → is_mapping kind ≡ true → FitsKind pool kind id es → id.first ≡ 0
+mapping_first pool kinds.Single id es is fits = fits.0.first
+mapping_first pool kinds.List id es is fits = fits.0.first
+mapping_first pool kinds.Area id es is fits = absurd cc
+mapping_first pool kinds.Copy id es is fits = absurd cc
+
+pub no_area : (kind : Kind) → is_mapping kind ≡ true → is_area kind ≡ false
+no_area kinds.Single is = refl
+no_area kinds.List is = refl
+no_area kinds.Area is = absurd cc
+no_area kinds.Copy is = absurd cc
+
+name_is : (a b : LotId) → a.label.0 ≡ b.label.0 → a.first ≡ b.first → a ≡ b
+name_is a b label first i = record { label = record { 0 = label i }; first = first i }
+
+-- lots of a hart that are mappings: those of one label are one
+pub label_one : (ram : ℕ) (f : Fixed) (lots : List Lot) (a b : Lot) → All (IsLotIn ram f) lots → All (IsMapping f) lots → AreApart lots → In a lots → In b lots → a.id.label.0 ≡ b.id.label.0 → a ≡ b
+label_one ram f lots a b all mappings apart here there same =
+    let first : (l : Lot) → In l lots → l.id.first ≡ 0 = λ l k. mapping_first f.pool l.kind l.id l.list.entries (all_at (IsMapping f) lots l mappings k).kind (all_at (IsLotIn ram f) lots l all k).kind in
+    same_lot lots a b apart here there (name_is a.id b.id same (first a here ∙ sym (first b there)))
+
+-- ---- the base
+
+pub fixed_is : (sc : Scenario) (f : List ℕ) (w : WorldState) (h : HartNo) → Flatness sc f w → h.0 < length sc.harts → (driver_of w h.0).fixed ≡ fixed_of sc (hart h.0) (hart_spec sc h.0)
+fixed_is sc f w h flat lt = flat.world.fixed h.0 lt
+
+pub me_of : (w : WorldState) (h : HartNo) → (driver_of w h.0).fixed.me.0 ≡ h.0 → (driver_of w h.0).fixed.me ≡ h
+me_of w h e i = record { 0 = e i }
+
+pub base_lot : (sc : Scenario) (f : List ℕ) (w : WorldState) (h : HartNo) (lots : List Lot) (lot : Lot) → IsBase sc f w h lots lot → IsLotIn (length w.machine.cache.ram) (driver_of w h.0).fixed lot
+base_lot sc f w h lots lot b = all_at (IsLotIn (length w.machine.cache.ram) (driver_of w h.0).fixed) lots lot b.each.knows.lots b.here
+
+pub base_mapping : (sc : Scenario) (f : List ℕ) (w : WorldState) (h : HartNo) (lots : List Lot) (lot : Lot) → IsBase sc f w h lots lot → IsMapping (driver_of w h.0).fixed lot
+base_mapping sc f w h lots lot b = all_at (IsMapping (driver_of w h.0).fixed) lots lot b.mappings b.here
+
+pub base_first : (sc : Scenario) (f : List ℕ) (w : WorldState) (h : HartNo) (lots : List Lot) (lot : Lot) → IsBase sc f w h lots lot → lot.id.first ≡ 0
+base_first sc f w h lots lot b = mapping_first (driver_of w h.0).fixed.pool lot.kind lot.id lot.list.entries (base_mapping sc f w h lots lot b).kind (base_lot sc f w h lots lot b).kind
+
+-- an entry lies in a buffer
+pub base_lies : (sc : Scenario) (f : List ℕ) (w : WorldState) (h : HartNo) (lots : List Lot) (lot : Lot) (i : ℕ) (e : Entry) → IsBase sc f w h lots lot → slice_get lot.list.entries i ≡ Some e → LiesInBuffer (driver_of w h.0).fixed e.span
+base_lies sc f w h lots lot i e b there =
+    all_at (λ (d : Entry). LiesInBuffer (driver_of w h.0).fixed d.span) lot.list.entries e ((all_at (FitsSide (driver_of w h.0).fixed) lots lot b.each.mine.sides b.here).in_buffer (no_area lot.kind (base_mapping sc f w h lots lot b).kind)) (at_get lot.list.entries i e there)
+
+-- none of its bytes is the pool's or a slot's
+pub base_beside : (sc : Scenario) (f : List ℕ) (w : WorldState) (h : HartNo) (lots : List Lot) (lot : Lot) (i : ℕ) (e : Entry) (x : ℕ) → IsBase sc f w h lots lot → slice_get lot.list.entries i ≡ Some e → covers e.span x ≡ true
+    → (covers (pool_of sc) x ≡ false) × (covers (slots_of sc) x ≡ false)
+base_beside sc f w h lots lot i e x b there on =
+    let fx = (driver_of w h.0).fixed in
+    let lies = base_lies sc f w h lots lot i e b there in
+    let same = fixed_is sc f w h b.flat b.lt in
+    let pool : fx.pool ≡ pool_of sc = ap (λ (k : Fixed). k.pool) same in
+    let slots : slots_span fx ≡ slots_of sc = ap (λ (k : Fixed). slots_span k) same in (
+      false_from_ne_true (covers (pool_of sc) x) (λ over. b.each.knows.regions.buffers_off_pool lies.0 x (lies.1 x on) (subst (λ (s : Span). covers s x ≡ true) (sym pool) over)),
+      false_from_ne_true (covers (slots_of sc) x) (λ over. b.each.knows.regions.buffers_off_slots lies.0 x (lies.1 x on) (subst (λ (s : Span). covers s x ≡ true) (sym slots) over)),
+    )
+
+-- ---- its slots
+
+pub waits_not : (lot : Lot) (i : ℕ) (e : Entry) → lot_waits lot ≡ false → slice_get lot.list.entries i ≡ Some e → sg.waits e ≡ false
+waits_not lot i e placed there =
+    all_at (λ (d : Entry). sg.waits d ≡ false) lot.list.entries e (none_any sg.waits lot.list.entries (sym (position_any sg.waits lot.list.entries) ∙ placed)) (at_get lot.list.entries i e there)
+
+slot_by : (b : Bool) (o : Option ℕ) → (b && is_none o) ≡ false → b ≡ true → (k : ℕ) × (o ≡ Some k)
+slot_by true None placed is = absurd cc
+slot_by true (Some k) placed is = (k, refl)
+slot_by false o placed is = absurd cc
+
+pub slot_in : (e : Entry) → sg.waits e ≡ false → e.bounced ≡ true → (k : ℕ) × (e.slot ≡ Some k)
+slot_in e placed is = slot_by e.bounced e.slot placed is
+
+-- what bounces lies in its slot
+pub record IsInSlot (f : Fixed) (e : Entry) (k : ℕ) : Type 0 where
+  pub low : f.slots_at + 2048 * k ≤ (sg.device f.slots_at e).at
+  pub high : (sg.device f.slots_at e).at + e.span.len ≤ f.slots_at + 2048 * k + 2048
+  pub few : k < f.slots
+  pub long : (sg.device f.slots_at e).len ≡ e.span.len
+
+pub in_slot_so : (ram : ℕ) (f : Fixed) (e : Entry) (k : ℕ) → f.slots_at % 2048 ≡ 0 → IsEntryIn ram f.slots e → e.bounced ≡ true → e.slot ≡ Some k → IsInSlot f e k
+in_slot_so ram f e k whole is bounced slot =
+    let device : sg.device f.slots_at e ≡ in_slot (f.slots_at + 2048 * k) e.span = cond-true e.bounced _ e.span bounced ∙ ap (λ (o : Option ℕ). in_slot (f.slots_at + 2048 * unwrap_or o 0) e.span) slot in
+    let at : (sg.device f.slots_at e).at ≡ (in_slot (f.slots_at + 2048 * k) e.span).at = ap (λ (s : Span). s.at) device in
+    let lies = in_its_slot (f.slots_at + 2048 * k) e.span (omega arith) (is.small bounced) in
+    record { low = omega (arith, at, lies.starts); high = omega (arith, at, lies.ends, lies.length); few = (is.slot k slot).few; long = ap (λ (s : Span). s.len) device }
+
+one_word : (at k j x : ℕ) → at + 2048 * k ≤ x → x < at + 2048 * k + 2048 → at + 2048 * j ≤ x → x < at + 2048 * j + 2048 → k ≡ j
+one_word at k j x a b c d = omega arith
+
+-- ---- what its plans need
+
+direct_off : (f : Fixed) (e : Entry) → e.bounced ≡ false → not (e.span.at == (sg.device f.slots_at e).at) ≡ false
+direct_off f e off = ap not (eq-eqb e.span.at (sg.device f.slots_at e).at (sym (ap (λ (s : Span). s.at) (cond-false e.bounced _ e.span off))))
+
+slotted_off : (f : Fixed) (e : Entry) → (e.span.at ≡ (sg.device f.slots_at e).at → ⊥) → not (e.span.at == (sg.device f.slots_at e).at) ≡ true
+slotted_off f e apart = ap not (false_from_ne_true (e.span.at == (sg.device f.slots_at e).at) (λ is. apart (eqb-true e.span.at (sg.device f.slots_at e).at is)))
+
+pub base_planned : (sc : Scenario) (f : List ℕ) (w : WorldState) (h : HartNo) (lots : List Lot) (lot : Lot) → IsBase sc f w h lots lot → IsPlanned (driver_of w h.0).fixed lot
+base_planned sc f w h lots lot b =
+    let fx = (driver_of w h.0).fixed in
+    let ram = length w.machine.cache.ram in
+    let s = with_these w h.0 lots b.slots in
+    let is_in = base_lot sc f w h lots lot b in
+    let size : IsBlockSize fx.size = b.each.knows.fixed.sized in
+    record {
+      light = (base_mapping sc f w h lots lot b).full;
+      size = size;
+      some = λ i e there. (entry_in ram fx lot i e is_in there).range.some;
+      off = λ i e there. elim (cases_Bool e.bounced) [
+        | inl bounced ↦
+            let slot = slot_in e (waits_not lot i e b.placed there) bounced in
+            let entry = entry_in ram fx lot i e is_in there in
+            let k = in_slot_so ram fx e slot.0 b.each.knows.fixed.slots_whole entry bounced slot.1 in
+            let lies = base_lies sc f w h lots lot i e b there in
+            slotted_off fx e
+            (λ same. b.each.knows.regions.buffers_off_slots lies.0 e.span.at (lies.1 e.span.at (covers-from e.span e.span.at (omega arith) (omega (arith, entry.range.some))))
+            (covers-from (slots_span fx) e.span.at (omega (arith, same, k.low)) (omega (arith, same, k.high, k.few, entry.range.some)))) ∙ sym bounced
+        | inr off ↦ direct_off fx e off ∙ sym off
+      ];
+      slots = λ i j d e ne at_i at_j db eb x on_d on_e.
+          let kd = slot_in d (waits_not lot i d b.placed at_i) db in
+          let ke = slot_in e (waits_not lot j e b.placed at_j) eb in
+          let in_d = in_slot_so ram fx d kd.0 b.each.knows.fixed.slots_whole (entry_in ram fx lot i d is_in at_i) db kd.1 in
+          let in_e = in_slot_so ram fx e ke.0 b.each.knows.fixed.slots_whole (entry_in ram fx lot j e is_in at_j) eb ke.1 in
+          let same = one_word fx.slots_at kd.0 ke.0 x (omega (arith, in_d.low, covers-low (sg.device fx.slots_at d) x on_d)) (omega (arith, in_d.high, in_d.long, covers-high (sg.device fx.slots_at d) x on_d))
+          (omega (arith, in_e.low, covers-low (sg.device fx.slots_at e) x on_e)) (omega (arith, in_e.high, in_e.long, covers-high (sg.device fx.slots_at e) x on_e)) in
+          ne (slot_once fx.me b.slots lots kd.0 lot lot i j d e b.each.words (record { lot_in = b.here; entry = at_i }) (record { lot_in = b.here; entry = at_j }) kd.1 (subst (λ (k : ℕ). e.slot ≡ Some k) (sym same) ke.1)).entry;
+      buffers = λ i j d e ne at_i at_j db eb x on_d on_e. ne (b.each.mine.apart lot lot i j d e x (record { lot_in = b.here; entry = at_i }) (record { lot_in = b.here; entry = at_j }) on_d on_e).entry;
+    }
+
+-- ---- the lots that it had
+
+-- one of this label is the lot
+pub base_one : (sc : Scenario) (f : List ℕ) (w : WorldState) (h : HartNo) (lots : List Lot) (lot other : Lot) → IsBase sc f w h lots lot → In other lots → other.id.label.0 ≡ lot.id.label.0 → other ≡ lot
+base_one sc f w h lots lot other b there same = label_one (length w.machine.cache.ram) (driver_of w h.0).fixed lots other lot b.each.knows.lots b.mappings b.each.knows.names there b.here same
+
+-- a place that is seen in a slot is not of the slot of a lot that waits, or is synced
+pub base_unseen : (sc : Scenario) (f : List ℕ) (w : WorldState) (h : HartNo) (lots : List Lot) (lot : Lot) (i : ℕ) (e : Entry) (k z : ℕ) → IsBase sc f w h lots lot → slice_get lot.list.entries i ≡ Some e → (lot.side ≡ sides.Wanted) ⊎ (lot.side ≡ sides.Synced) → e.bounced ≡ true → e.slot ≡ Some k
+    → covers (slot_at sc k) z ≡ true → IsUnseen (book_of w) (owner_of w) (slots_of sc) z
+base_unseen sc f w h lots lot i e k z b there side bounced slot on x off same =
+    let fx = (driver_of w h.0).fixed in
+    let few : k < sc.slots = subst (λ (n : ℕ). k < n) (ap (λ (j : Fixed). j.slots) (fixed_is sc f w h b.flat b.lt)) ((entry_in (length w.machine.cache.ram) fx lot i e (base_lot sc f w h lots lot b) there).slot k slot).few in
+    let never : seen w x ≡ x → ⊥ = λ at. both_ways (covers (slots_of sc) x) off (ap (covers (slots_of sc)) (sym at ∙ same) ∙ slot_slots sc k z few on) in
+    elim (seen_ways sc f w x b.flat) [
+      | inl at ↦ never at
+      | inr p ↦
+          let m = p.is.is in
+          let its = has_slot sc f w p.id.hart.0 m.lot m.i m.entry b.flat m.here m.lent p.bounced in
+          let inside = subst (λ (y : ℕ). covers (slot_at sc its.k) y ≡ true) (sym p.here ∙ same) (its.inside (device_place p.is.loan x) (of_device w p.id p.is.loan x m p.is.on)) in
+          let word : its.k ≡ k = one_word sc.slots_at its.k k z (covers-low (slot_at sc its.k) z inside) (covers-high (slot_at sc its.k) z inside) (covers-low (slot_at sc k) z on) (covers-high (slot_at sc k) z on) in
+          let its_slot : m.entry.slot ≡ Some k = its.slot ∙ ap Some word in
+          elim (cases_eq p.id.hart.0 h.0) [
+            | inl own ↦
+                let mine : In m.lot (driver_of w h.0).lots = subst (λ (g : ℕ). In m.lot (driver_of w g).lots) own m.here.lot_in in
+                let kept = b.kept m.lot mine m.lent in
+                let one = slot_once fx.me b.slots lots k lot m.lot i m.i e m.entry b.each.words (record { lot_in = b.here; entry = there }) (record { lot_in = kept; entry = m.here.entry }) slot its_slot in
+                let lot_is : lot ≡ m.lot = same_lot lots lot m.lot b.each.knows.names b.here kept one.lot in
+                elim side [
+                  | inl wanted ↦ both_ways (is_wanted m.lot.side) m.lent (ap (λ (l : Lot). is_wanted l.side) (sym lot_is) ∙ ap is_wanted wanted)
+                  | inr synced ↦
+                      let owner : owner_of w x ≡ owner_of_side p.id sides.Synced = p.is.owner ∙ ap (owner_of_side p.id) (ap (λ (l : Lot). l.side) (sym lot_is) ∙ synced) in
+                      never (ap (λ (o : Owner). seen_at (book_of w) o x) owner)
+                ]
+            | inr ne ↦
+                let theirs = b.each.theirs p.id.hart.0 m.hart ne in
+                let my_word = slot_holder fx.me b.slots lots k lot i e b.each.words (record { lot_in = b.here; entry = there }) slot in
+                let their_word = slot_holder (driver_of w p.id.hart.0).fixed.me b.slots (driver_of w p.id.hart.0).lots k m.lot m.i m.entry theirs.words m.here its_slot in
+                ne (sym theirs.me ∙ sym (slot_harts fx.me (driver_of w p.id.hart.0).fixed.me b.slots k my_word their_word) ∙ b.each.me)
+          ]
+    ]

@@ -1,0 +1,342 @@
+-- The rows of a lot at its opening turn.
+use Rattle.std.specs.Prelude.{Option, Some, None, All, ◌&&◌, ◌||◌, ◌==◌, ◌+◌, ◌-◌, ◌*◌, ◌/◌, not, Bool, true, false, slice_get, map}
+use Rattle.std.specs.List.{list_any}
+use Rattle.std.proofs.Common.{◌≡◌, ◌≢◌, ◌⊎◌, ℕ, ◌<◌, ◌≤◌, List, [], ◌∷◌, ◌++◌, length, refl, sym, ap, ◌∙◌, inl, inr, subst, arith}
+use Rattle.std.proofs.lemmas.Bool.{cases_Bool, cases_lt, both_ways, false_from_ne_true, cond-false}
+use Rattle.std.proofs.lemmas.List.{get_or_past}
+use Rattle.std.proofs.lemmas.Option.{slice_get_within}
+use Rattle.nc_num.specs.Memory.{byte}
+use Rattle.nc_num.specs.Places.{covers}
+use Rattle.nc_num.specs.declared.names.Dir.{Dir}
+use Rattle.nc_num.specs.declared.names.Dir.TheVariants.{Both, ToDev, FromDev}
+use Rattle.nc_num.specs.declared.names.HartNo.{HartNo}
+use Rattle.nc_num.specs.declared.names.MapId.{MapId}
+use Rattle.nc_num.specs.declared.places.Span.{Span}
+use Rattle.nc_model.proofs.Faults.{covers-from, covers-low, covers-high}
+use Rattle.nc_model.specs.declared.owners.Owner.{Owner}
+use Rattle.nc_model.specs.declared.owners.Owner.TheVariants.{Thread, Passing, Lending, Device, Returning, Synced, Pool}
+use Rattle.nc_queue.specs.Entries.{AllFit}
+use Rattle.nc_queue.specs.Laws.{Stands}
+use Rattle.nc_queue.specs.declared.entry.Entry.{Entry as QueueEntry}
+use Rattle.nc_queue.specs.declared.entry.Entry.TheVariants as entries
+use Rattle.nc_hart.specs.HartState.{HartState}
+use Rattle.nc_lines.specs.Lines.{gives_at}
+use Rattle.nc_plan.specs.Parts.{comes_back}
+use Rattle.nc_plan.specs.Plans.{In}
+use Rattle.nc_plan.proofs.PlanLaws.{in_map}
+use Rattle.nc_scen.specs.Regions.{slots_of}
+use Rattle.nc_scen.specs.declared.scenario.Scenario.{Scenario}
+use Rattle.nc_sg.specs.Lists as sg
+use Rattle.nc_sg.specs.declared.list.Entry.{Entry}
+use Rattle.nc_ops.specs.declared.ops.Op.{Op}
+use Rattle.nc_rules.specs.declared.lots.Kind.TheVariants.{Single}
+use Rattle.nc_rules.specs.declared.lots.Lot.{Lot}
+use Rattle.nc_rules.specs.declared.lots.LotId.{LotId}
+use Rattle.nc_rules.specs.declared.lots.Side.{Side}
+use Rattle.nc_rules.specs.declared.lots.Side.TheVariants as sides
+use Rattle.nc_rules.specs.declared.steps.Phase.TheVariants.{Work}
+use Rattle.nc_rules.specs.declared.steps.Seen.{Seen}
+use Rattle.nc_rules.specs.declared.steps.Step.{Step}
+use Rattle.nc_rules.specs.declared.steps.Turn.{Turn}
+use Rattle.nc_rules.specs.declared.steps.Turn.TheVariants as turns
+use Rattle.nc_rules.specs.Lots.{Fixed, is_wanted, map_id, owner_of_side, parts}
+use Rattle.nc_rules.specs.Machine.{MachineState, no_hart, queue_of}
+use Rattle.nc_rules.specs.Plans.{lend_steps, return_steps, ending}
+use Rattle.nc_rules.specs.Start.{hart_spec}
+use Rattle.nc_rules.specs.Turns.{set_side, of_those, to_side}
+use Rattle.nc_rules.specs.Driver.{DriverState, Went, in_hand, stands, with_lots, went_to}
+use Rattle.nc_rules.specs.Watched.{owner_of}
+use Rattle.nc_rules.specs.World.{WorldState, driver_of}
+use Rattle.nc_scripts.specs.Drivers.{IsLotIn, BouncesSo}
+use Rattle.nc_scripts.proofs.LotLaws.{named_so}
+use Rattle.nc_holds.specs.Tokens.{token_of}
+use Rattle.nc_holds.proofs.ListsA.{all_at, at_get, none_of}
+use Rattle.nc_holds.proofs.OwnerLots.{entry_in}
+use Rattle.nc_rows.specs.Ahead.{ends, names, is_full, coming}
+use Rattle.nc_rows.specs.Laws.{seen_at, place_of}
+use Rattle.nc_rows.specs.Places.{ThreadRow, CalmRow, Alone}
+use Rattle.nc_rows.specs.Rows.{Loan, Book, device_place, back, drop, gives_here, gives_block, ahead_of, Either, ByDir, LendingTo, LendingFrom, DeviceTo, DeviceFrom, LentRow, DeviceRow, BackRow, SyncedRow, Row}
+use Rattle.nc_row_plans.specs.Begins.{NoneQueued, LendsAhead, IsReady}
+use Rattle.nc_row_plans.specs.Plans.{WritesBack, DropsBlocks, IsPlaceOf, IsEntryOf as IsEntryOfLot}
+use Rattle.nc_row_plans.proofs.LendingPlans.{plans_lend, some_append}
+use Rattle.nc_row_plans.proofs.PlanBegins.{rows_begin}
+use Rattle.nc_row_plans.proofs.ReturningPlans.{plans_return}
+use Rattle.nc_flatness.specs.Books.{book_of}
+use Rattle.nc_flatness.specs.Covered.{is_lending}
+use Rattle.nc_flatness.specs.Flatness.{Flatness}
+use Rattle.nc_flatness.specs.Plans.{IsBack, device_of}
+use Rattle.nc_flatness.proofs.Seen.{slot_at, slot_slots, slot_whole}
+use Rattle.nc_flat_starts.proofs.Bases.{IsBase, no_area, fixed_is, base_lot, base_mapping, base_beside, base_one, base_planned, base_unseen, waits_not, slot_in, in_slot_so, IsInSlot}
+use Rattle.nc_flat_starts.proofs.Blocks.{none_in_block, whole_range}
+use Rattle.nc_flat_starts.proofs.Effects.{writes, drops}
+use Rattle.nc_flat_starts.proofs.Frames.{IsPlace}
+use Rattle.nc_flat_starts.proofs.Lots.{loan_for}
+use Rattle.nc_flat_starts.proofs.Opens.{Opens, base_owner}
+use Rattle.nc_flat_starts.proofs.PlansGo.{IsPlan, Lends, Returns, lend_so, return_so, back_turns}
+use Rattle.nc_flat_starts.proofs.Sides.{hand_set, set_one, turned_lot}
+
+-- ---- what is known of the hart
+
+pub writing : (sc : Scenario) (f : List ℕ) (w : WorldState) (h : HartNo) → Flatness sc f w → h.0 < length sc.harts → WritesBack (driver_of w h.0).fixed.effects
+writing sc f w h flat lt =
+    let s = hart_spec sc h.0 in
+    subst (λ (k : Fixed). WritesBack k.effects) (sym (fixed_is sc f w h flat lt)) (writes s.mode s.menvcfg s.senvcfg)
+
+pub dropping : (sc : Scenario) (f : List ℕ) (w : WorldState) (h : HartNo) → Flatness sc f w → h.0 < length sc.harts → DropsBlocks (driver_of w h.0).fixed.effects
+dropping sc f w h flat lt =
+    let s = hart_spec sc h.0 in
+    subst (λ (k : Fixed). DropsBlocks k.effects) (sym (fixed_is sc f w h flat lt)) (drops s.mode s.menvcfg s.senvcfg)
+
+pub sizes : (sc : Scenario) (f : List ℕ) (w : WorldState) (h : HartNo) → Flatness sc f w → h.0 < length sc.harts → (driver_of w h.0).fixed.size ≡ w.machine.size
+sizes sc f w h flat lt = sym (flat.world.holds.each h.0 (omega (arith, lt, flat.world.of_scenario.harts))).setting.block
+
+named_token : (n : MapId) (e : QueueEntry) → names n e ≡ true → (id : LotId) × (token_of e ≡ Some id)
+named_token n (entries.Lend label first count) is = (record { label = label; first = first }, refl)
+named_token n (entries.Store span bytes kind) is = absurd cc
+named_token n (entries.Cbo block op) is = absurd cc
+named_token n (entries.Reg chan off width value) is = absurd cc
+named_token n (entries.Mail buf to) is = absurd cc
+named_token n (entries.Mark pred succ) is = absurd cc
+
+-- where fences are full no token is queued
+pub unnamed : (sc : Scenario) (f : List ℕ) (w : WorldState) (h : HartNo) (n : MapId) → Flatness sc f w → h.0 < length sc.harts → (driver_of w h.0).fixed.light ≡ false → NoneQueued (names n) w.machine h.0
+unnamed sc f w h n flat lt full =
+    none_of (names n) (queue_of w.machine h.0)
+    (λ e there. false_from_ne_true (names n e)
+    (λ is. let t = named_token n e is in both_ways (driver_of w h.0).fixed.light full ((flat.world.holds.each h.0 (omega (arith, lt, flat.world.of_scenario.harts))).tokens.light e t.0 there t.1)))
+
+queue_past : (m : MachineState) (g : ℕ) → length m.harts ≤ g → queue_of m g ≡ []
+queue_past m g past = ap (λ (k : HartState). k.queue.entries) (get_or_past m.harts g no_hart past)
+
+-- the entries of each queue fit
+pub queues_fit : (sc : Scenario) (f : List ℕ) (w : WorldState) (g : ℕ) → Flatness sc f w → AllFit w.machine.size (queue_of w.machine g)
+queues_fit sc f w g flat = elim (cases_lt g (length w.machine.harts)) [
+  | inl lt ↦ (flat.world.machine.queues g lt).fit
+  | inr past ↦ subst (λ (q : List QueueEntry). AllFit w.machine.size q) (sym (queue_past w.machine g past)) tt
+]
+
+-- ---- the place in the device range
+
+abbrev pub place_at : Fixed → Entry → ℕ → ℕ
+place_at f e x = (device_of f e).at + (x - e.span.at)
+
+device_long : (f : Fixed) (e : Entry) (t : Bool) → e.bounced ≡ t → (device_of f e).len ≡ e.span.len
+device_long f e true is = rw is refl
+device_long f e false is = rw is refl
+
+pub device_on : (f : Fixed) (e : Entry) (x : ℕ) → covers e.span x ≡ true → covers (device_of f e) (place_at f e x) ≡ true
+device_on f e x on = covers-from (device_of f e) (place_at f e x) (omega arith) (omega (arith, covers-low e.span x on, covers-high e.span x on, device_long f e e.bounced refl))
+
+pub direct_same : (f : Fixed) (e : Entry) (x : ℕ) → e.bounced ≡ false → covers e.span x ≡ true → place_at f e x ≡ x
+direct_same f e x off on =
+    let at : (device_of f e).at ≡ e.span.at = ap (λ (s : Span). s.at) (cond-false e.bounced _ e.span off) in
+    omega (arith, at, covers-low e.span x on)
+
+pub place_is : (f : Fixed) (lot : Lot) (i : ℕ) (e : Entry) (x : ℕ) → slice_get lot.list.entries i ≡ Some e → covers e.span x ≡ true → IsPlaceOf f lot (sg.part_of lot.list.dir f.slots_at e) (place_at f e x)
+place_is f lot i e x there on =
+    let over = device_on f e x on in
+    record {
+      part = in_map (sg.part_of lot.list.dir f.slots_at) e lot.list.entries (at_get lot.list.entries i e there);
+      from = covers-low (device_of f e) (place_at f e x) over;
+      before = covers-high (device_of f e) (place_at f e x) over;
+    }
+
+-- a place of an entry that bounces lies in its slot
+record InSlot (sc : Scenario) (f : Fixed) (e : Entry) (y : ℕ) : Type 0 where
+  k : ℕ
+  slot : e.slot ≡ Some k
+  on : covers (slot_at sc k) y ≡ true
+  over : covers (slots_of sc) y ≡ true
+
+in_slot_at : (sc : Scenario) (f : List ℕ) (w : WorldState) (h : HartNo) (lots : List Lot) (lot : Lot) (i : ℕ) (e : Entry) (y : ℕ) → IsBase sc f w h lots lot → slice_get lot.list.entries i ≡ Some e → e.bounced ≡ true → covers (device_of (driver_of w h.0).fixed e) y ≡ true
+    → InSlot sc (driver_of w h.0).fixed e y
+in_slot_at sc f w h lots lot i e y b there bounced on =
+    let fx = (driver_of w h.0).fixed in
+    let slot = slot_in e (waits_not lot i e b.placed there) bounced in
+    let is = in_slot_so (length w.machine.cache.ram) fx e slot.0 b.each.knows.fixed.slots_whole (entry_in (length w.machine.cache.ram) fx lot i e (base_lot sc f w h lots lot b) there) bounced slot.1 in
+    let at : fx.slots_at ≡ sc.slots_at = ap (λ (k : Fixed). k.slots_at) (fixed_is sc f w h b.flat b.lt) in
+    let few : fx.slots ≡ sc.slots = ap (λ (k : Fixed). k.slots) (fixed_is sc f w h b.flat b.lt) in
+    let inside = covers-from (slot_at sc slot.0) y (omega (arith, at, is.low, covers-low (device_of fx e) y on)) (omega (arith, at, is.high, is.long, covers-high (device_of fx e) y on)) in
+    record { k = slot.0; slot = slot.1; on = inside; over = slot_slots sc slot.0 y (omega (arith, is.few, few)) inside }
+
+-- ---- a lot that is lent
+
+abbrev pub IsReadySide : Lot → Type 0
+IsReadySide lot = (lot.side ≡ sides.Wanted) ⊎ (lot.side ≡ sides.Synced)
+
+synced_thread : (n : MapId) (o : Option Loan) (v : ℕ) (m : MachineState) (x : ℕ) → SyncedRow n o v m x → ThreadRow n.hart.0 v m x
+synced_thread n None v m x row = absurd row
+synced_thread n (Some l) v m x row = row
+
+-- the byte was its hart's own
+own_row : (w : WorldState) (h : HartNo) (lot : Lot) (i x v : ℕ) → IsReadySide lot → Row (book_of w) (owner_of_side (map_id h lot.id i) lot.side) v w.machine x → ThreadRow h.0 v w.machine x
+own_row w h lot i x v (inl wanted) row = subst (λ (s : Side). Row (book_of w) (owner_of_side (map_id h lot.id i) s) v w.machine x) wanted row
+own_row w h lot i x v (inr synced) row =
+    let n = map_id h lot.id i in
+    synced_thread n ((book_of w).loan n) v w.machine x (subst (λ (s : Side). Row (book_of w) (owner_of_side n s) v w.machine x) synced row)
+
+-- no copy of its slot is stale
+slot_calm : (sc : Scenario) (f : List ℕ) (w : WorldState) (h : HartNo) (lots : List Lot) (lot : Lot) (i : ℕ) (e : Entry) (k z : ℕ) → IsBase sc f w h lots lot → slice_get lot.list.entries i ≡ Some e → IsReadySide lot → e.bounced ≡ true → e.slot ≡ Some k → covers (slot_at sc k) z ≡ true → covers (slots_of sc) z ≡ true
+    → CalmRow w.machine z
+slot_calm sc f w h lots lot i e k z b there side bounced slot on over = b.flat.bytes.calm z over (base_unseen sc f w h lots lot i e k z b there side bounced slot on)
+
+alone_so : (sc : Scenario) (f : List ℕ) (w : WorldState) (h : HartNo) (lots : List Lot) (lot : Lot) (i : ℕ) (e : Entry) (x : ℕ) → IsBase sc f w h lots lot → IsPlace lot i e x → IsReadySide lot → comes_back lot.list.dir ≡ true → (t : Bool) → e.bounced ≡ t
+    → Alone h.0 w.machine (place_at (driver_of w h.0).fixed e x)
+alone_so sc f w h lots lot i e x b place side comes true bounced g ne =
+    let m = w.machine in
+    let fx = (driver_of w h.0).fixed in
+    let y = place_at fx e x in
+    let s = in_slot_at sc f w h lots lot i e y b place.entry bounced (device_on fx e x place.on) in
+    none_in_block m.size (y / m.size) (queue_of m g) b.flat.world.machine.block_size (queues_fit sc f w g b.flat)
+    (λ z same.
+    let on = slot_whole sc f w s.k y z b.flat s.on (sym same) in
+    let few = (entry_in (length m.cache.ram) fx lot i e (base_lot sc f w h lots lot b) place.entry).slot s.k s.slot in
+    let over = slot_slots sc s.k z (subst (λ (n : ℕ). s.k < n) (ap (λ (j : Fixed). j.slots) (fixed_is sc f w h b.flat b.lt)) few.few) on in
+    (slot_calm sc f w h lots lot i e s.k z b place.entry side bounced s.slot on over).none g)
+alone_so sc f w h lots lot i e x b place side comes false direct g ne =
+    let m = w.machine in
+    let fx = (driver_of w h.0).fixed in
+    let here = direct_same fx e x direct place.on in
+    let is_in = base_lot sc f w h lots lot b in
+    let bounce = all_at (BouncesSo fx lot.kind lot.list.dir lot.chan) lot.list.entries e is_in.bounce (at_get lot.list.entries i e place.entry) in
+    subst (λ (y : ℕ). list_any (gives_block m y) (queue_of m g) ≡ false) (sym here)
+    (none_in_block m.size (x / m.size) (queue_of m g) b.flat.world.machine.block_size (queues_fit sc f w g b.flat)
+    (λ z same.
+    let on = whole_range fx lot e m.size x z b.flat.world.machine.block_size (sizes sc f w h b.flat b.lt) bounce (no_area lot.kind (base_mapping sc f w h lots lot b).kind) direct comes same place.on in
+    let at_z : IsPlace lot i e z = record { entry = place.entry; on = on } in
+    let inside : z < sc.ram = omega (arith, (entry_in (length m.cache.ram) fx lot i e is_in place.entry).range.ends, covers-high e.span z on, b.flat.world.of_scenario.ram) in
+    let row = own_row w h lot i z (byte f z) side (subst (λ (o : Owner). Row (book_of w) o (byte f z) m z) (base_owner sc f w h lots lot i e z b at_z) (b.flat.bytes.rows z inside (base_beside sc f w h lots lot i e z b place.entry on).1)) in
+    row.quiet.others g ne))
+
+dir_make : (d : Dir) (r s : Type 0) → (comes_back d ≡ false → r) → (comes_back d ≡ true → s) → ByDir d r s
+dir_make ToDev r s first second = first refl
+dir_make Both r s first second = second refl
+dir_make FromDev r s first second = second refl
+
+ready_so : (sc : Scenario) (f : List ℕ) (w : WorldState) (h : HartNo) (lots : List Lot) (lot : Lot) (i : ℕ) (e : Entry) (x : ℕ) (ahead : List QueueEntry) → IsBase sc f w h lots lot → IsPlace lot i e x → IsReadySide lot
+    → ((y : ℕ) → e.bounced ≡ true → covers (device_of (driver_of w h.0).fixed e) y ≡ true → list_any (gives_here w.machine y) ahead ≡ true) → (t : Bool) → e.bounced ≡ t → IsReady w.machine x (place_at (driver_of w h.0).fixed e x) ahead
+ready_so sc f w h lots lot i e x ahead b place side stores true bounced =
+    let fx = (driver_of w h.0).fixed in
+    let y = place_at fx e x in
+    let over = device_on fx e x place.on in
+    let s = in_slot_at sc f w h lots lot i e y b place.entry bounced over in
+    inr (slot_calm sc f w h lots lot i e s.k y b place.entry side bounced s.slot s.on s.over, stores y bounced over)
+ready_so sc f w h lots lot i e x ahead b place side stores false direct = inl (sym (direct_same (driver_of w h.0).fixed e x direct place.on))
+
+went_work : (d : DriverState) (lots : List Lot) (saw : Seen) (id : LotId) (plan : List Step) → list_any (ends id) plan ≡ true → went_to d lots saw plan ≡ stands d Work plan lots saw
+went_work d lots saw id [] some = absurd cc
+went_work d lots saw id (s ∷ rest) some = refl
+
+pub lend_opens : (sc : Scenario) (f : List ℕ) (w : WorldState) (h : HartNo) (o : Op) (went : Went) (lots : List Lot) (lot : Lot) → IsBase sc f w h lots lot → in_hand (driver_of w h.0) ≡ Some o → is_lending o ≡ true → IsReadySide lot
+    → went.driver ≡ went_to (with_lots (driver_of w h.0) lots) (set_side sides.Lending lot.id lots) (driver_of w h.0).saw (lend_steps (driver_of w h.0).fixed lot) → went.moves.transfers ≡ of_those (to_side (driver_of w h.0).fixed.me sides.Lending) lot.id lots
+    → Opens sc f w h o went lots lot sides.Lending (lend_steps (driver_of w h.0).fixed lot)
+lend_opens sc f w h o went lots lot b hand lends side driver transfers =
+    let m = w.machine in
+    let d = driver_of w h.0 in
+    let fx = d.fixed in
+    let now = set_side sides.Lending lot.id lots in
+    let plan = lend_steps fx lot in
+    let planned = base_planned sc f w h lots lot b in
+    let writes_so = writing sc f w h b.flat b.lt in
+    let size = sizes sc f w h b.flat b.lt in
+    let z = b.flat.world.machine.block_size in
+    let k : Lends fx now (turned_lot sides.Lending lot) plan =
+    lend_so fx now (turned_lot sides.Lending lot) (hand_set sides.Lending lots lot b.here b.others) (record { light = planned.light; size = planned.size; some = planned.some; off = planned.off; slots = planned.slots; buffers = planned.buffers }) writes_so in
+    record {
+      base = b;
+      hand = hand;
+      lends = lends;
+      driver = driver ∙ went_work (with_lots d lots) now d.saw lot.id plan k.plan.ended;
+      transfers = transfers;
+      lent = refl;
+      silent = k.plan.silent;
+      lasting = k.plan.first;
+      goes = k.goes;
+      row = λ i e x v there place c known rest row.
+          let n = map_id h lot.id i in
+          let l = loan_for fx h lot i e in
+          let y = place_at fx e x in
+          let p = sg.part_of lot.list.dir fx.slots_at e in
+          let ahead : ahead_of c n l ≡ coming n lot.id plan = ap (λ (ss : List Step). coming n lot.id ss) rest in
+          let entry : IsEntryOfLot n lot = record { label = refl; from = omega arith; before = omega (arith, slice_get_within lot.list.entries i e place.entry) } in
+          let at = place_is fx lot i e x place.entry place.on in
+          let none = unnamed sc f w h n b.flat b.lt planned.light in
+          let own = own_row w h lot i x v side row in
+          let ready = subst (λ (es : List QueueEntry). IsReady m x y es) (sym ahead)
+          (ready_so sc f w h lots lot i e x (coming n lot.id plan) b place side (λ u bounced over. subst (λ (s : ℕ). list_any (gives_at s u) (coming n lot.id plan) ≡ true) size (k.stores i e u place.entry bounced over n)) e.bounced refl) in
+          let to = subst (λ (es : List QueueEntry). LendsAhead (gives_here m y) (back m y) n es) (sym ahead) (plans_lend.to fx lot n p m y z size writes_so entry at) in
+          let from = subst (λ (es : List QueueEntry). LendsAhead (gives_block m y) (back m y) n es) (sym ahead) (plans_lend.from fx lot n p m y z size writes_so entry at) in
+          subst (λ (q : Option Loan). LentRow c n q v m x) (sym known)
+          (dir_make lot.list.dir (LendingTo n v (ahead_of c n l) m x y) (LendingFrom n v (ahead_of c n l) m x y)
+          (λ stays. rows_begin.lend_to m n v x y (ahead_of c n l) none to ready own)
+          (λ comes. rows_begin.lend_from m n v x y (ahead_of c n l) none from ready (alone_so sc f w h lots lot i e x b place side comes e.bounced refl) own));
+      shown = λ i e x place c known. inl (elim side [
+        | inl wanted ↦ ap (λ (s : Side). seen_at (book_of w) (owner_of_side (map_id h lot.id i) s) x) wanted
+        | inr synced ↦ ap (λ (s : Side). seen_at (book_of w) (owner_of_side (map_id h lot.id i) s) x) synced
+      ]);
+    }
+
+-- ---- a lot that is taken back
+
+-- what its mappings are
+abbrev pub AreKnown : WorldState → HartNo → Lot → Type 0
+AreKnown w h lot = (i : ℕ) (e : Entry) → slice_get lot.list.entries i ≡ Some e → (book_of w).loan (map_id h lot.id i) ≡ Some (loan_for (driver_of w h.0).fixed h lot i e)
+
+fence_there : (xs ys all : List QueueEntry) → all ≡ xs ++ (entries.Mark 15 15 ∷ ys) → list_any is_full all ≡ true
+fence_there xs ys all is = ap (list_any is_full) is ∙ some_append is_full xs (entries.Mark 15 15 ∷ ys) (inr refl)
+
+either_true : (t : Bool) (p q : Type 0) → t ≡ true → p → Either t p q
+either_true true p q is x = x
+either_true false p q is x = absurd cc
+
+dir_map : (d : Dir) (p q r s : Type 0) → (comes_back d ≡ false → p → r) → (comes_back d ≡ true → q → s) → ByDir d p q → ByDir d r s
+dir_map ToDev p q r s first second row = first refl row
+dir_map Both p q r s first second row = second refl row
+dir_map FromDev p q r s first second row = second refl row
+
+pub return_opens : (sc : Scenario) (f : List ℕ) (w : WorldState) (h : HartNo) (o : Op) (went : Went) (lots : List Lot) (lot : Lot) (turn : Turn) → IsBase sc f w h lots lot → in_hand (driver_of w h.0) ≡ Some o → is_lending o ≡ true → lot.side ≡ sides.Device → AreKnown w h lot → IsBack lot.id turn → (turn ≡ turns.Sync lot.id → lot.kind ≡ Single)
+    → went.driver ≡ went_to (with_lots (driver_of w h.0) lots) (set_side sides.Returning lot.id lots) (driver_of w h.0).saw (ending turn (return_steps (driver_of w h.0).fixed lot)) → went.moves.transfers ≡ of_those (to_side (driver_of w h.0).fixed.me sides.Returning) lot.id lots
+    → Opens sc f w h o went lots lot sides.Returning (ending turn (return_steps (driver_of w h.0).fixed lot))
+return_opens sc f w h o went lots lot turn b hand lends device before is_back single driver transfers =
+    let m = w.machine in
+    let d = driver_of w h.0 in
+    let fx = d.fixed in
+    let now = set_side sides.Returning lot.id lots in
+    let plan = ending turn (return_steps fx lot) in
+    let planned = base_planned sc f w h lots lot b in
+    let drops_so = dropping sc f w h b.flat b.lt in
+    let size = sizes sc f w h b.flat b.lt in
+    let z = b.flat.world.machine.block_size in
+    let k : Returns fx now (turned_lot sides.Returning lot) plan =
+    return_so fx now (turned_lot sides.Returning lot) turn (hand_set sides.Returning lots lot b.here b.others) (record { light = planned.light; size = planned.size; some = planned.some; off = planned.off; slots = planned.slots; buffers = planned.buffers }) drops_so is_back
+    (λ sync other there named. ap (λ (l : Lot). l.kind) (set_one sides.Returning lots lot (λ l k same. base_one sc f w h lots lot l b k same) other there (ap (λ (q : LotId). q.label.0) (named_so other lot.id named))) ∙ single sync) in
+    record {
+      base = b;
+      hand = hand;
+      lends = lends;
+      driver = driver ∙ went_work (with_lots d lots) now d.saw lot.id plan k.plan.ended;
+      transfers = transfers;
+      lent = refl;
+      silent = k.plan.silent;
+      lasting = k.plan.first;
+      goes = k.goes;
+      row = λ i e x v there place c known rest row.
+          let n = map_id h lot.id i in
+          let l = loan_for fx h lot i e in
+          let y = place_at fx e x in
+          let turns = back_turns lot.id turn is_back in
+          let ahead : ahead_of c n l ≡ coming n lot.id plan = ap (λ (ss : List Step). coming n lot.id ss) rest in
+          let was_row : DeviceRow n ((book_of w).loan n) v m x = subst (λ (s : Side). Row (book_of w) (owner_of_side n s) v m x) device row in
+          let was : DeviceRow n (Some l) v m x = subst (λ (q : Option Loan). DeviceRow n q v m x) (before i e place.entry) was_row in
+          subst (λ (q : Option Loan). BackRow c n q v m x) (sym known)
+          (dir_map lot.list.dir (DeviceTo n v m x y) (DeviceFrom n v m x y) (DeviceTo n v m x y) _
+          (λ stays to. to)
+          (λ comes from. either_true (list_any is_full (ahead_of c n l)) _ _ (fence_there _ _ (ahead_of c n l) (ahead ∙ plans_return.comes fx lot n turn turns))
+          (rows_begin.take_back m n v x y (ahead_of c n l) (b.flat.bytes.unfenced h.0)
+          (subst (λ (es : List QueueEntry). Stands (drop m y) is_full es) (sym ahead) (plans_return.drops fx lot n turn (sg.part_of lot.list.dir fx.slots_at e) m y z size drops_so comes turns (place_is fx lot i e x place.entry place.on))) from))
+          was);
+      shown = λ i e x place c known.
+          let n = map_id h lot.id i in
+          let before_seen : seen_at (book_of w) (owner_of_side n lot.side) x ≡ place_of ((book_of w).loan n) x = ap (λ (s : Side). seen_at (book_of w) (owner_of_side n s) x) device in
+          inr (ap (λ (q : Option Loan). place_of q x) (known ∙ sym (before i e place.entry)) ∙ sym before_seen);
+    }

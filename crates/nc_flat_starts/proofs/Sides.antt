@@ -1,0 +1,116 @@
+-- The lots of a hart behind a turn of one of them.
+use Rattle.std.specs.Prelude.{All, Some, not, true, false, filter}
+use Rattle.std.proofs.Common.{◌≡◌, List, [], ◌∷◌, refl, sym, ap, ◌∙◌, inl, inr, subst}
+use Rattle.std.proofs.lemmas.Bool.{cases_Bool, both_ways, cond-true, cond-false, not_from_true, not_from_false}
+use Rattle.std.proofs.lemmas.List.Elements.{All-nil, All-cons, All-head, All-tail}
+use Rattle.nc_plan.specs.Plans.{In}
+use Rattle.nc_rules.specs.declared.lots.Kind.TheVariants.{Single}
+use Rattle.nc_rules.specs.declared.lots.Lot.{Lot}
+use Rattle.nc_rules.specs.declared.lots.LotId.{LotId}
+use Rattle.nc_rules.specs.declared.lots.Side.{Side}
+use Rattle.nc_rules.specs.declared.lots.Side.TheVariants as sides
+use Rattle.nc_rules.specs.declared.steps.Turn.{Turn}
+use Rattle.nc_rules.specs.declared.steps.Turn.TheVariants as turns
+use Rattle.nc_rules.specs.Lots.{Fixed, is_lot}
+use Rattle.nc_rules.specs.Turns.{with_side, set_side, lots_after}
+use Rattle.nc_scripts.proofs.LotLaws.{its_name}
+use Rattle.nc_flatness.specs.Plans.{IsStill, IsInHand, IsBack}
+
+abbrev pub without_lot : LotId → List Lot → List Lot
+without_lot id lots = filter (λ lot. not (is_lot id lot)) lots
+
+-- each but those of the name
+abbrev pub Others : (Lot → Type 0) → LotId → List Lot → Type 0
+Others P id lots = All (λ other. is_lot id other ≡ false → P other) lots
+
+-- ---- a side that is set
+
+-- the lot with its new side
+abbrev pub turned_lot : Side → Lot → Lot
+turned_lot side lot = record lot { side = side }
+
+pub set_all : (P : Lot → Type 0) (side : Side) (id : LotId) (lots : List Lot) → ((lot : Lot) → P lot → P (turned_lot side lot)) → All P lots → All P (set_side side id lots)
+set_all P side id [] keeps all = All-nil P
+set_all P side id (lot ∷ lots) keeps all =
+    let first = All-head P lot lots all in
+    let now : P (with_side side id lot) = elim (cases_Bool (is_lot id lot)) [
+      | inl is ↦ subst P (sym (cond-true (is_lot id lot) (turned_lot side lot) lot is)) (keeps lot first)
+      | inr off ↦ subst P (sym (cond-false (is_lot id lot) (turned_lot side lot) lot off)) first
+    ] in
+    All-cons P (with_side side id lot) (set_side side id lots) now (set_all P side id lots keeps (All-tail P lot lots all))
+
+pub set_here : (side : Side) (lots : List Lot) (lot : Lot) → In lot lots → In (turned_lot side lot) (set_side side lot.id lots)
+set_here side [] lot here = absurd here
+set_here side (x ∷ lots) lot (inl same) =
+    inl (ap (λ (k : Lot). with_side side lot.id k) same ∙ cond-true (is_lot lot.id lot) (turned_lot side lot) lot (its_name lot lot.id refl))
+set_here side (x ∷ lots) lot (inr later) = inr (set_here side lots lot later)
+
+-- each lot behind it was there, or is one of the name
+set_from : (side : Side) (id : LotId) (lots : List Lot) (now : Lot) → In now (set_side side id lots) → (lot : Lot) × In lot lots × (now ≡ with_side side id lot)
+set_from side id [] now here = absurd here
+set_from side id (x ∷ lots) now (inl same) = (x, inl refl, sym same)
+set_from side id (x ∷ lots) now (inr later) = let r = set_from side id lots now later in (r.0, inr r.1, r.2)
+
+with_same : (side : Side) (id : LotId) (lot : Lot) → (with_side side id lot).id ≡ lot.id
+with_same side id lot = elim (cases_Bool (is_lot id lot)) [
+  | inl is ↦ ap (λ (l : Lot). l.id) (cond-true (is_lot id lot) (turned_lot side lot) lot is)
+  | inr off ↦ ap (λ (l : Lot). l.id) (cond-false (is_lot id lot) (turned_lot side lot) lot off)
+]
+
+-- the only lot of its label stays so
+pub set_one : (side : Side) (lots : List Lot) (lot : Lot) → ((other : Lot) → In other lots → other.id.label.0 ≡ lot.id.label.0 → other ≡ lot) → (other : Lot) → In other (set_side side lot.id lots) → other.id.label.0 ≡ lot.id.label.0 → other ≡ turned_lot side lot
+set_one side lots lot only other there same =
+    let from = set_from side lot.id lots other there in
+    let was : from.0 ≡ lot = only from.0 from.1 (sym (ap (λ (i : LotId). i.label.0) (ap (λ (l : Lot). l.id) from.2 ∙ with_same side lot.id from.0)) ∙ same) in
+    from.2 ∙ ap (λ (k : Lot). with_side side lot.id k) was ∙ cond-true (is_lot lot.id lot) (turned_lot side lot) lot (its_name lot lot.id refl)
+
+pub set_others : (P : Lot → Type 0) (side : Side) (id : LotId) (lots : List Lot) → Others P id lots → Others P id (set_side side id lots)
+set_others P side id [] all = All-nil (λ other. is_lot id other ≡ false → P other)
+set_others P side id (x ∷ lots) all =
+    let Q : Lot → Type 0 = λ other. is_lot id other ≡ false → P other in
+    let now : Q (with_side side id x) = elim (cases_Bool (is_lot id x)) [
+      | inl is ↦ subst Q (sym (cond-true (is_lot id x) (turned_lot side x) x is)) (λ off. absurd (both_ways (is_lot id x) off is))
+      | inr off ↦ subst Q (sym (cond-false (is_lot id x) (turned_lot side x) x off)) (All-head Q x lots all)
+    ] in
+    All-cons Q (with_side side id x) (set_side side id lots) now (set_others P side id lots (All-tail Q x lots all))
+
+-- the turn that opens leaves the lot in hand
+pub hand_set : (side : Side) (lots : List Lot) (lot : Lot) → In lot lots → Others IsStill lot.id lots → IsInHand (set_side side lot.id lots) (turned_lot side lot) side
+hand_set side lots lot here others = record { here = set_here side lots lot here; side_is = refl; others = set_others IsStill side lot.id lots others }
+
+-- a side that is still leaves them all still
+pub set_still : (side : Side) (id : LotId) (lots : List Lot) → ((lot : Lot) → In lot lots → is_lot id lot ≡ true → IsStill (turned_lot side lot)) → Others IsStill id lots → All IsStill (set_side side id lots)
+set_still side id [] now all = All-nil IsStill
+set_still side id (x ∷ lots) now all =
+    let P : Lot → Type 0 = λ other. is_lot id other ≡ false → IsStill other in
+    let first : IsStill (with_side side id x) = elim (cases_Bool (is_lot id x)) [
+      | inl is ↦ subst IsStill (sym (cond-true (is_lot id x) (turned_lot side x) x is)) (now x (inl refl) is)
+      | inr off ↦ subst IsStill (sym (cond-false (is_lot id x) (turned_lot side x) x off)) (All-head P x lots all off)
+    ] in
+    All-cons IsStill (with_side side id x) (set_side side id lots) first (set_still side id lots (λ lot there is. now lot (inr there) is) (All-tail P x lots all))
+
+-- ---- without the lot
+
+pub without_all : (P : Lot → Type 0) (id : LotId) (lots : List Lot) → Others P id lots → All P (without_lot id lots)
+without_all P id [] all = All-nil P
+without_all P id (x ∷ lots) all =
+    let Q : Lot → Type 0 = λ lot. is_lot id lot ≡ false → P lot in
+    let kept = without_all P id lots (All-tail Q x lots all) in
+    elim (cases_Bool (is_lot id x)) [
+      | inl is ↦ subst (λ (ls : List Lot). All P ls) (sym (cond-false (not (is_lot id x)) (x ∷ without_lot id lots) (without_lot id lots) (not_from_true (is_lot id x) is))) kept
+      | inr off ↦ subst (λ (ls : List Lot). All P ls) (sym (cond-true (not (is_lot id x)) (x ∷ without_lot id lots) (without_lot id lots) (not_from_false (is_lot id x) off)))
+          (All-cons P x (without_lot id lots) (All-head Q x lots all off) kept)
+    ]
+
+-- ---- the turns that leave all still
+
+pub given_still : (id : LotId) (lots : List Lot) → Others IsStill id lots → All IsStill (lots_after (turns.Give id) lots)
+given_still id lots others = set_still sides.Device id lots (λ lot there is. inl refl) others
+
+-- a sync is of a single mapping
+abbrev pub IsSingly : LotId → Turn → List Lot → Type 0
+IsSingly id turn lots = turn ≡ turns.Sync id → (lot : Lot) → In lot lots → is_lot id lot ≡ true → lot.kind ≡ Single
+
+pub back_still : (id : LotId) (turn : Turn) (lots : List Lot) → IsBack id turn → IsSingly id turn lots → Others IsStill id lots → All IsStill (lots_after turn lots)
+back_still id turn lots (inl is) single others = subst (λ (t : Turn). All IsStill (lots_after t lots)) (sym is) (set_still sides.Synced id lots (λ lot there named. inr (refl, single is lot there named)) others)
+back_still id turn lots (inr is) single others = subst (λ (t : Turn). All IsStill (lots_after t lots)) (sym is) (without_all IsStill id lots others)

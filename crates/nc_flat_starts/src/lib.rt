@@ -1,0 +1,10 @@
+//! Flat memory through the starts of mappings and scatter lists: map, unmap and the syncs, and the search for slots.
+//!
+//! The crate has no code. A start makes a lot, or the first turn of one, with which its plan is in hand; where an entry
+//! waits for a slot its driver searches first. The contract for the layers above: `starts_go`, that flat memory's bytes
+//! stand behind each start, try and told answer.
+#![tactic(auto)]
+
+mod laws;
+
+pub use laws::{book_rows, starts_go};
