@@ -1,10 +1,12 @@
-//! Flat memory through the plans of direct mappings: map, unmap and the syncs.
+//! Flat memory through the plans of mappings and scatter lists, direct and bounced: map, unmap, their lists, and the
+//! syncs.
 //!
-//! The crate has no code. A plan of a direct mapping is cache operations and then a full fence, with whose turn the lot
-//! is its channel's, or its hart's again; its start makes the lot, or its first turn. The contract for the layers above:
-//! `plans_go`, that flat memory's bytes stand behind each step of such an operation.
+//! The crate has no code. A plan that lends copies the ranges that bounce into their slots, writes each block back and
+//! ends with a full fence, with whose turn the lot is its channel's; a plan that takes back drops each block that the
+//! channel may have written, fences, and copies what bounced out of its slots. The contract for the layers above:
+//! `plans_go`, that flat memory's bytes stand behind each step of such a plan.
 #![tactic(auto)]
 
 mod laws;
 
-pub use laws::{book_rows, plans_go, plans_turn};
+pub use laws::plans_go;

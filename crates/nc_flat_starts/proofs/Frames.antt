@@ -89,10 +89,10 @@ pub record GoesBy (w : WorldState) (h : HartNo) (m : MachineState) : Type 0 wher
   pub queues : (g : ℕ) → g ≢ h.0 → queue_of m g ≡ queue_of w.machine g
   pub lasts : (g : ℕ) → g ≢ h.0 → (hart_of m g).last ≡ (hart_of w.machine g).last
   pub unfenced : list_any is_full (queue_of m h.0) ≡ false
-  pub free : (x : ℕ) → NotHeld w.machine x → NotHeld m x
+  pub free : (x : ℕ) → covers w.machine.pool x ≡ true → NotHeld w.machine x → NotHeld m x
 
 pub goes_still : (sc : Scenario) (f : List ℕ) (w : WorldState) (h : HartNo) → BytesStand sc f w → GoesBy w h w.machine
-goes_still sc f w h s = record { size = refl; pool = refl; queues = λ g ne. refl; lasts = λ g ne. refl; unfenced = s.unfenced h.0; free = λ x free. free }
+goes_still sc f w h s = record { size = refl; pool = refl; queues = λ g ne. refl; lasts = λ g ne. refl; unfenced = s.unfenced h.0; free = λ x over free. free }
 
 -- a mapping of this owner has nothing to come
 abbrev pub IsRestful : Owner → Type 0
@@ -308,7 +308,7 @@ turn_bytes sc f w h m went lot side flat lt plain by t =
       ];
       uncached = λ x over.
           let was = subst (λ (p : Span). covers p x ≡ true) by.pool over in
-          inl (by.free x (free_pool sc f w x s was (subst (λ (p : Span). covers p x ≡ true) flat.world.of_scenario.pool was)));
+          inl (by.free x was (free_pool sc f w x s was (subst (λ (p : Span). covers p x ≡ true) flat.world.of_scenario.pool was)));
       lasts = λ g. elim (cases_eq g h.0) [
         | inl own ↦ subst (λ (j : ℕ). LastIs (book_of v) f j (hart_of m j).last (rest_last ((book_of v).rest j))) (sym own) (last_here w h m went f lt t.lasting)
         | inr ne ↦

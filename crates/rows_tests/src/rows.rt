@@ -1,8 +1,9 @@
 //! Each law is called.
 
 use nc_flat_moves::moves_go;
-use nc_flat_plans::{book_rows, plans_go, plans_turn};
+use nc_flat_plans::plans_go;
 use nc_flat_scripts::steps_go;
+use nc_flat_starts::book_rows;
 use nc_lines::{lines_cover, lines_drain, lines_gain};
 use nc_row_channels::rows_of_channels;
 use nc_row_issues::rows_issue;
@@ -29,6 +30,5 @@ fn laws_are_called() {
     moves_go();
     steps_go();
     book_rows();
-    plans_turn();
     plans_go();
 }

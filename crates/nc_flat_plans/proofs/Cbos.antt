@@ -1,0 +1,133 @@
+-- A cache operation of a plan: a block is written back before its lot is lent, or dropped before the full fence.
+use Rattle.std.specs.Prelude.{None, ◌/◌, true}
+use Rattle.std.specs.List.{list_any}
+use Rattle.std.proofs.Common.{◌≡◌, ℕ, List, refl, sym, ap, ◌∙◌, inl, inr}
+use Rattle.nc_num.specs.declared.names.HartNo.{HartNo}
+use Rattle.nc_num.specs.declared.places.Block.{Block}
+use Rattle.nc_env.specs.declared.CboOp.{CboOp}
+use Rattle.nc_env.specs.declared.CboOp.TheVariants as cbos
+use Rattle.nc_plan.specs.declared.ops.HartOp.TheVariants as hart_ops
+use Rattle.nc_queue.specs.Entries.{writes_back}
+use Rattle.nc_queue.specs.declared.entry.Entry.TheVariants as entries
+use Rattle.nc_ops.specs.declared.ops.Op.{Op}
+use Rattle.nc_scen.specs.declared.events.Event.TheVariants as events
+use Rattle.nc_scen.specs.declared.scenario.Scenario.{Scenario}
+use Rattle.nc_rules.specs.declared.lots.Lot.{Lot}
+use Rattle.nc_rules.specs.declared.lots.Side.TheVariants as sides
+use Rattle.nc_rules.specs.declared.steps.Step.{Step}
+use Rattle.nc_rules.specs.Lots.{owner_of_side}
+use Rattle.nc_rules.specs.Plans.{hart_step}
+use Rattle.nc_rules.specs.Calls.{issue_next}
+use Rattle.nc_rules.specs.Driver.{is_script}
+use Rattle.nc_rules.specs.Watched.{owner_of}
+use Rattle.nc_rules.specs.World.{WorldState, driver_of}
+use Rattle.nc_calls.specs.PlaceLaws.{drops_copies}
+use Rattle.nc_rows.specs.Ahead.{ends, is_full, act_coming}
+use Rattle.nc_rows.specs.Parts.{IsDropped, OpIsQueued, rest_last}
+use Rattle.nc_flatness.specs.Books.{book_of}
+use Rattle.nc_flatness.specs.Plans.{IsWriteBack, IsDrop}
+use Rattle.nc_flatness.specs.Steps.{Goes}
+use Rattle.nc_flatness.proofs.Outcomes.{gone}
+use Rattle.nc_flatness.proofs.Loans.{loan_is}
+use Rattle.nc_flatness.proofs.Seen.{device_place_of}
+use Rattle.nc_flat_starts.proofs.Frames.{IsPlace, rest_hart}
+use Rattle.nc_flat_plans.proofs.OwnRows.{back_op}
+use Rattle.nc_flat_plans.proofs.Passes.{is_kept_op, writes_kept, drops_kept, op_plain, op_byte, op_block}
+use Rattle.nc_flat_plans.proofs.Drivers.{IsNext, done_so}
+use Rattle.nc_flat_plans.proofs.Places.{IsUnder, its_id, its_loan, known}
+use Rattle.nc_flat_plans.proofs.Shifts.{held, stay_shift}
+use Rattle.nc_flat_plans.proofs.StepFrames.{driven, known_now}
+use Rattle.nc_flat_plans.proofs.Copies.{no_lender}
+use Rattle.nc_flat_plans.proofs.OwnPlaces.{to_come}
+use Rattle.nc_flat_plans.proofs.Puts.{IsStaying, IsPut, put_bytes}
+use Rattle.nc_flat_plans.proofs.Issues.{IsOpNext, op_enters, kept_silent, went_by, op_goes}
+
+-- no row is changed by it
+op_put : (sc : Scenario) (f : List ℕ) (w : WorldState) (h : HartNo) (o : Op) (op : CboOp) (block : Block) (s : Step) (rest : List Step) (lot : Lot) → IsOpNext sc f w h o (hart_ops.Cbo op block) s rest → IsUnder sc f w h lot → is_kept_op op ≡ true
+    → IsPut sc f w h (issue_next w.machine h.0 (hart_ops.Cbo op block)) (entries.Cbo block op) rest lot
+op_put sc f w h o op block s rest lot k u kept =
+    let m = w.machine in
+    let n = issue_next m h.0 (hart_ops.Cbo op block) in
+    let e = entries.Cbo block op in
+    let by = op_enters sc f w h o (hart_ops.Cbo op block) s rest e k refl in
+    record {
+      plain = op_plain block op;
+      clear = λ x there off beyond. record {
+        byte = op_byte m block op x kept;
+        device = op_byte m block op _ kept;
+        block = λ j l lent known back. op_block m block op _ kept;
+        other = λ j owner own. no_lender sc f w h lot j x u there beyond owner own;
+      };
+      lends = λ side i d x p. (op_byte m block op x kept, inr (inl (op_byte m block op _ kept)));
+      backs = λ side i d x p row. back_op lot.list.dir m n e (its_id h lot i) _ x _ (to_come h lot i rest) by refl (λ z. op_byte m block op z kept) (λ z. op_block m block op z kept) row;
+      unseen = λ z slot unseen. op_byte m block op z kept;
+    }
+
+-- the event, with what is asked of the entry
+op_event : (sc : Scenario) (f : List ℕ) (w : WorldState) (h : HartNo) (o : Op) (op : CboOp) (block : Block) (s : Step) (rest : List Step) (lot : Lot) → IsOpNext sc f w h o (hart_ops.Cbo op block) s rest → IsUnder sc f w h lot → s ≡ hart_step (hart_ops.Cbo op block)
+    → is_kept_op op ≡ true → rest_last rest ≡ None
+    → OpIsQueued (book_of (gone w h (issue_next w.machine h.0 (hart_ops.Cbo op block)) (went_by w h (hart_ops.Cbo op block)))) (owner_of (gone w h (issue_next w.machine h.0 (hart_ops.Cbo op block)) (went_by w h (hart_ops.Cbo op block)))) w.machine.pool w.machine.size h.0 op
+    block.0
+    → Goes sc f w (events.Issue h)
+op_event sc f w h o op block s rest lot k u step kept last queued =
+    let cbo = hart_ops.Cbo op block in
+    let done = done_so sc f w h o s rest _ k.next refl in
+    let stays : IsStaying sc f w h o s rest lot = record { next = k.next; under = u; stay = ap (λ (t : Step). t.last) step; plain = ap (ends lot.id) step } in
+    op_goes sc f w h o cbo s rest k (kept_silent w h (is_script (driver_of w h.0).phase) op block kept)
+    (put_bytes sc f w h o s rest (issue_next w.machine h.0 cbo) (went_by w h cbo) (entries.Cbo block op) lot stays done (op_enters sc f w h o cbo s rest (entries.Cbo block op) k refl) (ap act_coming k.act)
+    (op_put sc f w h o op block s rest lot k u kept) queued last)
+
+-- ---- a block is written back
+
+written_queued : (w v : WorldState) (h : ℕ) (op : CboOp) (b : ℕ) → writes_back op ≡ true → OpIsQueued (book_of v) (owner_of v) w.machine.pool w.machine.size h op b
+written_queued w v h cbos.Clean b is = tt
+written_queued w v h cbos.Flush b is = tt
+written_queued w v h cbos.Inval b is = absurd cc
+written_queued w v h cbos.Zero b is = absurd cc
+
+pub written_goes : (sc : Scenario) (f : List ℕ) (w : WorldState) (h : HartNo) (o : Op) (s : Step) (rest : List Step) → IsNext sc f w h o s rest → IsWriteBack (driver_of w h.0).fixed (driver_of w h.0).lots s rest → Goes sc f w (events.Issue h)
+written_goes sc f w h o s rest next is =
+    let cbo = hart_ops.Cbo is.op is.block in
+    let k : IsOpNext sc f w h o cbo s rest = record { next = next; act = ap (λ (t : Step). t.act) is.step } in
+    let u : IsUnder sc f w h is.lot = record { flat = next.now.flat; lt = next.now.there; here = is.hand.here; others = is.hand.others; moves = inl is.hand.side_is } in
+    op_event sc f w h o is.op is.block s rest is.lot k u is.step (writes_kept is.op is.writes) is.next
+    (written_queued w (gone w h (issue_next w.machine h.0 cbo) (went_by w h cbo)) h.0 is.op is.block.0 is.writes)
+
+-- ---- a block is dropped
+
+dropped_queued : (w v : WorldState) (h : ℕ) (op : CboOp) (b : ℕ) → drops_copies op ≡ true → IsDropped (book_of v) (owner_of v) w.machine.size h b → OpIsQueued (book_of v) (owner_of v) w.machine.pool w.machine.size h op b
+dropped_queued w v h cbos.Clean b is dropped = absurd cc
+dropped_queued w v h cbos.Flush b is dropped = tt
+dropped_queued w v h cbos.Inval b is dropped = dropped
+dropped_queued w v h cbos.Zero b is dropped = absurd cc
+
+pub dropped_goes : (sc : Scenario) (f : List ℕ) (w : WorldState) (h : HartNo) (o : Op) (s : Step) (rest : List Step) → IsNext sc f w h o s rest → IsDrop (driver_of w h.0).fixed (driver_of w h.0).lots s rest → Goes sc f w (events.Issue h)
+dropped_goes sc f w h o s rest next is =
+    let d = driver_of w h.0 in
+    let m = w.machine in
+    let lot = is.lot in
+    let cbo = hart_ops.Cbo is.op is.block in
+    let n = issue_next m h.0 cbo in
+    let went = went_by w h cbo in
+    let v = gone w h n went in
+    let k : IsOpNext sc f w h o cbo s rest = record { next = next; act = ap (λ (t : Step). t.act) is.step } in
+    let u : IsUnder sc f w h lot = record { flat = next.now.flat; lt = next.now.there; here = is.hand.here; others = is.hand.others; moves = inr is.hand.side_is } in
+    let done = done_so sc f w h o s rest _ next refl in
+    let shift = stay_shift sc f w h went lot s rest u done (ap (λ (t : Step). t.last) is.step) in
+    let id = its_id h lot is.i in
+    let l = its_loan w h lot is.i is.entry in
+    let at = device_place_of w id l is.place (loan_is sc f w id l u.flat (known sc f w h lot is.i is.entry u is.here.entry)) is.covered in
+    let p : IsPlace lot is.i is.entry at.place = record { entry = is.here.entry; on = at.on } in
+    let size : d.fixed.size ≡ m.size = sym (held sc f w h lot u).setting.block in
+    let dropped : IsDropped (book_of v) (owner_of v) m.size h.0 is.block.0 = record {
+      id = id;
+      loan = l;
+      lent = known_now sc f w h n went lot lot.side is.i is.entry u shift (λ own. let both : sides.Returning ≡ sides.Own = sym is.hand.side_is ∙ own in absurd (cc)) is.here.entry;
+      own = refl;
+      back = is.back;
+      ahead = ap (λ (r : List Step). list_any is_full (to_come h lot is.i r)) (rest_hart w h n went h.0 (driven sc f w h lot u) refl ∙ done.rest) ∙ is.ahead id;
+      place = at.place;
+      owned = shift.on is.i is.entry at.place p ∙ ap (owner_of_side id) is.hand.side_is;
+      here = ap (λ (y : ℕ). y / m.size) at.here ∙ ap (λ (z : ℕ). is.place / z) (sym size) ∙ is.met;
+    } in
+    op_event sc f w h o is.op is.block s rest lot k u is.step (drops_kept is.op is.drops) is.next (dropped_queued w v h.0 is.op is.block.0 is.drops dropped)

@@ -1,0 +1,118 @@
+-- An entry of a plan comes into its hart's queue: what the rows of all other places ask of it.
+use Rattle.std.specs.Prelude.{Option, Some, None}
+use Rattle.std.specs.List.{list_any}
+use Rattle.std.proofs.Common.{◌≡◌, ◌⊎◌, ℕ, Bool, true, false, List, refl, inl, inr}
+use Rattle.nc_num.specs.declared.names.MapId.{MapId}
+use Rattle.nc_num.specs.declared.names.MemType.{MemType}
+use Rattle.nc_num.specs.declared.places.Block.{Block}
+use Rattle.nc_num.specs.declared.places.Span.{Span}
+use Rattle.nc_env.specs.declared.CboOp.{CboOp}
+use Rattle.nc_env.specs.declared.CboOp.TheVariants as cbos
+use Rattle.nc_plan.specs.Parts.{comes_back}
+use Rattle.nc_queue.specs.declared.entry.Entry.{Entry}
+use Rattle.nc_queue.specs.declared.entry.Entry.TheVariants as entries
+use Rattle.nc_queue.specs.Entries.{writes_back}
+use Rattle.nc_lines.specs.Lines.{bare}
+use Rattle.nc_model.specs.declared.owners.Owner.{Owner}
+use Rattle.nc_model.specs.declared.owners.Owner.TheVariants.{Thread, Passing, Lending, Device, Returning, Synced, Pool}
+use Rattle.nc_rules.specs.Machine.{MachineState}
+use Rattle.nc_calls.specs.PlaceLaws.{drops_copies}
+use Rattle.nc_rows.specs.Ahead.{names, is_full, is_mail}
+use Rattle.nc_rows.specs.Laws.{place_of, seen_at}
+use Rattle.nc_rows.specs.Rows.{Loan, Book, device_place, ahead_of}
+use Rattle.nc_row_issues.specs.Laws.{NoByte, NoBlock, PassesTo, PassesLent, PassesLoan, PassesBack, Passes}
+use Rattle.nc_flat_starts.specs.Books.{HasNoArea}
+use Rattle.nc_flat_plans.proofs.OwnRows.{either_false, either_both, dir_make}
+
+-- ---- the entries of plans
+
+-- a clean, a flush or an invalidate
+abbrev pub is_kept_op : CboOp → Bool
+is_kept_op cbos.Clean = true
+is_kept_op cbos.Flush = true
+is_kept_op cbos.Inval = true
+is_kept_op cbos.Zero = false
+
+pub writes_kept : (o : CboOp) → writes_back o ≡ true → is_kept_op o ≡ true
+writes_kept cbos.Clean is = refl
+writes_kept cbos.Flush is = refl
+writes_kept cbos.Inval is = absurd cc
+writes_kept cbos.Zero is = absurd cc
+
+pub drops_kept : (o : CboOp) → drops_copies o ≡ true → is_kept_op o ≡ true
+drops_kept cbos.Flush is = refl
+drops_kept cbos.Inval is = refl
+drops_kept cbos.Clean is = absurd cc
+drops_kept cbos.Zero is = absurd cc
+
+-- no token, full fence or message
+pub record IsPlain (e : Entry) : Type 0 where
+  pub token : (n : MapId) → names n (bare e) ≡ false
+  pub full : is_full (bare e) ≡ false
+  pub fence : is_full e ≡ false
+  pub mail : (b : ℕ) → is_mail b (bare e) ≡ false
+
+pub store_plain : (span : Span) (bytes : List ℕ) (kind : MemType) → IsPlain (entries.Store span bytes kind)
+store_plain span bytes kind = record { token = λ n. refl; full = refl; fence = refl; mail = λ b. refl }
+
+pub op_plain : (block : Block) (op : CboOp) → IsPlain (entries.Cbo block op)
+op_plain block op = record { token = λ n. refl; full = refl; fence = refl; mail = λ b. refl }
+
+pub op_byte : (m : MachineState) (block : Block) (op : CboOp) (x : ℕ) → is_kept_op op ≡ true → NoByte m (entries.Cbo block op) x
+op_byte m block cbos.Clean x is = refl
+op_byte m block cbos.Flush x is = refl
+op_byte m block cbos.Inval x is = refl
+op_byte m block cbos.Zero x is = absurd cc
+
+pub op_block : (m : MachineState) (block : Block) (op : CboOp) (x : ℕ) → is_kept_op op ≡ true → NoBlock m (entries.Cbo block op) x
+op_block m block cbos.Clean x is = refl
+op_block m block cbos.Flush x is = refl
+op_block m block cbos.Inval x is = refl
+op_block m block cbos.Zero x is = absurd cc
+
+-- ---- a place beside
+
+abbrev pub IsLentTo : MapId → Owner → Type 0
+IsLentTo n o = (o ≡ Lending n) ⊎ ((o ≡ Device n) ⊎ (o ≡ Returning n))
+
+-- no byte of the place, nor of where its channel sees it; and where the channel may write it none of its block there
+pub record IsClear (a : Book) (o : Owner) (m : MachineState) (h : ℕ) (e : Entry) (x : ℕ) : Type 0 where
+  pub byte : NoByte m e x
+  pub device : NoByte m e (seen_at a o x)
+  pub block : (n : MapId) (l : Loan) → IsLentTo n o → a.loan n ≡ Some l → comes_back l.grant.dir ≡ true → NoBlock m e (device_place l x)
+  -- the mapping is none that the hart itself lends
+  pub other : (n : MapId) → o ≡ Lending n → n.hart.0 ≡ h → ⊥
+
+abbrev pub NoDevice : MachineState → Entry → Option Loan → ℕ → Type 0
+NoDevice m e o x = NoByte m e (place_of o x) × ((l : Loan) → o ≡ Some l → comes_back l.grant.dir ≡ true → NoBlock m e (device_place l x))
+
+lent_passes : (a : Book) (n : MapId) (o : Option Loan) (m : MachineState) (h : ℕ) (e : Entry) (x : ℕ) → a.loan n ≡ o → IsPlain e → HasNoArea a → NoByte m e x → NoDevice m e o x → (n.hart.0 ≡ h → ⊥) → PassesLent a n o m h e x
+lent_passes a n None m h e x is plain none byte device other = tt
+lent_passes a n (Some l) m h e x is plain none byte device other =
+    let y = device_place l x in
+    let to : PassesTo n m h e x y = record { buffer = byte; device = device.0; token = λ own. plain.token n; back = λ own. absurd (other own) } in
+    either_false l.area _ _ (none n l is) (dir_make l.grant.dir _ _ (λ d. to) (λ d. record { to = to; block = device.1 l refl d }))
+
+loan_passes : (a : Book) (n : MapId) (o : Option Loan) (m : MachineState) (h : ℕ) (e : Entry) (x : ℕ) → a.loan n ≡ o → HasNoArea a → NoByte m e x → NoDevice m e o x → PassesLoan n o m h e x
+loan_passes a n None m h e x is none byte device = tt
+loan_passes a n (Some l) m h e x is none byte device =
+    either_false l.area _ _ (none n l is) (dir_make l.grant.dir _ _ (λ d. record { device = device.0; buffer = byte }) (λ d. record { device = device.1 l refl d; buffer = inr byte }))
+
+back_passes : (a : Book) (n : MapId) (o : Option Loan) (m : MachineState) (h : ℕ) (e : Entry) (x : ℕ) → a.loan n ≡ o → IsPlain e → HasNoArea a → NoByte m e x → NoDevice m e o x → PassesBack a n o m h e x
+back_passes a n None m h e x is plain none byte device = tt
+back_passes a n (Some l) m h e x is plain none byte device =
+    either_false l.area _ _ (none n l is)
+    (dir_make l.grant.dir _ _ (λ d. record { device = device.0; buffer = byte })
+    (λ d. either_both (list_any is_full (ahead_of a n l)) _ _
+    (record { opened = record { device = device.1 l refl d; buffer = inr byte }; fence = λ own. plain.full })
+    (record { device = device.0; buffer = inr byte })))
+
+pub passes_by : (a : Book) (o : Owner) (m : MachineState) (h : ℕ) (e : Entry) (x : ℕ) → IsPlain e → HasNoArea a → IsClear a o m h e x → Passes a o m h e x
+passes_by a (Thread j) m h e x plain none clear = clear.byte
+passes_by a (Passing j g) m h e x plain none clear = record { place = clear.byte; message = λ own. plain.mail (a.buffer x) }
+passes_by a (Lending n) m h e x plain none clear =
+    lent_passes a n (a.loan n) m h e x refl plain none clear.byte (clear.device, λ l is d. clear.block n l (inl refl) is d) (λ own. clear.other n refl own)
+passes_by a (Device n) m h e x plain none clear = loan_passes a n (a.loan n) m h e x refl none clear.byte (clear.device, λ l is d. clear.block n l (inr (inl refl)) is d)
+passes_by a (Returning n) m h e x plain none clear = back_passes a n (a.loan n) m h e x refl plain none clear.byte (clear.device, λ l is d. clear.block n l (inr (inr refl)) is d)
+passes_by a (Synced n) m h e x plain none clear = clear.byte
+passes_by a Pool m h e x plain none clear = clear.byte

@@ -1,0 +1,193 @@
+-- A driver's step: whose the places of the lot in hand are behind it, and what each mapping of the hart is.
+use Rattle.std.specs.Prelude.{Option, Some, ◌&&◌, ◌==◌, not, nat_le, nat_lt, Bool, true, false, if◌then◌else◌, filter, option_map, slice_get}
+use Rattle.std.specs.List.{find}
+use Rattle.std.proofs.Common.{◌≡◌, ◌⊎◌, ℕ, ◌+◌, ◌<◌, List, [], ◌∷◌, length, refl, sym, ap, ◌∙◌, inl, inr, subst, arith}
+use Rattle.std.proofs.lemmas.Bool.{cases_Bool, cond-true, cond-false, eqb-true, and_parts, and_left, and_right, false_from_ne_true}
+use Rattle.nc_num.specs.Places.{covers}
+use Rattle.nc_num.specs.declared.names.HartNo.{HartNo}
+use Rattle.nc_num.specs.declared.names.MapId.{MapId}
+use Rattle.nc_num.specs.declared.places.Span.{Span}
+use Rattle.nc_plan.specs.Plans.{In}
+use Rattle.nc_plan.proofs.PlanLaws.{in_map}
+use Rattle.nc_model.specs.declared.owners.Owner.{Owner}
+use Rattle.nc_model.specs.declared.owners.Owner.TheVariants.{Thread}
+use Rattle.nc_own.specs.Books.{owner_in}
+use Rattle.nc_scen.specs.declared.scenario.Scenario.{Scenario}
+use Rattle.nc_sg.specs.declared.list.Entry.{Entry}
+use Rattle.nc_rules.specs.declared.lots.Lot.{Lot}
+use Rattle.nc_rules.specs.declared.lots.LotId.{LotId}
+use Rattle.nc_rules.specs.declared.lots.Side.{Side}
+use Rattle.nc_rules.specs.declared.lots.Side.TheVariants as sides
+use Rattle.nc_rules.specs.declared.steps.Step.{Step}
+use Rattle.nc_rules.specs.declared.steps.Turn.{Turn}
+use Rattle.nc_rules.specs.declared.steps.Turn.TheVariants as turns
+use Rattle.nc_rules.specs.Lots.{Fixed, is_lot, is_wanted, map_id, owner_of_side}
+use Rattle.nc_rules.specs.Turns.{is_area, last_owner, to_side, to_end, of_those, with_side, set_side, lots_after, transfers_of}
+use Rattle.nc_rules.specs.Driver.{DriverState, Went}
+use Rattle.nc_rules.specs.Watched.{owner_of}
+use Rattle.nc_rules.specs.World.{WorldState, driver_of, hart, owners_moved}
+use Rattle.nc_scripts.proofs.LotLaws.{its_name, named_so}
+use Rattle.nc_holds.specs.Held.{OwnersAgree}
+use Rattle.nc_holds.specs.Holds.{DriverHolds}
+use Rattle.nc_holds.proofs.ListsA.{at_get}
+use Rattle.nc_holds.proofs.OwnerMoves.{moved_to, moved_off, in_named}
+use Rattle.nc_holds.proofs.OwnerSides.{side_move, move_covers, owners_sided}
+use Rattle.nc_holds.proofs.OwnerEnds.{end_move}
+use Rattle.nc_rows.specs.Rows.{Loan}
+use Rattle.nc_flatness.specs.Books.{is_entry_of, loan_by, loan_of}
+use Rattle.nc_flatness.proofs.Loans.{one_lot, lot_of, mapping_area}
+use Rattle.nc_flatness.proofs.Owned.{me_is}
+use Rattle.nc_flat_starts.proofs.Frames.{IsPlace, IsOff}
+use Rattle.nc_flat_plans.proofs.Drivers.{IsDone}
+use Rattle.nc_flat_plans.proofs.Places.{IsUnder, lent_side, its_id, owned, in_ram}
+
+pub record IsShift (w : WorldState) (h : HartNo) (went : Went) (lot : Lot) (to : Side) : Type 0 where
+  pub on : (i : ℕ) (e : Entry) (x : ℕ) → IsPlace lot i e x → owner_in (owners_moved w.owners went.moves.transfers) x ≡ owner_of_side (its_id h lot i) to
+  pub off : (x : ℕ) → IsOff lot x → owner_in (owners_moved w.owners went.moves.transfers) x ≡ owner_of w x
+  pub others : (k : MapId) → (k.label.0 ≡ lot.id.label.0 → ⊥) → loan_of went.driver k ≡ loan_of (driver_of w h.0) k
+  pub own : (i : ℕ) → (to ≡ sides.Own) ⊎ (loan_of went.driver (its_id h lot i) ≡ loan_of (driver_of w h.0) (its_id h lot i))
+
+pub hart_there : (sc : Scenario) (f : List ℕ) (w : WorldState) (h : HartNo) (lot : Lot) → IsUnder sc f w h lot → h.0 < length w.machine.harts
+hart_there sc f w h lot u = omega (arith, u.lt, u.flat.world.of_scenario.harts)
+
+pub held : (sc : Scenario) (f : List ℕ) (w : WorldState) (h : HartNo) (lot : Lot) → IsUnder sc f w h lot → DriverHolds w h.0
+held sc f w h lot u = u.flat.world.holds.each h.0 (hart_there sc f w h lot u)
+
+-- what a mapping is, of these lots
+abbrev pub loan_in : Fixed → List Lot → MapId → Option Loan
+loan_in f lots n = option_map (loan_by f n) (find (is_entry_of n) lots)
+
+loan_kept : (d e : DriverState) (n : MapId) → e.fixed ≡ d.fixed → loan_of e n ≡ loan_in d.fixed e.lots n
+loan_kept d e n fixed = ap (λ (f : Fixed). loan_in f e.lots n) fixed
+
+-- ---- no turn
+
+pub stay_shift : (sc : Scenario) (f : List ℕ) (w : WorldState) (h : HartNo) (went : Went) (lot : Lot) (s : Step) (rest : List Step) → IsUnder sc f w h lot → IsDone (driver_of w h.0) s rest went → s.last ≡ turns.Stay → IsShift w h went lot lot.side
+stay_shift sc f w h went lot s rest u done stay =
+    let d = driver_of w h.0 in
+    let none : went.moves.transfers ≡ [] = done.transfers ∙ ap (λ (t : Turn). transfers_of d.fixed.me d.lots t) stay in
+    let lots : went.driver.lots ≡ d.lots = done.lots ∙ ap (λ (t : Turn). lots_after t d.lots) stay in
+    let loans : (k : MapId) → loan_of went.driver k ≡ loan_of d k = λ k. loan_kept d went.driver k done.fixed ∙ ap (λ (ls : List Lot). loan_in d.fixed ls k) lots in
+    record {
+      on = λ i e x p. ap (λ (ts : List (Span × Owner)). owner_in (owners_moved w.owners ts) x) none ∙ owned sc f w h lot i e x u p;
+      off = λ x off. ap (λ (ts : List (Span × Owner)). owner_in (owners_moved w.owners ts) x) none;
+      others = λ k far. loans k;
+      own = λ i. inr (loans (its_id h lot i));
+    }
+
+-- ---- the lot gets a side
+
+-- a lot that is lent is found as before
+entry_same : (n : MapId) (lot : Lot) (side : Side) → is_wanted lot.side ≡ false → is_wanted side ≡ false → is_entry_of n (record lot { side = side }) ≡ is_entry_of n lot
+entry_same n lot side was now =
+    ap (λ (t : Bool). not t && (lot.id.label.0 == n.label.0 && (nat_le lot.id.first n.entry && nat_lt n.entry (lot.id.first + length lot.list.entries)))) (now ∙ sym was)
+
+found_same : (f : Fixed) (n : MapId) (a b : Lot) (xs ys : List Lot) (t : Bool) → is_entry_of n a ≡ t → is_entry_of n b ≡ t → loan_by f n a ≡ loan_by f n b → loan_in f xs n ≡ loan_in f ys n → loan_in f (a ∷ xs) n ≡ loan_in f (b ∷ ys) n
+found_same f n a b xs ys true p q loan more = rw (p, q) (ap (λ (l : Loan). Some l) loan)
+found_same f n a b xs ys false p q loan more = rw (p, q) more
+
+loans_sided : (f : Fixed) (n : MapId) (side : Side) (id : LotId) (lots : List Lot) → is_wanted side ≡ false → ((lot : Lot) → In lot lots → is_lot id lot ≡ true → is_wanted lot.side ≡ false) → loan_in f (set_side side id lots) n ≡ loan_in f lots n
+loans_sided f n side id [] now was = refl
+loans_sided f n side id (lot ∷ lots) now was =
+    let more = loans_sided f n side id lots now (λ other there is. was other (inr there) is) in
+    elim (cases_Bool (is_lot id lot)) [
+      | inl is ↦
+          ap (λ (k : Lot). loan_in f (k ∷ set_side side id lots) n) (cond-true (is_lot id lot) (record lot { side = side }) lot is)
+          ∙ found_same f n (record lot { side = side }) lot (set_side side id lots) lots (is_entry_of n lot) (entry_same n lot side (was lot (inl refl) is) now) refl refl more
+      | inr other ↦
+          ap (λ (k : Lot). loan_in f (k ∷ set_side side id lots) n) (cond-false (is_lot id lot) (record lot { side = side }) lot other)
+          ∙ found_same f n lot lot (set_side side id lots) lots (is_entry_of n lot) refl refl refl more
+    ]
+
+set_here : (side : Side) (lots : List Lot) (lot : Lot) → In lot lots → In (record lot { side = side }) (set_side side lot.id lots)
+set_here side [] lot here = absurd here
+set_here side (x ∷ lots) lot (inl same) =
+    inl (ap (λ (k : Lot). with_side side lot.id k) same ∙ cond-true (is_lot lot.id lot) (record lot { side = side }) lot (its_name lot lot.id refl))
+set_here side (x ∷ lots) lot (inr later) = inr (set_here side lots lot later)
+
+-- the only lot of its name
+only_named : (sc : Scenario) (f : List ℕ) (w : WorldState) (h : HartNo) (lot other : Lot) → IsUnder sc f w h lot → In other (driver_of w h.0).lots → is_lot lot.id other ≡ true → other ≡ lot
+only_named sc f w h lot other u there named = one_lot sc f w h.0 other lot u.flat there u.here (ap (λ (id : LotId). id.label.0) (named_so other lot.id named))
+
+pub side_shift : (sc : Scenario) (f : List ℕ) (w : WorldState) (h : HartNo) (went : Went) (lot : Lot) (to : Side) → IsUnder sc f w h lot → is_wanted to ≡ false → went.driver.fixed ≡ (driver_of w h.0).fixed
+    → went.driver.lots ≡ set_side to lot.id (driver_of w h.0).lots → went.moves.transfers ≡ of_those (to_side (driver_of w h.0).fixed.me to) lot.id (driver_of w h.0).lots → IsShift w h went lot to
+side_shift sc f w h went lot to u now fixed lots moves =
+    let d = driver_of w h.0 in
+    let me = d.fixed.me in
+    let k = held sc f w h lot u in
+    let ts = of_those (to_side me to) lot.id d.lots in
+    let mine : me ≡ hart h.0 = me_is w h.0 u.flat.world.holds (hart_there sc f w h lot u) in
+    let loans : (n : MapId) → loan_of went.driver n ≡ loan_of d n =
+    λ n. loan_kept d went.driver n fixed ∙ ap (λ (ls : List Lot). loan_in d.fixed ls n) lots
+    ∙ loans_sided d.fixed n to lot.id d.lots now (λ other there named. subst (λ (l : Lot). is_wanted l.side ≡ false) (sym (only_named sc f w h lot other u there named)) (lent_side lot u.moves)) in
+    let agree : OwnersAgree me (owners_moved w.owners ts) (set_side to lot.id d.lots) =
+    owners_sided (length w.machine.cache.ram) d.fixed to lot.id d.lots w.owners k.driver.lots u.flat.world.holds.owners k.agrees.apart k.agrees.owners in
+    record {
+      on = λ i e x p.
+          ap (λ (us : List (Span × Owner)). owner_in (owners_moved w.owners us) x) moves
+          ∙ agree (record lot { side = to }) i e x (record { lot_in = set_here to d.lots lot u.here; entry = p.entry }) p.on
+          ∙ ap (λ (j : HartNo). owner_of_side (map_id j lot.id i) to) mine;
+      off = λ x off.
+          ap (λ (us : List (Span × Owner)). owner_in (owners_moved w.owners us) x) moves
+          ∙ moved_off w.owners ts x (λ t there over.
+          let r = side_move me to lot.id d.lots t there in
+          let same = only_named sc f w h lot r.lot u r.here.lot_in r.named in
+          off r.i r.entry (record { entry = subst (λ (l : Lot). slice_get l.list.entries r.i ≡ Some r.entry) same r.here.entry; on = move_covers me to lot.id d.lots t x r over }));
+      others = λ n far. loans n;
+      own = λ i. inr (loans (its_id h lot i));
+    }
+
+-- ---- the lot ends
+
+label_of : (id : LotId) (lot : Lot) → is_lot id lot ≡ true → lot.id.label.0 ≡ id.label.0
+label_of id lot is = eqb-true lot.id.label.0 id.label.0 (and_parts (lot.id.label.0 == id.label.0) (lot.id.first == id.first) is).0
+
+not_entry : (n : MapId) (lot : Lot) → (lot.id.label.0 ≡ n.label.0 → ⊥) → is_entry_of n lot ≡ false
+not_entry n lot other =
+    and_right (not (is_wanted lot.side)) _ (and_left (lot.id.label.0 == n.label.0) _ (false_from_ne_true (lot.id.label.0 == n.label.0) (λ is. other (eqb-true lot.id.label.0 n.label.0 is))))
+
+-- the first of two lists that is found is found in both
+find_both : (p : Lot → Bool) (a : Lot) (xs ys : List Lot) → find p xs ≡ find p ys → find p (a ∷ xs) ≡ find p (a ∷ ys)
+find_both p a xs ys same = ap (λ (o : Option Lot). if p a then Some a else o) same
+
+other_without : (id : LotId) (n : MapId) (lots : List Lot) → (n.label.0 ≡ id.label.0 → ⊥) → find (is_entry_of n) (filter (λ lot. not (is_lot id lot)) lots) ≡ find (is_entry_of n) lots
+other_without id n [] other = refl
+other_without id n (lot ∷ lots) other =
+    let left = filter (λ lot. not (is_lot id lot)) lots in
+    elim (cases_Bool (is_lot id lot)) [
+      | inl is ↦
+          let far : lot.id.label.0 ≡ n.label.0 → ⊥ = λ e. other (sym e ∙ label_of id lot is) in
+          ap (find (is_entry_of n)) (cond-false (not (is_lot id lot)) (lot ∷ left) left (ap not is)) ∙ other_without id n lots other
+          ∙ sym (cond-false (is_entry_of n lot) (Some lot) (find (is_entry_of n) lots) (not_entry n lot far))
+      | inr fails ↦ ap (find (is_entry_of n)) (cond-true (not (is_lot id lot)) (lot ∷ left) left (ap not fails)) ∙ find_both (is_entry_of n) lot left lots (other_without id n lots other)
+    ]
+
+owner_end : (me : HartNo) (lot : Lot) → is_area lot.kind ≡ false → last_owner me lot ≡ Thread me
+owner_end me lot is = cond-false (is_area lot.kind) _ (Thread me) is
+
+pub end_shift : (sc : Scenario) (f : List ℕ) (w : WorldState) (h : HartNo) (went : Went) (lot : Lot) → IsUnder sc f w h lot → went.driver.fixed ≡ (driver_of w h.0).fixed
+    → went.driver.lots ≡ filter (λ other. not (is_lot lot.id other)) (driver_of w h.0).lots → went.moves.transfers ≡ of_those (to_end (driver_of w h.0).fixed.me) lot.id (driver_of w h.0).lots → IsShift w h went lot sides.Own
+end_shift sc f w h went lot u fixed lots moves =
+    let d = driver_of w h.0 in
+    let me = d.fixed.me in
+    let ts = of_those (to_end me) lot.id d.lots in
+    let mine : me ≡ hart h.0 = me_is w h.0 u.flat.world.holds (hart_there sc f w h lot u) in
+    let last : last_owner me lot ≡ Thread h = owner_end me lot (mapping_area lot.kind (lot_of sc f w h.0 lot u.flat u.here).kind) ∙ ap (λ (j : HartNo). Thread j) mine in
+    record {
+      on = λ i e x p.
+          ap (λ (us : List (Span × Owner)). owner_in (owners_moved w.owners us) x) moves
+          ∙ moved_to (λ (o : Owner). o ≡ Thread h) w.owners ts x (e.span, last_owner me lot) (omega (arith, in_ram sc f w h lot i e x u p, u.flat.world.holds.owners, u.flat.world.of_scenario.ram))
+          (in_named {A = Span × Owner} (to_end me) lot.id d.lots lot (e.span, last_owner me lot) u.here (its_name lot lot.id refl) (in_map {Y = Span × Owner} (λ (c : Entry). (c.span, last_owner me lot)) e lot.list.entries (at_get lot.list.entries i e p.entry))) p.on
+          (λ t there over.
+          let r = end_move me lot.id d.lots t there in
+          let same = only_named sc f w h lot r.lot u r.here.lot_in r.named in
+          sym (ap (λ (c : Span × Owner). c.1) r.is) ∙ ap (λ (l : Lot). last_owner me l) same ∙ last);
+      off = λ x off.
+          ap (λ (us : List (Span × Owner)). owner_in (owners_moved w.owners us) x) moves
+          ∙ moved_off w.owners ts x (λ t there over.
+          let r = end_move me lot.id d.lots t there in
+          let same = only_named sc f w h lot r.lot u r.here.lot_in r.named in
+          off r.i r.entry (record { entry = subst (λ (l : Lot). slice_get l.list.entries r.i ≡ Some r.entry) same r.here.entry; on = subst (λ (c : Span × Owner). covers c.0 x ≡ true) (sym r.is) over }));
+      others = λ n far. loan_kept d went.driver n fixed ∙ ap (λ (ls : List Lot). loan_in d.fixed ls n) lots ∙ ap (option_map (loan_by d.fixed n)) (other_without lot.id n d.lots far);
+      own = λ i. inl refl;
+    }
