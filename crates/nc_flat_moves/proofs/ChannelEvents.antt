@@ -1,14 +1,12 @@
 -- A channel's read and write in flat memory: a touch, or what is read is flat memory's, and what is written stands.
-use Rattle.std.proofs.Common.{◌≡◌, ℕ, ◌<◌, Bool, true, false, List, [], ◌∷◌, length, refl, sym, ap, ◌∙◌, subst, None}
-use Rattle.nc_num.specs.Places.{covers}
+use Rattle.std.proofs.Common.{◌≡◌, ℕ, ◌<◌, Bool, true, false, List, [], ◌∷◌, refl, sym, subst, None}
 use Rattle.nc_num.specs.declared.names.ChanNo.{ChanNo}
 use Rattle.nc_num.specs.declared.places.Place.{Place}
 use Rattle.nc_num.specs.declared.places.Span.{Span}
-use Rattle.nc_num.proofs.MemoryLaws.{length-span}
 use Rattle.nc_pdma.specs.declared.channel.ChanStep.{ChanStep}
 use Rattle.nc_pdma.specs.declared.channel.ChanStep.TheVariants.{Idle, Moved, Error}
 use Rattle.nc_pdma.proofs.Transactions.{each_read}
-use Rattle.nc_model.specs.Flat.{named, named_from, channel_name, written, Mark, Did}
+use Rattle.nc_model.specs.Flat.{named_from, channel_name, written, Mark, Did}
 use Rattle.nc_model.specs.declared.deeds.Deed.TheVariants as deeds
 use Rattle.nc_model.specs.declared.owners.Access.TheVariants.{Read, Write}
 use Rattle.nc_model.specs.declared.owners.Grant.{Grant}
@@ -28,8 +26,8 @@ use Rattle.nc_calls.proofs.StepPlaces.{chan_read_stays, chan_write_ram}
 use Rattle.nc_flatness.specs.Flatness.{BytesStand, Flatness}
 use Rattle.nc_flatness.specs.Steps.{GoesTo, IsNow, Goes}
 use Rattle.nc_flatness.proofs.Outcomes.{ran, goes_silent, runs_go}
-use Rattle.nc_flat_moves.proofs.ChannelBytes.{stay_bytes, read_shows, write_bytes, write_names}
-use Rattle.nc_flat_moves.proofs.Granted.{IsUsed, used}
+use Rattle.nc_flat_moves.proofs.ChannelBytes.{stay_bytes, read_shows, write_bytes}
+use Rattle.nc_flat_moves.proofs.Granted.{used}
 
 -- ---- a read
 
@@ -40,10 +38,9 @@ read_by sc f w chan k (Error bus len) flat four told bytes none = goes_silent sc
 read_by sc f w chan k (Moved span seen done) flat four told bytes none =
     let m = w.machine in
     let is = each_read (channel_of m chan.0) m.cache.ram span seen done (flat.world.machine.granted chan.0 four).channel told in
-    let long : length seen ≡ span.len = ap length is.bytes_are ∙ length-span m.cache.ram span.at span.len is.span.inside in
     record {
       untouched = tt;
-      latest = (read_shows sc f w chan span seen flat (λ x over. used sc f w chan Read span x flat none over) is.span.inside is.bytes_are long, tt);
+      latest = (read_shows sc f w chan span seen flat (λ x over. used sc f w chan Read span x flat none over) is.span.inside is.bytes_are, tt);
       bytes = bytes;
     }
 
@@ -69,10 +66,8 @@ write_by : (sc : Scenario) (f : List ℕ) (w : WorldState) (chan : ChanNo) (k : 
 write_by sc f w chan k Idle flat shape stays none = goes_silent sc f _ (ran w k) refl (stay_bytes sc f w k flat shape stays)
 write_by sc f w chan k (Error bus len) flat shape stays none = goes_silent sc f _ (ran w k) refl (stay_bytes sc f w k flat shape stays)
 write_by sc f w chan k (Moved span bytes done) flat shape writes none =
-    let uses : (x : ℕ) → covers span x ≡ true → IsUsed w chan Write x = λ x over. used sc f w chan Write span x flat none over in
-    let names = write_names w chan span bytes writes.long uses in
-    subst (λ (ms : List Mark). GoesTo sc f ms (ran w k)) (sym (write_marks w.machine.size w.grants chan span bytes done ∙ ap (λ (ps : List (Place × ℕ)). Did (deeds.Write ps) ∷ []) names))
-    (wrote sc f (ran w k) (named span.at bytes) (write_bytes sc f w k chan span bytes flat shape writes uses))
+    subst (λ (ms : List Mark). GoesTo sc f ms (ran w k)) (sym (write_marks w.machine.size w.grants chan span bytes done))
+    (wrote sc f (ran w k) (named_from (channel_name w.grants chan) span.at bytes) (write_bytes sc f w k chan span bytes flat shape writes (λ x over. used sc f w chan Write span x flat none over)))
 
 pub write_goes : (sc : Scenario) (f : List ℕ) (w : WorldState) (chan : ChanNo) → IsNow sc f w (events.ChanWrite chan) → Goes sc f w (events.ChanWrite chan)
 unfolding outcome

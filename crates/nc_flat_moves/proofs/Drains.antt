@@ -38,7 +38,8 @@ use Rattle.nc_flatness.specs.Steps.{IsNow, Goes}
 use Rattle.nc_flatness.proofs.Marks.{transfers_silent, entry_silent}
 use Rattle.nc_flatness.proofs.Outcomes.{ran, goes_silent, runs_go}
 use Rattle.nc_flat_moves.proofs.LosesRows.{loses_row}
-use Rattle.nc_flat_moves.proofs.MappedNow.{mapped_now, has_pieces, no_token, whole_pool}
+use Rattle.nc_flat_moves.proofs.Calm.{calm_of}
+use Rattle.nc_flat_moves.proofs.WorldNow.{has_pieces, no_token, whole_pool}
 
 -- ---- an entry that is no token
 
@@ -88,14 +89,15 @@ drained_bytes sc f w h i e flat is here none =
     let a = book_of w in
     let m = w.machine in
     let b = flat.bytes in
-    let mapped = mapped_now sc f w flat in
     let queued = all_at (IsQueued a (owner_of w) m.pool m.size h) (queue_of m h) e (b.queued h) here in
     record {
       flat_size = b.flat_size;
       drives = b.drives;
       placed = b.placed;
       pooled = b.pooled;
-      rows = λ x lt. rows_drain.kept a (owner_of w x) (byte f x) m h i e x is (loses_row a (owner_of w) m h e x mapped b.uncached queued) (has_pieces sc f w x (owner_of w x) flat) (not_named (owner_of w x) h e none) (b.rows x lt);
+      slotted = b.slotted;
+      rows = λ x lt off. rows_drain.kept a (owner_of w x) (byte f x) m h i e x is (loses_row sc f w h e x flat lt off queued) (has_pieces sc f w x (owner_of w x) flat) (not_named (owner_of w x) h e none) (b.rows x lt off);
+      calm = λ z on unseen. calm_of m (drain_next m h i) z (rows_drain.kept a Pool (byte m.cache.ram z) m h i e z is tt tt refl (b.calm z on unseen));
       queued = parts_stay.queued_drain a (owner_of w) m h i e is b.queued;
       unfenced = λ g. (drain_places.drain_is m h i e is.sound is.hart is.out).queues.none is_full g (b.unfenced g);
       uncached = parts_stay.uncached_drain a (owner_of w) m h i e is (whole_pool sc f w flat) b.queued b.uncached;

@@ -1,7 +1,8 @@
--- What a transaction that is no touch may use: places that its channel's own mappings have.
-use Rattle.std.specs.Prelude.{Option, Some, None, ◌==◌, ◌&&◌, slice_get}
-use Rattle.std.proofs.Common.{◌≡◌, ℕ, zero, suc, true, false, List, [], ◌∷◌, refl, sym, ap, ◌∙◌, arith}
-use Rattle.std.proofs.lemmas.Bool.{and_parts, eqb-true}
+-- What a transaction that is no touch may use: where a channel sees the places that its own mappings have.
+use Rattle.std.specs.Prelude.{Option, Some, None, ◌==◌, ◌&&◌, ◌-◌}
+use Rattle.std.specs.Option.{option_map}
+use Rattle.std.proofs.Common.{◌≡◌, ◌⊎◌, ℕ, ◌+◌, ◌<◌, ◌≤◌, true, false, List, sym, ap, ◌∙◌, inl, inr, arith}
+use Rattle.std.proofs.lemmas.Bool.{and_parts, eqb-true, both_ways}
 use Rattle.nc_num.specs.Places.{covers}
 use Rattle.nc_num.specs.declared.names.ChanNo.{ChanNo}
 use Rattle.nc_num.specs.declared.names.HartNo.{HartNo}
@@ -17,20 +18,20 @@ use Rattle.nc_model.specs.declared.owners.Owner.{Owner}
 use Rattle.nc_model.specs.declared.owners.Owner.TheVariants.{Thread, Passing, Lending, Device, Returning, Synced, Pool}
 use Rattle.nc_model.proofs.Faults.{covers-low}
 use Rattle.nc_model.proofs.TouchLaws.{channel_passed, channel_uses}
-use Rattle.nc_sg.specs.Lists as sg
-use Rattle.nc_sg.specs.declared.list.Entry.{Entry}
-use Rattle.std.specs.Option.{option_map}
+use Rattle.nc_scen.specs.Regions.{slots_of}
 use Rattle.nc_scen.specs.declared.scenario.Scenario.{Scenario}
-use Rattle.nc_rules.specs.Lots.{map_id}
+use Rattle.nc_rules.specs.Lots.{map_id, grant_of}
 use Rattle.nc_rules.specs.Watched.{owner_of}
-use Rattle.nc_rules.specs.World.{WorldState, driver_of}
+use Rattle.nc_rules.specs.World.{WorldState, driver_of, hart}
 use Rattle.nc_scripts.proofs.Lists.{found}
 use Rattle.nc_holds.specs.Holds.{IsHeldGrant}
-use Rattle.nc_rows.specs.Rows.{Loan}
-use Rattle.nc_flatness.specs.Books.{loan_by, book_of}
+use Rattle.nc_rows.specs.Rows.{Loan, device_place}
+use Rattle.nc_flatness.specs.Books.{book_of, mapping_in}
 use Rattle.nc_flatness.specs.Flatness.{Flatness}
-use Rattle.nc_flatness.proofs.Loans.{lot_direct}
-use Rattle.nc_flatness.proofs.Owned.{id_of, me_is, lot_loan}
+use Rattle.nc_flatness.proofs.Loans.{entry_loan}
+use Rattle.nc_flatness.proofs.Owned.{me_is, mapped, owned_ram}
+use Rattle.nc_flatness.proofs.Seen.{seen, seen_lent, place_ways, mapped_unslotted}
+use Rattle.nc_flat_moves.proofs.LosesRows.{one_loan}
 
 -- ---- names
 
@@ -56,71 +57,94 @@ device_is m Pool e = absurd cc
 
 -- ---- a grant
 
--- it is a mapping of the book, whose channel sees its places where they are
+-- it is that of a mapping of the book
 pub record IsGranted (w : WorldState) (g : Grant) : Type 0 where
   pub loan : Loan
   pub known : (book_of w).loan g.id ≡ Some loan
-  pub dir : loan.grant.dir ≡ g.dir
-  pub straight : g.device ≡ g.buffer
+  pub grant : loan.grant ≡ g
 
-first_only : (es : List Entry) (e d : Entry) (i : ℕ) → es ≡ e ∷ [] → slice_get es i ≡ Some d → (i ≡ 0) × (d ≡ e)
-first_only [] e d i only here = absurd cc
-first_only (c ∷ cs) e d zero only here = let same : c ≡ e = cc in let found : c ≡ d = cc in (refl, sym found ∙ same)
-first_only (c ∷ cs) e d (suc i) only here =
-    let none : cs ≡ [] = cc in
-    let no : ◌≡◌ {A = Option Entry} None (Some d) = sym (ap (λ (k : List Entry). slice_get k i) none) ∙ here in absurd cc
-
-straight_by : (slots_at : ℕ) (e : Entry) → e.bounced ≡ false → sg.device slots_at e ≡ e.span
-straight_by slots_at e off = rw off refl
-
-granted_by : (sc : Scenario) (f : List ℕ) (w : WorldState) (g : Grant) → (flat : Flatness sc f w) → IsHeldGrant w g → IsGranted w g
+granted_by : (sc : Scenario) (f : List ℕ) (w : WorldState) (g : Grant) → Flatness sc f w → IsHeldGrant w g → IsGranted w g
 granted_by sc f w g flat held =
     let h = g.id.hart.0 in
     let d = driver_of w h in
     let of = held.is in
-    let lot = of.lot in
-    let direct = lot_direct sc f w h lot flat of.here.lot_in in
-    let only = first_only lot.list.entries direct.entry of.entry of.i direct.only of.here.entry in
-    let me = me_is w h flat.world.holds held.hart in
-    let id : g.id ≡ id_of h lot = ap (λ (k : Grant). k.id) of.is ∙ ap (λ (i : ℕ). map_id d.fixed.me lot.id i) only.0 ∙ ap (λ (k : HartNo). map_id k lot.id 0) me in
-    let span : g.device ≡ of.entry.span = ap (λ (k : Grant). k.device) of.is ∙ straight_by d.fixed.slots_at of.entry (ap (λ (e : Entry). e.bounced) only.1 ∙ direct.bounced) in
+    let named : map_id d.fixed.me of.lot.id of.i ≡ map_id (hart h) of.lot.id of.i = ap (λ (k : HartNo). map_id k of.lot.id of.i) (me_is w h flat.world.holds held.hart) in
+    let id : g.id ≡ map_id (hart h) of.lot.id of.i = ap (λ (k : Grant). k.id) of.is ∙ named in
     record {
-      loan = loan_by d.fixed (id_of h lot) lot;
-      known = ap (book_of w).loan id ∙ lot_loan sc f w h lot flat of.here.lot_in of.lent;
-      dir = sym (ap (λ (k : Grant). k.dir) of.is);
-      straight = span ∙ sym (ap (λ (k : Grant). k.buffer) of.is);
+      loan = record { grant = grant_of d.fixed.slots_at of.lot (map_id (hart h) of.lot.id of.i) of.entry; lot = of.lot.id; area = false };
+      known = ap (book_of w).loan id ∙ entry_loan sc f w h of.lot of.i of.entry flat of.here of.lent;
+      grant = sym (of.is ∙ ap (λ (k : MapId). grant_of d.fixed.slots_at of.lot k of.entry) named);
     }
 
 -- ---- a place that a transaction may use
 
-pub record IsUsed (w : WorldState) (c : ChanNo) (access : Access) (x : ℕ) : Type 0 where
+-- the channel sees a place of a buffer at it, under whose name the access is
+pub record IsUsed (w : WorldState) (c : ChanNo) (access : Access) (z : ℕ) : Type 0 where
+  pub place : ℕ
+  pub name : channel_name w.grants c z ≡ place
   pub id : MapId
-  pub owner : owner_of w x ≡ Device id
+  pub owner : owner_of w place ≡ Device id
   pub loan : Loan
   pub known : (book_of w).loan id ≡ Some loan
   pub allows : device_may access loan.grant.dir ≡ true
-  pub name : channel_name w.grants c x ≡ x
+  pub here : device_place loan place ≡ z
 
-here_by : (g : Grant) (x : ℕ) → g.device ≡ g.buffer → covers g.device x ≡ true → buffer_place g x ≡ x
-here_by g x same over = let at : g.device.at ≡ g.buffer.at = ap (λ (s : Span). s.at) same in omega (arith, at, covers-low g.device x over)
+here_by : (at from z : ℕ) → at ≤ z → at + ((from + (z - at)) - from) ≡ z
+here_by at from z low = omega (arith, low)
 
-uses_is : (sc : Scenario) (f : List ℕ) (w : WorldState) (c : ChanNo) (access : Access) (x : ℕ) → Flatness sc f w → ChannelUses (owner_of w) w.grants c access x → IsUsed w c access x
-uses_is sc f w c access x flat uses =
+uses_is : (sc : Scenario) (f : List ℕ) (w : WorldState) (c : ChanNo) (access : Access) (z : ℕ) → Flatness sc f w → ChannelUses (owner_of w) w.grants c access z → IsUsed w c access z
+uses_is sc f w c access z flat uses =
     let g = uses.grant in
-    let it = found (IsHeldGrant w) (serves c x) w.grants g flat.world.holds.grants uses.serves in
+    let it = found (IsHeldGrant w) (serves c z) w.grants g flat.world.holds.grants uses.serves in
     let granted = granted_by sc f w g flat it.is in
-    let over : covers g.device x ≡ true = (and_parts (g.chan.0 == c.0) (covers g.device x) it.passes).1 in
-    let here = here_by g x granted.straight over in
+    let over : covers g.device z ≡ true = (and_parts (g.chan.0 == c.0) (covers g.device z) it.passes).1 in
     record {
+      place = buffer_place g z;
+      name = ap (λ (o : Option Grant). name_by (option_map (reached z) o) z) uses.serves;
       id = g.id;
-      owner = ap (owner_of w) (sym here) ∙ device_is g.id (owner_of w (buffer_place g x)) uses.owner;
+      owner = device_is g.id (owner_of w (buffer_place g z)) uses.owner;
       loan = granted.loan;
       known = granted.known;
-      allows = ap (device_may access) granted.dir ∙ uses.allows;
-      name = ap (λ (o : Option Grant). name_by (option_map (reached x) o) x) uses.serves ∙ here;
+      allows = ap (λ (k : Grant). device_may access k.dir) granted.grant ∙ uses.allows;
+      here = ap (λ (k : Grant). k.device.at + (buffer_place g z - k.buffer.at)) granted.grant ∙ here_by g.device.at g.buffer.at z (covers-low g.device z over);
     }
 
 -- where it is no touch
-pub used : (sc : Scenario) (f : List ℕ) (w : WorldState) (c : ChanNo) (access : Access) (s : Span) (x : ℕ) → Flatness sc f w → channel_touch (owner_of w) w.grants c access s ≡ None → covers s x ≡ true → IsUsed w c access x
-used sc f w c access s x flat none over =
-    uses_is sc f w c access x flat (channel_uses (owner_of w) w.grants c access x (channel_passed (owner_of w) w.grants c access s x none over))
+pub used : (sc : Scenario) (f : List ℕ) (w : WorldState) (c : ChanNo) (access : Access) (s : Span) (z : ℕ) → Flatness sc f w → channel_touch (owner_of w) w.grants c access s ≡ None → covers s z ≡ true → IsUsed w c access z
+used sc f w c access s z flat none over =
+    uses_is sc f w c access z flat (channel_uses (owner_of w) w.grants c access z (channel_passed (owner_of w) w.grants c access s z none over))
+
+-- ---- its place of the buffer
+
+-- it is in RAM, is none of the slots, and is seen at the place that is used
+pub record IsThere (sc : Scenario) (w : WorldState) (place z : ℕ) : Type 0 where
+  pub low : place < sc.ram
+  pub off : covers (slots_of sc) place ≡ false
+  pub at : seen w place ≡ z
+
+pub used_there : (sc : Scenario) (f : List ℕ) (w : WorldState) (c : ChanNo) (access : Access) (z : ℕ) → Flatness sc f w → (u : IsUsed w c access z) → IsThere sc w u.place z
+used_there sc f w c access z flat u =
+    let mine = ap mapping_in u.owner in
+    record {
+      low = owned_ram sc f w u.place u.id flat mine;
+      off = mapped_unslotted sc f w u.id u.place flat mine;
+      at = seen_lent w u.id u.loan u.place u.known (inr (inl u.owner)) ∙ u.here;
+    }
+
+-- it is the place itself, or the mapping bounces
+pub used_ways : (sc : Scenario) (f : List ℕ) (w : WorldState) (c : ChanNo) (access : Access) (z : ℕ) → Flatness sc f w → (u : IsUsed w c access z) → (u.place ≡ z) ⊎ (covers (slots_of sc) z ≡ true)
+used_ways sc f w c access z flat u =
+    let mine = ap mapping_in u.owner in
+    let is = mapped sc f w u.id u.place flat (owned_ram sc f w u.place u.id flat mine) mine in
+    let here : device_place is.loan u.place ≡ z = ap (λ (k : Loan). device_place k u.place) (one_loan ((book_of w).loan u.id) is.loan u.loan is.known u.known) ∙ u.here in
+    elim (place_ways sc f w u.id u.place flat is) [
+      | inl way ↦ inl (sym way.0 ∙ here)
+      | inr way ↦ inr (ap (λ (y : ℕ). covers (slots_of sc) y) (sym here) ∙ way.0)
+    ]
+
+-- a place that is used and none of the slots is seen where it is
+pub seen_here : (sc : Scenario) (f : List ℕ) (w : WorldState) (c : ChanNo) (access : Access) (z : ℕ) → Flatness sc f w → covers (slots_of sc) z ≡ false → IsUsed w c access z → seen w z ≡ z
+seen_here sc f w c access z flat off u = elim (used_ways sc f w c access z flat u) [
+  | inl same ↦ ap (λ (y : ℕ). seen w y) (sym same) ∙ (used_there sc f w c access z flat u).at
+  | inr on ↦ absurd (both_ways (covers (slots_of sc) z) off on)
+]

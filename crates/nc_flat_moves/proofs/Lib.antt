@@ -1,6 +1,8 @@
 pub mod LosesRows
+pub mod Calm
+pub mod NamedBytes
 pub mod Pieces
-pub mod MappedNow
+pub mod WorldNow
 pub mod Drains
 pub mod Moves
 pub mod Granted

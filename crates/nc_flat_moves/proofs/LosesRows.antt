@@ -1,6 +1,6 @@
--- An entry that drains loses no byte that a row tells, where mappings are direct.
+-- An entry that drains loses no byte that a row tells: what it may lose is of a block that its own mapping drops.
 use Rattle.std.specs.Prelude.{Option, Some, None, ◌/◌}
-use Rattle.std.proofs.Common.{◌≡◌, ◌⊎◌, ℕ, Bool, true, false, refl, sym, ap, ◌∙◌, inl, inr, subst}
+use Rattle.std.proofs.Common.{◌≡◌, ◌⊎◌, ℕ, ◌<◌, Bool, true, false, List, refl, sym, ap, ◌∙◌, inl, inr, subst}
 use Rattle.std.proofs.lemmas.Bool.{eqb-true, both_ways}
 use Rattle.nc_num.specs.Places.{covers}
 use Rattle.nc_num.specs.declared.names.Dir.{Dir}
@@ -13,60 +13,54 @@ use Rattle.nc_queue.specs.declared.entry.Entry.TheVariants.{Store, Cbo, Reg, Mai
 use Rattle.nc_plan.specs.Parts.{comes_back}
 use Rattle.nc_model.specs.declared.owners.Owner.{Owner}
 use Rattle.nc_model.specs.declared.owners.Owner.TheVariants.{Thread, Passing, Lending, Device, Returning, Synced, Pool}
+use Rattle.nc_scen.specs.Regions.{slots_of}
+use Rattle.nc_scen.specs.declared.scenario.Scenario.{Scenario}
 use Rattle.nc_rules.specs.Machine.{MachineState}
-use Rattle.nc_calls.specs.PlaceLaws.{NotHeld, LosesNone, parts}
-use Rattle.nc_rows.specs.Rows.{Loan, Book, device_place, Either, ByDir}
-use Rattle.nc_rows.specs.Parts.{IsDropped, IsQueued, MayBeHeld, IsAllocating, Uncached}
+use Rattle.nc_rules.specs.Watched.{owner_of}
+use Rattle.nc_rules.specs.World.{WorldState}
+use Rattle.nc_calls.specs.PlaceLaws.{LosesNone, parts}
+use Rattle.nc_rows.specs.Rows.{Loan, device_place, Either, ByDir}
+use Rattle.nc_rows.specs.Parts.{IsDropped, IsQueued}
 use Rattle.nc_row_moves.specs.Laws.{LosesFrom, LosesLent, LosesDevice, LosesNoRow}
-use Rattle.nc_flatness.specs.Books.{mapping_in}
-use Rattle.nc_flat_moves.specs.Mapped.{HasPlace, Mapped}
+use Rattle.nc_flatness.specs.Books.{book_of, mapping_in}
+use Rattle.nc_flatness.specs.Flatness.{Flatness}
+use Rattle.nc_flatness.proofs.BookReads.{pool_unheld}
+use Rattle.nc_flatness.proofs.Loans.{loan_is}
+use Rattle.nc_flatness.proofs.Owned.{mapped, owned_ram}
+use Rattle.nc_flatness.proofs.Seen.{seen, seen_lent, device_same, place_ways, slot_block, seen_whole}
+use Rattle.nc_flatness.proofs.WholeBlocks.{mapped_block}
 
 -- what a mapping is, is one
 pub one_loan : (o : Option Loan) (k l : Loan) → o ≡ Some k → o ≡ Some l → k ≡ l
 one_loan o k l p q = let same = sym p ∙ q in cc
-
--- ---- no place of the pool is held
-
-allocating_not : (a : Book) (n : MapId) (l : Loan) (o : Option Loan) → o ≡ Some l → l.area ≡ false → IsAllocating a n o → ⊥
-allocating_not a n l None is single held = held
-allocating_not a n l (Some k) is single held = both_ways k.area (ap (λ (j : Loan). j.area) (one_loan (Some k) k l refl is) ∙ single) held.0
-
-held_not : (a : Book) (owner : ℕ → Owner) (s x : ℕ) (o : Owner) → Mapped a owner s → owner x ≡ o → MayBeHeld a o → ⊥
-held_not a owner s x (Lending n) mapped own held =
-    let place = mapped x n (ap mapping_in own) in allocating_not a n place.loan (a.loan n) place.lent place.single held
-held_not a owner s x (Thread h) mapped own held = held
-held_not a owner s x (Passing h g) mapped own held = held
-held_not a owner s x (Device n) mapped own held = held
-held_not a owner s x (Returning n) mapped own held = held
-held_not a owner s x (Synced n) mapped own held = held
-held_not a owner s x Pool mapped own held = held
-
-pub pool_not_held : (a : Book) (owner : ℕ → Owner) (m : MachineState) (x : ℕ) → Mapped a owner m.size → Uncached a owner m → covers m.pool x ≡ true → NotHeld m x
-pool_not_held a owner m x mapped uncached over = elim (uncached x over) [ inl free ↦ free | inr held ↦ absurd (held_not a owner m.size x (owner x) mapped refl held) ]
 
 -- ---- what an entry loses
 
 abbrev LosesNowhere : MachineState → Entry → Type 0
 LosesNowhere m e = (x : ℕ) → LosesNone m e x
 
--- it loses bytes in a block that is dropped, at most
-record LosesBlock (a : Book) (owner : ℕ → Owner) (m : MachineState) (h : ℕ) (e : Entry) : Type 0 where
-  block : ℕ
-  dropped : IsDropped a owner m.size h block
-  only : (x : ℕ) → parts m.size e x ≡ true → x / m.size ≡ block
+-- a block that hart h drops
+abbrev DropsBlock : WorldState → ℕ → ℕ → Type 0
+DropsBlock w h b = IsDropped (book_of w) (owner_of w) w.machine.size h b
 
-loses_where : (a : Book) (owner : ℕ → Owner) (m : MachineState) (h : ℕ) (e : Entry) → Mapped a owner m.size → Uncached a owner m → IsQueued a owner m.pool m.size h e → LosesNowhere m e ⊎ LosesBlock a owner m h e
-loses_where a owner m h (Store span bytes Pma) mapped uncached queued = inl (λ x over. absurd cc)
-loses_where a owner m h (Store span bytes Nc) mapped uncached queued = inl (λ x over. pool_not_held a owner m x mapped uncached (queued x over))
-loses_where a owner m h (Store span bytes Io) mapped uncached queued = absurd queued
-loses_where a owner m h (Cbo block cbos.Clean) mapped uncached queued = inl (λ x over. absurd cc)
-loses_where a owner m h (Cbo block cbos.Flush) mapped uncached queued = inl (λ x over. absurd cc)
-loses_where a owner m h (Cbo block cbos.Zero) mapped uncached queued = inl (λ x over. absurd cc)
-loses_where a owner m h (Cbo block cbos.Inval) mapped uncached queued = inr (record { block = block.0; dropped = queued; only = λ x over. eqb-true (x / m.size) block.0 over })
-loses_where a owner m h (Reg chan off width value) mapped uncached queued = inl (λ x over. absurd cc)
-loses_where a owner m h (Mail buf to) mapped uncached queued = inl (λ x over. absurd cc)
-loses_where a owner m h (Lend label first count) mapped uncached queued = inl (λ x over. absurd cc)
-loses_where a owner m h (Mark pred succ) mapped uncached queued = inl (λ x over. absurd cc)
+-- it loses bytes in a block that is dropped, at most
+record LosesBlock (w : WorldState) (h : ℕ) (e : Entry) : Type 0 where
+  block : ℕ
+  dropped : DropsBlock w h block
+  only : (x : ℕ) → parts w.machine.size e x ≡ true → x / w.machine.size ≡ block
+
+loses_where : (sc : Scenario) (f : List ℕ) (w : WorldState) (h : ℕ) (e : Entry) → Flatness sc f w → IsQueued (book_of w) (owner_of w) w.machine.pool w.machine.size h e → LosesNowhere w.machine e ⊎ LosesBlock w h e
+loses_where sc f w h (Store span bytes Pma) flat queued = inl (λ x over. absurd cc)
+loses_where sc f w h (Store span bytes Nc) flat queued = inl (λ x over. pool_unheld sc f w x flat (queued x over))
+loses_where sc f w h (Store span bytes Io) flat queued = absurd queued
+loses_where sc f w h (Cbo block cbos.Clean) flat queued = inl (λ x over. absurd cc)
+loses_where sc f w h (Cbo block cbos.Flush) flat queued = inl (λ x over. absurd cc)
+loses_where sc f w h (Cbo block cbos.Zero) flat queued = inl (λ x over. absurd cc)
+loses_where sc f w h (Cbo block cbos.Inval) flat queued = inr (record { block = block.0; dropped = queued; only = λ x over. eqb-true (x / w.machine.size) block.0 over })
+loses_where sc f w h (Reg chan off width value) flat queued = inl (λ x over. absurd cc)
+loses_where sc f w h (Mail buf to) flat queued = inl (λ x over. absurd cc)
+loses_where sc f w h (Lend label first count) flat queued = inl (λ x over. absurd cc)
+loses_where sc f w h (Mark pred succ) flat queued = inl (λ x over. absurd cc)
 
 -- ---- nothing is lost anywhere
 
@@ -87,66 +81,111 @@ nowhere_device : (o : Option Loan) (m : MachineState) (e : Entry) (x : ℕ) → 
 nowhere_device None m e x none = tt
 nowhere_device (Some l) m e x none = either_of l.area _ _ (none x) (dir_of l.grant.dir _ _ (none x) (inr (none x)))
 
-nowhere : (a : Book) (o : Owner) (m : MachineState) (e : Entry) (x : ℕ) → LosesNowhere m e → LosesNoRow a o m e x
-nowhere a (Thread h) m e x none = none x
-nowhere a (Passing h g) m e x none = none x
-nowhere a (Lending n) m e x none = nowhere_lent (a.loan n) m e x none
-nowhere a (Device n) m e x none = nowhere_device (a.loan n) m e x none
-nowhere a (Returning n) m e x none = nowhere_device (a.loan n) m e x none
-nowhere a (Synced n) m e x none = none x
-nowhere a Pool m e x none = tt
+nowhere : (w : WorldState) (o : Owner) (m : MachineState) (e : Entry) (x : ℕ) → LosesNowhere m e → LosesNoRow (book_of w) o m e x
+nowhere w (Thread h) m e x none = none x
+nowhere w (Passing h g) m e x none = none x
+nowhere w (Lending n) m e x none = nowhere_lent ((book_of w).loan n) m e x none
+nowhere w (Device n) m e x none = nowhere_device ((book_of w).loan n) m e x none
+nowhere w (Returning n) m e x none = nowhere_device ((book_of w).loan n) m e x none
+nowhere w (Synced n) m e x none = none x
+nowhere w Pool m e x none = tt
 
 -- ---- a block is dropped: its bytes are those of one mapping that is taken back
 
-dropped_owner : (a : Book) (owner : ℕ → Owner) (m : MachineState) (h b x : ℕ) → Mapped a owner m.size → (l : IsDropped a owner m.size h b) → x / m.size ≡ b → owner x ≡ Returning l.id
-dropped_owner a owner m h b x mapped l at =
-    let place = mapped l.place l.id (ap mapping_in l.owned) in
-    let same = one_loan (a.loan l.id) place.loan l.loan place.lent l.lent in
-    let straight : device_place l.loan l.place ≡ l.place = subst (λ (k : Loan). device_place k l.place ≡ l.place) same place.straight in
-    place.whole (ap (λ (k : Loan). comes_back k.grant.dir) same ∙ l.back) x (at ∙ sym l.here ∙ ap (λ (y : ℕ). y / m.size) straight) ∙ l.owned
+-- a place that is seen in it is of the mapping
+dropped_seen : (sc : Scenario) (f : List ℕ) (w : WorldState) (h b x : ℕ) → Flatness sc f w → (l : DropsBlock w h b) → x < sc.ram → covers (slots_of sc) x ≡ false → seen w x / w.machine.size ≡ b → owner_of w x ≡ Returning l.id
+dropped_seen sc f w h b x flat l lt off at =
+    let mine = ap mapping_in l.owned in
+    let here : seen w l.place ≡ device_place l.loan l.place = seen_lent w l.id l.loan l.place l.lent (inr (inr l.owned)) in
+    seen_whole sc f w l.id l.loan l.place x flat (owned_ram sc f w l.place l.id flat mine) lt mine l.lent l.back here off (ap (λ (y : ℕ). y / w.machine.size) here ∙ l.here ∙ sym at) ∙ l.owned
+
+-- so is one in it that is none of the slots, and the channel sees it where it is
+record IsBackHere (w : WorldState) (n : MapId) (l : Loan) (x : ℕ) : Type 0 where
+  owner : owner_of w x ≡ Returning n
+  here : device_place l x ≡ x
+
+dropped_here : (sc : Scenario) (f : List ℕ) (w : WorldState) (h b x : ℕ) → Flatness sc f w → (l : DropsBlock w h b) → x < sc.ram → covers (slots_of sc) x ≡ false → x / w.machine.size ≡ b → IsBackHere w l.id l.loan x
+dropped_here sc f w h b x flat l lt off at =
+    let mine = ap mapping_in l.owned in
+    let is = mapped sc f w l.id l.place flat (owned_ram sc f w l.place l.id flat mine) mine in
+    let same : is.loan ≡ l.loan = one_loan ((book_of w).loan l.id) is.loan l.loan is.known l.lent in
+    let at_block : device_place is.loan l.place / w.machine.size ≡ x / w.machine.size = ap (λ (k : Loan). device_place k l.place / w.machine.size) same ∙ l.here ∙ sym at in
+    elim (place_ways sc f w l.id l.place flat is) [
+      | inl way ↦
+          let block = mapped_block sc f w l.id l.place x flat is way.1 (ap (λ (k : Loan). comes_back k.grant.dir) same ∙ l.back) (sym at_block ∙ ap (λ (y : ℕ). y / w.machine.size) way.0) in
+          record {
+            owner = block.1 ∙ l.owned;
+            here = ap (λ (k : Loan). device_place k x) (sym same) ∙ device_same w l.id is.loan x is.is way.1 block.0;
+          }
+      | inr way ↦ absurd (both_ways (covers (slots_of sc) x) off (slot_block sc f w (device_place is.loan l.place) x flat way.0 at_block))
+    ]
 
 -- at a place of another owner
-other_loses : (a : Book) (owner : ℕ → Owner) (m : MachineState) (h : ℕ) (e : Entry) (x : ℕ) → Mapped a owner m.size → (l : LosesBlock a owner m h e) → (owner x ≡ Returning l.dropped.id → ⊥) → LosesNone m e x
-other_loses a owner m h e x mapped l other = λ over. absurd (other (dropped_owner a owner m h l.block x mapped l.dropped (l.only x over)))
+other_loses : (sc : Scenario) (f : List ℕ) (w : WorldState) (h : ℕ) (e : Entry) (x : ℕ) → Flatness sc f w → x < sc.ram → covers (slots_of sc) x ≡ false → (l : LosesBlock w h e) → (owner_of w x ≡ Returning l.dropped.id → ⊥) → LosesNone w.machine e x
+other_loses sc f w h e x flat lt off l other = λ over. absurd (other (dropped_here sc f w h l.block x flat l.dropped lt off (l.only x over)).owner)
 
-lent_loses : (a : Book) (owner : ℕ → Owner) (m : MachineState) (e : Entry) (x : ℕ) (n : MapId) (o : Option Loan) → HasPlace a owner m.size n x → a.loan n ≡ o → LosesNone m e x → LosesLent o m e x
-lent_loses a owner m e x n None place is none = tt
-lent_loses a owner m e x n (Some loan) place is none =
-    (none, subst (λ (y : ℕ). LosesNone m e y) (sym (subst (λ (k : Loan). device_place k x ≡ x) (one_loan (a.loan n) place.loan loan place.lent is) place.straight)) none)
+-- a place of a mapping that is being lent, and where it is seen
+lent_loses : (sc : Scenario) (f : List ℕ) (w : WorldState) (h : ℕ) (e : Entry) (x : ℕ) (n : MapId) (o : Option Loan) → Flatness sc f w → x < sc.ram → covers (slots_of sc) x ≡ false → LosesBlock w h e → owner_of w x ≡ Lending n → (book_of w).loan n ≡ o
+    → LosesLent o w.machine e x
+lent_loses sc f w h e x n None flat lt off l own is = tt
+lent_loses sc f w h e x n (Some loan) flat lt off l own is = (
+  other_loses sc f w h e x flat lt off l (λ back. let no = sym own ∙ back in cc),
+  λ over. absurd (let back = dropped_seen sc f w h l.block x flat l.dropped lt off (ap (λ (y : ℕ). y / w.machine.size) (seen_lent w n loan x is (inl own)) ∙ l.only (device_place loan x) over) in
+      let no = sym own ∙ back in cc),
+)
 
 by_dir : (dir : Dir) (p q : Type 0) → (comes_back dir ≡ false → p) → q → ByDir dir p q
 by_dir ToDev p q first second = first refl
 by_dir Both p q first second = second
 by_dir FromDev p q first second = second
 
-device_loses : (a : Book) (owner : ℕ → Owner) (m : MachineState) (e : Entry) (x : ℕ) (n : MapId) (o : Option Loan) → HasPlace a owner m.size n x → a.loan n ≡ o → ((loan : Loan) → o ≡ Some loan → comes_back loan.grant.dir ≡ false → LosesNone m e x)
-    → LosesDevice o m e x
-device_loses a owner m e x n None place is none = tt
-device_loses a owner m e x n (Some loan) place is none =
-    let same = one_loan (a.loan n) place.loan loan place.lent is in
-    let straight : device_place loan x ≡ x = subst (λ (k : Loan). device_place k x ≡ x) same place.straight in
-    subst (λ (b : Bool). Either b (LosesNone m e x) (ByDir loan.grant.dir (LosesNone m e x) (LosesFrom m e x (device_place loan x)))) (sym (ap (λ (k : Loan). k.area) (sym same) ∙ place.single))
-    (by_dir loan.grant.dir (LosesNone m e x) (LosesFrom m e x (device_place loan x)) (none loan refl) (inl (sym straight)))
+-- a place of one that the device has, or that is taken back
+device_loses : (sc : Scenario) (f : List ℕ) (w : WorldState) (e : Entry) (x : ℕ) (n : MapId) (o : Option Loan) → Flatness sc f w → (book_of w).loan n ≡ o
+    → ((loan : Loan) → o ≡ Some loan → comes_back loan.grant.dir ≡ false → LosesNone w.machine e x) → ((loan : Loan) → o ≡ Some loan → LosesFrom w.machine e x (device_place loan x)) → LosesDevice o w.machine e x
+device_loses sc f w e x n None flat is to from = tt
+device_loses sc f w e x n (Some loan) flat is to from =
+    subst (λ (b : Bool). Either b (LosesNone w.machine e x) (ByDir loan.grant.dir (LosesNone w.machine e x) (LosesFrom w.machine e x (device_place loan x)))) (sym (loan_is sc f w n loan flat is).area)
+    (by_dir loan.grant.dir (LosesNone w.machine e x) (LosesFrom w.machine e x (device_place loan x)) (to loan refl) (from loan refl))
 
-block_loses : (a : Book) (owner : ℕ → Owner) (m : MachineState) (h : ℕ) (e : Entry) (x : ℕ) (o : Owner) → Mapped a owner m.size → LosesBlock a owner m h e → owner x ≡ o → LosesNoRow a o m e x
-block_loses a owner m h e x (Thread g) mapped l own = other_loses a owner m h e x mapped l (λ back. let no = sym own ∙ back in cc)
-block_loses a owner m h e x (Passing g k) mapped l own = other_loses a owner m h e x mapped l (λ back. let no = sym own ∙ back in cc)
-block_loses a owner m h e x (Synced n) mapped l own = other_loses a owner m h e x mapped l (λ back. let no = sym own ∙ back in cc)
-block_loses a owner m h e x Pool mapped l own = tt
-block_loses a owner m h e x (Lending n) mapped l own =
-    lent_loses a owner m e x n (a.loan n) (mapped x n (ap mapping_in own)) refl (other_loses a owner m h e x mapped l (λ back. let no = sym own ∙ back in cc))
-block_loses a owner m h e x (Device n) mapped l own =
-    device_loses a owner m e x n (a.loan n) (mapped x n (ap mapping_in own)) refl (λ loan is to. other_loses a owner m h e x mapped l (λ back. let no = sym own ∙ back in cc))
-block_loses a owner m h e x (Returning n) mapped l own =
-    device_loses a owner m e x n (a.loan n) (mapped x n (ap mapping_in own)) refl
-    (λ loan is to. other_loses a owner m h e x mapped l (λ back.
+-- a place that is taken back, where its device reads it only, and where it may write it
+back_to : (sc : Scenario) (f : List ℕ) (w : WorldState) (h : ℕ) (e : Entry) (x : ℕ) (n : MapId) (loan : Loan) → Flatness sc f w → x < sc.ram → covers (slots_of sc) x ≡ false → (l : LosesBlock w h e) → owner_of w x ≡ Returning n → (book_of w).loan n ≡ Some loan
+    → comes_back loan.grant.dir ≡ false → LosesNone w.machine e x
+back_to sc f w h e x n loan flat lt off l own is to = other_loses sc f w h e x flat lt off l (λ back.
     let id : n ≡ l.dropped.id = let both = sym own ∙ back in cc in
-    let same = one_loan (a.loan n) loan l.dropped.loan is (ap a.loan id ∙ l.dropped.lent) in
-    both_ways (comes_back l.dropped.loan.grant.dir) (subst (λ (k : Loan). comes_back k.grant.dir ≡ false) same to) l.dropped.back))
+    let same = one_loan ((book_of w).loan n) loan l.dropped.loan is (ap (book_of w).loan id ∙ l.dropped.lent) in
+    both_ways (comes_back l.dropped.loan.grant.dir) (subst (λ (k : Loan). comes_back k.grant.dir ≡ false) same to) l.dropped.back)
+
+back_from : (sc : Scenario) (f : List ℕ) (w : WorldState) (h : ℕ) (e : Entry) (x : ℕ) (n : MapId) (loan : Loan) → Flatness sc f w → x < sc.ram → covers (slots_of sc) x ≡ false → (l : LosesBlock w h e) → owner_of w x ≡ Returning n → (book_of w).loan n ≡ Some loan
+    → LosesFrom w.machine e x (device_place loan x)
+back_from sc f w h e x n loan flat lt off l own is =
+    let at = mapped sc f w n x flat lt (ap mapping_in own) in
+    let same : at.loan ≡ loan = one_loan ((book_of w).loan n) at.loan loan at.known is in
+    elim (place_ways sc f w n x flat at) [
+      | inl way ↦ inl (sym way.0 ∙ ap (λ (k : Loan). device_place k x) same)
+      | inr way ↦
+          inr (λ over.
+          let back = dropped_here sc f w h l.block x flat l.dropped lt off (l.only x over) in
+          let id : n ≡ l.dropped.id = let both = sym own ∙ back.owner in cc in
+          let one : at.loan ≡ l.dropped.loan = one_loan ((book_of w).loan n) at.loan l.dropped.loan at.known (ap (book_of w).loan id ∙ l.dropped.lent) in
+          absurd (both_ways (covers (slots_of sc) x) off (ap (covers (slots_of sc)) (sym back.here ∙ ap (λ (k : Loan). device_place k x) (sym one)) ∙ way.0)))
+    ]
+
+block_loses : (sc : Scenario) (f : List ℕ) (w : WorldState) (h : ℕ) (e : Entry) (x : ℕ) (o : Owner) → Flatness sc f w → x < sc.ram → covers (slots_of sc) x ≡ false → LosesBlock w h e → owner_of w x ≡ o → LosesNoRow (book_of w) o w.machine e x
+block_loses sc f w h e x (Thread g) flat lt off l own = other_loses sc f w h e x flat lt off l (λ back. let no = sym own ∙ back in cc)
+block_loses sc f w h e x (Passing g k) flat lt off l own = other_loses sc f w h e x flat lt off l (λ back. let no = sym own ∙ back in cc)
+block_loses sc f w h e x (Synced n) flat lt off l own = other_loses sc f w h e x flat lt off l (λ back. let no = sym own ∙ back in cc)
+block_loses sc f w h e x Pool flat lt off l own = tt
+block_loses sc f w h e x (Lending n) flat lt off l own = lent_loses sc f w h e x n ((book_of w).loan n) flat lt off l own refl
+block_loses sc f w h e x (Device n) flat lt off l own =
+    let none = other_loses sc f w h e x flat lt off l (λ back. let no = sym own ∙ back in cc) in
+    device_loses sc f w e x n ((book_of w).loan n) flat refl (λ loan is to. none) (λ loan is. inr none)
+block_loses sc f w h e x (Returning n) flat lt off l own =
+    device_loses sc f w e x n ((book_of w).loan n) flat refl (λ loan is to. back_to sc f w h e x n loan flat lt off l own is to) (λ loan is. back_from sc f w h e x n loan flat lt off l own is)
 
 -- so no row loses a byte
-pub loses_row : (a : Book) (owner : ℕ → Owner) (m : MachineState) (h : ℕ) (e : Entry) (x : ℕ) → Mapped a owner m.size → Uncached a owner m → IsQueued a owner m.pool m.size h e → LosesNoRow a (owner x) m e x
-loses_row a owner m h e x mapped uncached queued = elim (loses_where a owner m h e mapped uncached queued) [
-  | inl none ↦ nowhere a (owner x) m e x none
-  | inr l ↦ block_loses a owner m h e x (owner x) mapped l refl
+pub loses_row : (sc : Scenario) (f : List ℕ) (w : WorldState) (h : ℕ) (e : Entry) (x : ℕ) → Flatness sc f w → x < sc.ram → covers (slots_of sc) x ≡ false → IsQueued (book_of w) (owner_of w) w.machine.pool w.machine.size h e
+    → LosesNoRow (book_of w) (owner_of w x) w.machine e x
+loses_row sc f w h e x flat lt off queued = elim (loses_where sc f w h e flat queued) [
+  | inl none ↦ nowhere w (owner_of w x) w.machine e x none
+  | inr l ↦ block_loses sc f w h e x (owner_of w x) flat lt off l refl
 ]

@@ -2,11 +2,12 @@
 use Rattle.nc_calls.proofs.StepPlaces.{fill_is, evict_is}
 use Rattle.nc_rows.specs.Ahead.{is_full}
 use Rattle.std.specs.List.{list_any}
-use Rattle.std.specs.Prelude.{None}
+use Rattle.std.specs.Prelude.{Option, Some, None}
 use Rattle.std.proofs.Common.{◌≡◌, ℕ, ◌+◌, ◌*◌, ◌<◌, ◌≤◌, false, List, length, refl, sym, ap, ◌∙◌, arith}
 use Rattle.std.proofs.lemmas.Bool.{false≢true}
 use Rattle.nc_num.specs.Memory.{byte}
 use Rattle.nc_num.specs.declared.names.HartNo.{HartNo}
+use Rattle.nc_num.specs.declared.names.MapId.{MapId}
 use Rattle.nc_num.specs.declared.places.Block.{Block}
 use Rattle.nc_model.specs.declared.owners.Owner.{Owner}
 use Rattle.nc_model.specs.declared.owners.Owner.TheVariants.{Thread, Passing, Lending, Device, Returning, Synced, Pool}
@@ -18,29 +19,33 @@ use Rattle.nc_rules.specs.Records.{answer_records}
 use Rattle.nc_rules.specs.Watched.{owner_of}
 use Rattle.nc_rules.specs.World.{WorldState}
 use Rattle.nc_calls.specs.MachineLaws.{IsMove}
-use Rattle.nc_rows.specs.Rows.{Book}
+use Rattle.nc_rows.specs.Rows.{Loan}
 use Rattle.nc_rows.specs.Laws.{area_of, is_lent_area}
 use Rattle.nc_row_moves.proofs.PartMoves.{parts_stay}
 use Rattle.nc_row_moves.proofs.RowMoves.{rows_move}
-use Rattle.nc_flatness.specs.Books.{book_of, mapping_in}
+use Rattle.nc_flatness.specs.Books.{book_of}
 use Rattle.nc_flatness.specs.Flatness.{BytesStand, Flatness}
 use Rattle.nc_flatness.specs.Steps.{IsNow, Goes}
+use Rattle.nc_flatness.proofs.Loans.{loan_is}
 use Rattle.nc_flatness.proofs.Marks.{answer_silent}
 use Rattle.nc_flatness.proofs.Outcomes.{ran, goes_silent, runs_go}
-use Rattle.nc_flat_moves.specs.Mapped.{Mapped}
-use Rattle.nc_flat_moves.proofs.MappedNow.{mapped_now, whole_pool}
+use Rattle.nc_flat_moves.proofs.Calm.{calm_of}
+use Rattle.nc_flat_moves.proofs.WorldNow.{whole_pool}
 
 -- ---- no area is lent
 
-no_area : (a : Book) (owner : ℕ → Owner) (s x : ℕ) (o : Owner) → Mapped a owner s → owner x ≡ o → is_lent_area a o ≡ false
-no_area a owner s x (Lending n) mapped own =
-    let place = mapped x n (ap mapping_in own) in ap area_of place.lent ∙ place.single
-no_area a owner s x (Thread h) mapped own = refl
-no_area a owner s x (Passing h g) mapped own = refl
-no_area a owner s x (Device n) mapped own = refl
-no_area a owner s x (Returning n) mapped own = refl
-no_area a owner s x (Synced n) mapped own = refl
-no_area a owner s x Pool mapped own = refl
+area_not : (sc : Scenario) (f : List ℕ) (w : WorldState) (n : MapId) (o : Option Loan) → Flatness sc f w → (book_of w).loan n ≡ o → area_of o ≡ false
+area_not sc f w n None flat is = refl
+area_not sc f w n (Some l) flat is = (loan_is sc f w n l flat is).area
+
+no_area : (sc : Scenario) (f : List ℕ) (w : WorldState) (o : Owner) → Flatness sc f w → is_lent_area (book_of w) o ≡ false
+no_area sc f w (Lending n) flat = area_not sc f w n ((book_of w).loan n) flat refl
+no_area sc f w (Thread h) flat = refl
+no_area sc f w (Passing h g) flat = refl
+no_area sc f w (Device n) flat = refl
+no_area sc f w (Returning n) flat = refl
+no_area sc f w (Synced n) flat = refl
+no_area sc f w Pool flat = refl
 
 -- ---- a fill
 
@@ -55,7 +60,9 @@ filled_bytes sc f w h b flat by =
       drives = s.drives;
       placed = s.placed;
       pooled = s.pooled;
-      rows = λ x lt. rows_move.fill a (owner_of w x) (byte f x) m h b x sound by (λ area. absurd (false≢true (sym (no_area a (owner_of w) m.size x (owner_of w x) (mapped_now sc f w flat) refl) ∙ area))) (s.rows x lt);
+      slotted = s.slotted;
+      rows = λ x lt off. rows_move.fill a (owner_of w x) (byte f x) m h b x sound by (λ area. absurd (false≢true (sym (no_area sc f w (owner_of w x) flat) ∙ area))) (s.rows x lt off);
+      calm = λ z on none. calm_of m (fill_next m h b) z (rows_move.fill a Pool (byte m.cache.ram z) m h b z sound by (λ area. absurd (false≢true area)) (s.calm z on none));
       queued = parts_stay.queued_fill a (owner_of w) m h b sound by s.queued;
       unfenced = λ g. ap (list_any is_full) ((fill_is m h b sound by.block).queues g) ∙ s.unfenced g;
       uncached = parts_stay.uncached_fill a (owner_of w) m h b sound by (whole_pool sc f w flat) s.uncached;
@@ -87,7 +94,9 @@ evicted_bytes sc f w h b flat by =
       drives = s.drives;
       placed = s.placed;
       pooled = s.pooled;
-      rows = λ x lt. rows_move.evict a (owner_of w x) (byte f x) m h b x sound by (s.rows x lt);
+      slotted = s.slotted;
+      rows = λ x lt off. rows_move.evict a (owner_of w x) (byte f x) m h b x sound by (s.rows x lt off);
+      calm = λ z on none. calm_of m (evict_next m h b) z (rows_move.evict a Pool (byte m.cache.ram z) m h b z sound by (s.calm z on none));
       queued = parts_stay.queued_evict a (owner_of w) m h b sound by s.queued;
       unfenced = λ g. ap (list_any is_full) ((evict_is m h b sound by.block).queues g) ∙ s.unfenced g;
       uncached = parts_stay.uncached_evict a (owner_of w) m h b sound by s.uncached;

@@ -1,9 +1,8 @@
--- The mappings of a world with flat memory, and what its drivers are still to do.
+-- What is known of a world with flat memory: what is to come of its drivers' plans, that no token is queued, and its pool.
 use Rattle.std.specs.Prelude.{Option, Some, None, ◌%◌}
 use Rattle.std.specs.List.{list_any}
-use Rattle.std.proofs.Common.{◌≡◌, ℕ, ◌<◌, List, [], ◌∷◌, length, refl, sym, ap, ◌∙◌, inl, inr, arith}
-use Rattle.std.proofs.lemmas.Bool.{cases_lt, both_ways}
-use Rattle.std.proofs.lemmas.List.{get_or_past}
+use Rattle.std.proofs.Common.{◌≡◌, ℕ, ◌<◌, List, [], ◌∷◌, length, refl, sym, ap, ◌∙◌, inl, arith}
+use Rattle.std.proofs.lemmas.Bool.{both_ways}
 use Rattle.nc_num.specs.declared.names.MapId.{MapId}
 use Rattle.nc_num.specs.declared.places.Span.{Span}
 use Rattle.nc_num.proofs.Blocks.{page_whole}
@@ -11,14 +10,12 @@ use Rattle.nc_queue.specs.declared.entry.Entry.{Entry}
 use Rattle.nc_plan.specs.Plans.{In}
 use Rattle.nc_model.specs.declared.owners.Owner.{Owner}
 use Rattle.nc_model.specs.declared.owners.Owner.TheVariants.{Thread, Passing, Lending, Device, Returning, Synced, Pool}
-use Rattle.nc_own.specs.Books.{owner_in}
 use Rattle.nc_scen.specs.declared.scenario.Scenario.{Scenario}
 use Rattle.nc_rules.specs.declared.lots.Lot.{Lot}
 use Rattle.nc_rules.specs.declared.lots.LotId.{LotId}
 use Rattle.nc_rules.specs.declared.steps.Step.{Step}
 use Rattle.nc_rules.specs.Lots.{is_lot}
 use Rattle.nc_rules.specs.Machine.{queue_of}
-use Rattle.nc_rules.specs.Watched.{owner_of}
 use Rattle.nc_rules.specs.World.{WorldState, driver_of}
 use Rattle.nc_scripts.specs.Scripts.{IsDriven}
 use Rattle.nc_holds.specs.Holds.{DriverHolds}
@@ -28,37 +25,11 @@ use Rattle.nc_calls.proofs.StepPlaces.{pool_block}
 use Rattle.nc_rows.specs.Rows.{Loan, device_place}
 use Rattle.nc_row_moves.specs.Laws.{PiecesOf, HasPieces}
 use Rattle.nc_row_moves.specs.Parts.{WholePool}
-use Rattle.nc_flatness.specs.Books.{book_of, mapping_in}
-use Rattle.nc_flatness.specs.Flatness.{IsDirect, Flatness}
+use Rattle.nc_flatness.specs.Books.{book_of}
+use Rattle.nc_flatness.specs.Flatness.{IsMapping, Flatness}
 use Rattle.nc_flatness.proofs.Loans.{loan_is}
-use Rattle.nc_flatness.proofs.WholeBlocks.{mapped_block, in_whole}
-use Rattle.nc_flatness.proofs.Owned.{IsMapped, mapped}
-use Rattle.nc_flat_moves.specs.Mapped.{HasPlace, Mapped}
+use Rattle.nc_flatness.proofs.WholeBlocks.{in_whole}
 use Rattle.nc_flat_moves.proofs.Pieces.{comes_in_block}
-
--- ---- places
-
--- a place with a mapping's owner is in RAM
-in_ram : (sc : Scenario) (f : List ℕ) (w : WorldState) (x : ℕ) (n : MapId) → Flatness sc f w → mapping_in (owner_of w x) ≡ Some n → x < sc.ram
-unfolding owner_in
-in_ram sc f w x n flat is = elim (cases_lt x sc.ram) [
-  | inl lt ↦ lt
-  | inr past ↦
-      let none : owner_of w x ≡ Pool = get_or_past w.owners x Pool (omega (arith, flat.world.holds.owners, flat.world.of_scenario.ram, past)) in
-      let no : ◌≡◌ {A = Option MapId} None (Some n) = ap mapping_in (sym none) ∙ is in absurd cc
-]
-
-place_by : (sc : Scenario) (f : List ℕ) (w : WorldState) (x : ℕ) (n : MapId) → Flatness sc f w → IsMapped w n x → HasPlace (book_of w) (owner_of w) w.machine.size n x
-place_by sc f w x n flat at = record {
-  loan = at.loan;
-  lent = at.known;
-  single = at.is.area;
-  straight = at.here;
-  whole = λ back y same. (mapped_block sc f w n x y flat at back same).1;
-}
-
-pub mapped_now : (sc : Scenario) (f : List ℕ) (w : WorldState) → Flatness sc f w → Mapped (book_of w) (owner_of w) w.machine.size
-mapped_now sc f w flat = λ x n is. place_by sc f w x n flat (mapped sc f w n x flat (in_ram sc f w x n flat is) is)
 
 -- ---- what is to come
 
@@ -96,7 +67,7 @@ token_by sc f w h e id flat lt here is =
     let lent = has_lent id d.lots d.rest (tokens.queued e id here is) in
     let drives = flat.bytes.drives h (omega (arith, flat.world.of_scenario.harts, lt)) in
     both_ways (list_any (is_lot id) d.lots)
-    (none_of (is_lot id) d.lots (λ lot in_lots. absurd (both_ways d.fixed.light (all_at (IsDirect d.fixed) d.lots lot drives.direct in_lots).full (tokens.light e id here is))))
+    (none_of (is_lot id) d.lots (λ lot in_lots. absurd (both_ways d.fixed.light (all_at (IsMapping d.fixed) d.lots lot drives.lots in_lots).full (tokens.light e id here is))))
     lent.there
 
 none_if : (sc : Scenario) (f : List ℕ) (w : WorldState) (h : ℕ) (e : Entry) (o : Option LotId) → Flatness sc f w → h < length w.machine.harts → In e (queue_of w.machine h) → token_of e ≡ o → o ≡ None
