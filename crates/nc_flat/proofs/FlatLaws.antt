@@ -2,14 +2,14 @@
 use Rattle.nc_flatness.specs.Steps.{EachGoes}
 use Rattle.nc_flat_moves.proofs.MoveLaws.{moves_go_law}
 use Rattle.nc_flat_scripts.proofs.IssueEvents as scripts
-use Rattle.nc_flat_starts.proofs.StartEvents as starts
+use Rattle.nc_flat_starts.proofs.Events as starts
 use Rattle.nc_flat_plans.proofs.PlanEvents as plans
 use Rattle.nc_flat.specs.Laws.{EachRunIsLatest, EachRunIsKept, EachEventIsFlat, EachRunIsFlat}
 use Rattle.nc_flat.proofs.Dispatch.{each_goes}
 use Rattle.nc_flat.proofs.Runs.{event_goes, latest_of, flat_of, kept_of}
 
 goes_always : EachGoes
-goes_always = each_goes moves_go_law scripts.steps_go starts.starts_go plans.plans_go
+goes_always = each_goes moves_go_law scripts.steps_go starts.starts_go plans.plan_steps
 
 pub event_always : EachEventIsFlat
 event_always sc f w e a c flat there = event_goes sc f w e goes_always a c flat there

@@ -1,6 +1,6 @@
 -- What an access of a script that is no touch may use: places of its hart alone, in main memory.
 use Rattle.std.specs.Prelude.{Option, Some, None, true, false, ◌-◌, ◌==◌, ◌/◌, All}
-use Rattle.std.proofs.Common.{◌≡◌, ℕ, ◌*◌, ◌<◌, ◌≤◌, List, length, refl, sym, ap, ◌∙◌, inl, inr, subst, arith}
+use Rattle.std.proofs.Common.{◌≡◌, ◌⊎◌, ℕ, ◌*◌, ◌<◌, ◌≤◌, List, length, refl, sym, ap, ◌∙◌, inl, inr, subst, arith}
 use Rattle.std.proofs.lemmas.Bool.{cases_eq, cases_lt, cases_Bool, cond-false, ne_eqb}
 use Rattle.std.proofs.lemmas.List.{get_or_past}
 use Rattle.nc_num.specs.Memory.{byte}
@@ -33,14 +33,14 @@ use Rattle.nc_holds.proofs.ListsA.{all_at}
 use Rattle.nc_plan.specs.Parts.{comes_back}
 use Rattle.nc_own.specs.Books.{owner_in}
 use Rattle.nc_scen.specs.Regions.{slots_of}
-use Rattle.nc_rows.specs.Laws.{seen_at, place_of}
-use Rattle.nc_rows.specs.Rows.{Loan, Book, device_place}
+use Rattle.nc_rows.specs.Laws.{seen_at}
+use Rattle.nc_rows.specs.Rows.{Loan, device_place}
 use Rattle.nc_row_issues.specs.Laws.{IsOwn, IsSyncedOf}
 use Rattle.nc_flatness.specs.Books.{book_of, mapping_in}
 use Rattle.nc_flatness.specs.Flatness.{Flatness}
 use Rattle.nc_flatness.specs.Plans.{IsStill}
 use Rattle.nc_flatness.proofs.Owned.{IsMapped, mapped}
-use Rattle.nc_flatness.proofs.Seen.{seen, place_ways, seen_whole}
+use Rattle.nc_flatness.proofs.Seen.{seen, seen_lent, place_ways, seen_whole}
 use Rattle.nc_flat_scripts.specs.Entering.{GivesOwn, IsUnowned, LoanIsApart, OwnerIsApart, IsUnlent}
 
 -- ---- the mapping that has a place
@@ -51,50 +51,47 @@ unfolding owner_in
 owner_past sc f w y flat past = get_or_past w.owners y Pool (omega (arith, flat.world.holds.owners, flat.world.of_scenario.ram, past))
 
 -- its mapping n is with its channel, or on its way there or back
-pub record IsAway (w : WorldState) (n : MapId) (l : Loan) (x : ℕ) : Type 0 where
-  pub mapping : mapping_in (owner_of w x) ≡ Some n
-  pub unowned : IsUnowned (owner_of w x)
-  pub known : (book_of w).loan n ≡ Some l
+abbrev pub IsAway : MapId → Owner → Type 0
+IsAway n o = (o ≡ Lending n) ⊎ (o ≡ Device n) ⊎ (o ≡ Returning n)
 
-seen_away : (a : Book) (o : Owner) (n : MapId) (l : Loan) (x : ℕ) → mapping_in o ≡ Some n → IsUnowned o → a.loan n ≡ Some l → seen_at a o x ≡ device_place l x
-seen_away a (Lending k) n l x is un known = let same : k ≡ n = cc in ap (λ (m : MapId). place_of (a.loan m) x) same ∙ ap (λ (o : Option Loan). place_of o x) known
-seen_away a (Device k) n l x is un known = let same : k ≡ n = cc in ap (λ (m : MapId). place_of (a.loan m) x) same ∙ ap (λ (o : Option Loan). place_of o x) known
-seen_away a (Returning k) n l x is un known = let same : k ≡ n = cc in ap (λ (m : MapId). place_of (a.loan m) x) same ∙ ap (λ (o : Option Loan). place_of o x) known
-seen_away a (Synced k) n l x is un known = absurd un
-seen_away a (Thread h) n l x is un known = absurd un
-seen_away a (Passing h g) n l x is un known = absurd cc
-seen_away a Pool n l x is un known = absurd cc
+away_is : (n : MapId) (o : Owner) → IsAway n o → (mapping_in o ≡ Some n) × IsUnowned o
+away_is n o (inl is) = (ap mapping_in is, subst IsUnowned (sym is) tt)
+away_is n o (inr (inl is)) = (ap mapping_in is, subst IsUnowned (sym is) tt)
+away_is n o (inr (inr is)) = (ap mapping_in is, subst IsUnowned (sym is) tt)
 
 -- a place in a block that the mapping's channel may write
-pub record InBlock (sc : Scenario) (w : WorldState) (l : Loan) (x y : ℕ) : Type 0 where
+pub record InBlock (sc : Scenario) (w : WorldState) (n : MapId) (l : Loan) (x y : ℕ) : Type 0 where
+  pub away : IsAway n (owner_of w x)
+  pub known : (book_of w).loan n ≡ Some l
   pub back : comes_back l.grant.dir ≡ true
   pub short : x < sc.ram
   pub same : y / w.machine.size ≡ device_place l x / w.machine.size
 
 -- one that is seen where it is
-itself_unowned : (sc : Scenario) (f : List ℕ) (w : WorldState) (n : MapId) (l : Loan) (x y : ℕ) → Flatness sc f w → IsAway w n l x → InBlock sc w l x y → y < sc.ram → covers (slots_of sc) y ≡ false → seen w y ≡ y → IsUnowned (owner_of w y)
-itself_unowned sc f w n l x y flat away in_block lt off itself =
+itself_unowned : (sc : Scenario) (f : List ℕ) (w : WorldState) (n : MapId) (l : Loan) (x y : ℕ) → Flatness sc f w → InBlock sc w n l x y → y < sc.ram → covers (slots_of sc) y ≡ false → seen w y ≡ y → IsUnowned (owner_of w y)
+itself_unowned sc f w n l x y flat in_block lt off itself =
     let s = w.machine.size in
-    let here : seen w x ≡ device_place l x = seen_away (book_of w) (owner_of w x) n l x away.mapping away.unowned away.known in
+    let away = away_is n (owner_of w x) in_block.away in
+    let here : seen w x ≡ device_place l x = seen_lent w n l x in_block.known in_block.away in
     let one : seen w x / s ≡ seen w y / s = ap (λ (z : ℕ). z / s) here ∙ sym in_block.same ∙ ap (λ (z : ℕ). z / s) (sym itself) in
-    subst IsUnowned (sym (seen_whole sc f w n l x y flat in_block.short lt away.mapping away.known in_block.back here off one)) away.unowned
+    subst IsUnowned (sym (seen_whole sc f w n l x y flat in_block.short lt away.0 in_block.known in_block.back here off one)) away.1
 
-memory_unowned : (sc : Scenario) (f : List ℕ) (w : WorldState) (n : MapId) (l : Loan) (x y : ℕ) (o : Owner) → Flatness sc f w → IsAway w n l x → InBlock sc w l x y → y < sc.ram → covers (slots_of sc) y ≡ false → owner_of w y ≡ o → IsUnowned o
-memory_unowned sc f w n l x y (Thread h) flat away in_block lt off is =
-    subst IsUnowned is (itself_unowned sc f w n l x y flat away in_block lt off (ap (λ (o : Owner). seen_at (book_of w) o y) is))
-memory_unowned sc f w n l x y (Synced k) flat away in_block lt off is =
-    subst IsUnowned is (itself_unowned sc f w n l x y flat away in_block lt off (ap (λ (o : Owner). seen_at (book_of w) o y) is))
-memory_unowned sc f w n l x y (Passing h g) flat away in_block lt off is = tt
-memory_unowned sc f w n l x y (Lending k) flat away in_block lt off is = tt
-memory_unowned sc f w n l x y (Device k) flat away in_block lt off is = tt
-memory_unowned sc f w n l x y (Returning k) flat away in_block lt off is = tt
-memory_unowned sc f w n l x y Pool flat away in_block lt off is = tt
+memory_unowned : (sc : Scenario) (f : List ℕ) (w : WorldState) (n : MapId) (l : Loan) (x y : ℕ) (o : Owner) → Flatness sc f w → InBlock sc w n l x y → y < sc.ram → covers (slots_of sc) y ≡ false → owner_of w y ≡ o → IsUnowned o
+memory_unowned sc f w n l x y (Thread h) flat in_block lt off is =
+    subst IsUnowned is (itself_unowned sc f w n l x y flat in_block lt off (ap (λ (o : Owner). seen_at (book_of w) o y) is))
+memory_unowned sc f w n l x y (Synced k) flat in_block lt off is =
+    subst IsUnowned is (itself_unowned sc f w n l x y flat in_block lt off (ap (λ (o : Owner). seen_at (book_of w) o y) is))
+memory_unowned sc f w n l x y (Passing h g) flat in_block lt off is = tt
+memory_unowned sc f w n l x y (Lending k) flat in_block lt off is = tt
+memory_unowned sc f w n l x y (Device k) flat in_block lt off is = tt
+memory_unowned sc f w n l x y (Returning k) flat in_block lt off is = tt
+memory_unowned sc f w n l x y Pool flat in_block lt off is = tt
 
-block_unowned : (sc : Scenario) (f : List ℕ) (w : WorldState) (n : MapId) (l : Loan) (x y : ℕ) → Flatness sc f w → IsAway w n l x → InBlock sc w l x y → IsUnowned (owner_of w y)
-block_unowned sc f w n l x y flat away in_block = elim (cases_lt y sc.ram) [
+block_unowned : (sc : Scenario) (f : List ℕ) (w : WorldState) (n : MapId) (l : Loan) (x y : ℕ) → Flatness sc f w → InBlock sc w n l x y → IsUnowned (owner_of w y)
+block_unowned sc f w n l x y flat in_block = elim (cases_lt y sc.ram) [
   | inl lt ↦ elim (cases_Bool (covers (slots_of sc) y)) [
     | inl on ↦ subst IsUnowned (sym (flat.bytes.slotted y on)) tt
-    | inr off ↦ memory_unowned sc f w n l x y (owner_of w y) flat away in_block lt off refl
+    | inr off ↦ memory_unowned sc f w n l x y (owner_of w y) flat in_block lt off refl
   ]
   | inr past ↦ subst IsUnowned (sym (owner_past sc f w y flat past)) tt
 ]
@@ -105,21 +102,21 @@ place_unowned sc f w n x flat m un = elim (place_ways sc f w n x flat m) [
   | inr slot ↦ subst IsUnowned (sym (flat.bytes.slotted (device_place m.loan x) slot.0)) tt
 ]
 
-loan_apart : (sc : Scenario) (f : List ℕ) (w : WorldState) (n : MapId) (x : ℕ) → Flatness sc f w → x < sc.ram → mapping_in (owner_of w x) ≡ Some n → IsUnowned (owner_of w x) → LoanIsApart ((book_of w).loan n) (owner_of w) w.machine.size x
-loan_apart sc f w n x flat lt is un =
-    let m = mapped sc f w n x flat lt is in
-    let away : IsAway w n m.loan x = record { mapping = is; unowned = un; known = m.known } in
+loan_apart : (sc : Scenario) (f : List ℕ) (w : WorldState) (n : MapId) (x : ℕ) → Flatness sc f w → x < sc.ram → IsAway n (owner_of w x) → LoanIsApart ((book_of w).loan n) (owner_of w) w.machine.size x
+loan_apart sc f w n x flat lt away =
+    let is = away_is n (owner_of w x) away in
+    let m = mapped sc f w n x flat lt is.0 in
     subst (λ (o : Option Loan). LoanIsApart o (owner_of w) w.machine.size x) (sym m.known)
     (record {
       area = m.is.area;
-      place = place_unowned sc f w n x flat m un;
-      block = λ back y same. block_unowned sc f w n m.loan x y flat away (record { back = back; short = lt; same = same });
+      place = place_unowned sc f w n x flat m is.1;
+      block = λ back y same. block_unowned sc f w n m.loan x y flat (record { away = away; known = m.known; back = back; short = lt; same = same });
     })
 
 apart_by : (sc : Scenario) (f : List ℕ) (w : WorldState) (x : ℕ) (o : Owner) → Flatness sc f w → x < sc.ram → owner_of w x ≡ o → OwnerIsApart (book_of w) (owner_of w) w.machine.size x o
-apart_by sc f w x (Lending n) flat lt is = loan_apart sc f w n x flat lt (ap mapping_in is) (subst IsUnowned (sym is) tt)
-apart_by sc f w x (Device n) flat lt is = loan_apart sc f w n x flat lt (ap mapping_in is) (subst IsUnowned (sym is) tt)
-apart_by sc f w x (Returning n) flat lt is = loan_apart sc f w n x flat lt (ap mapping_in is) (subst IsUnowned (sym is) tt)
+apart_by sc f w x (Lending n) flat lt is = loan_apart sc f w n x flat lt (inl is)
+apart_by sc f w x (Device n) flat lt is = loan_apart sc f w n x flat lt (inr (inl is))
+apart_by sc f w x (Returning n) flat lt is = loan_apart sc f w n x flat lt (inr (inr is))
 apart_by sc f w x (Synced n) flat lt is = tt
 apart_by sc f w x (Thread h) flat lt is = tt
 apart_by sc f w x (Passing h g) flat lt is = tt

@@ -3,7 +3,7 @@
 use nc_flat_moves::moves_go;
 use nc_flat_plans::plans_go;
 use nc_flat_scripts::steps_go;
-use nc_flat_starts::book_rows;
+use nc_flat_starts::{book_rows, starts_go};
 use nc_lines::{lines_cover, lines_drain, lines_gain};
 use nc_row_channels::rows_of_channels;
 use nc_row_issues::rows_issue;
@@ -30,5 +30,6 @@ fn laws_are_called() {
     moves_go();
     steps_go();
     book_rows();
+    starts_go();
     plans_go();
 }
