@@ -42,8 +42,8 @@ rest_by sc f w h o (s ∷ rest) now hand is phase left plan =
     step_by sc f w h o s rest
     (record { now = now; hand = hand; lends = is; phase = phase; rest_is = left; first = step_first (driver_of w h.0).fixed (driver_of w h.0).lots s rest plan.0; goes = plan.0; left = plan.1 }) plan.0
 
-pub plan_steps : PlansAreFlat
-plan_steps sc f w h o now hand is phase =
+pub plans_go : PlansAreFlat
+plans_go sc f w h o now hand is phase =
     let d = driver_of w h.0 in
     let stands : StandsAt d Work = subst (λ (p : Phase). StandsAt d p) phase (now.flat.bytes.drives h.0 now.there).stands in
     rest_by sc f w h o d.rest now hand is phase refl (plan_left d o is (subst (λ (p : Option Op). PlanOf d p) hand stands))

@@ -1,5 +1,5 @@
-use Rattle.nc_flat_plans.proofs.PlanEvents.{plan_steps}
+use Rattle.nc_flat_plans.proofs.PlanEvents.{plans_go}
 use Rattle.nc_flat_plans.proofs.laws.plans_go.Goals as goal
 
 pub returns : goal.returns
-returns c = plan_steps
+returns c = plans_go
