@@ -1,8 +1,7 @@
 -- The lots of a hart just before a turn of one of them: those that it has, with those that its operation made and the slots
 -- that they got.
-use Rattle.std.specs.Prelude.{Option, Some, None, All, ◌&&◌, ◌==◌, ◌+◌, ◌*◌, ◌%◌, not, is_none, unwrap_or, Bool, true, false, slice_get, option_map}
-use Rattle.std.specs.List.{list_any}
-use Rattle.std.proofs.Common.{◌≡◌, ◌≢◌, ◌⊎◌, ℕ, ◌<◌, ◌≤◌, List, [], ◌∷◌, ◌++◌, length, refl, sym, ap, ◌∙◌, inl, inr, subst, arith}
+use Rattle.std.specs.Prelude.{Option, Some, None, All, ◌&&◌, ◌==◌, ◌+◌, ◌*◌, ◌%◌, not, is_none, unwrap_or, Bool, true, false, slice_get}
+use Rattle.std.proofs.Common.{◌≡◌, ◌⊎◌, ℕ, ◌<◌, ◌≤◌, List, [], length, refl, sym, ap, ◌∙◌, inl, inr, subst, arith}
 use Rattle.std.proofs.lemmas.Bool.{cases_Bool, cases_eq, both_ways, cond-true, cond-false, eq-eqb, eqb-true, false_from_ne_true}
 use Rattle.nc_num.specs.Places.{covers}
 use Rattle.nc_num.specs.Sizes.{IsBlockSize}
@@ -10,7 +9,7 @@ use Rattle.nc_num.specs.declared.names.HartNo.{HartNo}
 use Rattle.nc_num.specs.declared.names.MapId.{MapId}
 use Rattle.nc_num.specs.declared.places.Span.{Span}
 use Rattle.nc_model.proofs.Faults.{covers-from, covers-low, covers-high}
-use Rattle.nc_plan.specs.Parts.{is_bounced, in_slot, is_too_big}
+use Rattle.nc_plan.specs.Parts.{in_slot}
 use Rattle.nc_plan.specs.Plans.{In}
 use Rattle.nc_plan.proofs.PlanLaws.{in_its_slot}
 use Rattle.nc_scen.specs.Regions.{slots_of, pool_of}
@@ -23,14 +22,12 @@ use Rattle.nc_rules.specs.declared.lots.Lot.{Lot}
 use Rattle.nc_rules.specs.declared.lots.LotId.{LotId}
 use Rattle.nc_rules.specs.declared.lots.Side.TheVariants as sides
 use Rattle.nc_rules.specs.Lots.{Fixed, is_wanted, owner_of_side, lot_waits}
-use Rattle.nc_rules.specs.Refusals.{buffer_of}
 use Rattle.nc_rules.specs.Turns.{is_area}
 use Rattle.nc_rules.specs.Start.{fixed_of, hart_spec}
 use Rattle.nc_rules.specs.World.{WorldState, driver_of, hart}
-use Rattle.nc_rules.specs.Driver.{DriverState}
 use Rattle.nc_scripts.specs.Drivers.{FitsKind, IsEntryIn, IsLotIn, AreApart}
 use Rattle.nc_scripts.proofs.Lists.{none_any, position_any}
-use Rattle.nc_holds.specs.Held.{Held, IsEntryOf, FitsSide, LiesInBuffer, slots_span}
+use Rattle.nc_holds.specs.Held.{Held, FitsSide, LiesInBuffer, slots_span}
 use Rattle.nc_holds.specs.Holds.{held_of}
 use Rattle.nc_holds.proofs.EventFrom.{EveryoneIn}
 use Rattle.nc_holds.proofs.GrantWords.{slot_once, slot_holder, slot_harts}

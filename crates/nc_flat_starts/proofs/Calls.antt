@@ -1,10 +1,8 @@
 -- A call at a start or in a search: it opens the operation, searches for a slot, or gives up.
-use Rattle.std.specs.Prelude.{Option, Some, None, All, Result, Ok, Err, ◌&&◌, ◌==◌, ◌+◌, nat_lt, not, is_none, Bool, true, false, if◌then◌else◌, filter, option_map}
-use Rattle.std.specs.List.{list_any, find}
-use Rattle.std.proofs.Common.{◌≡◌, ◌≢◌, ◌⊎◌, ℕ, ◌<◌, List, [], ◌∷◌, ◌++◌, length, map, refl, sym, ap, ◌∙◌, inl, inr, subst, arith}
-use Rattle.std.proofs.lemmas.Bool.{cases_Bool, both_ways, cond-true, cond-false, and_from, and_parts, eq-eqb, eqb-true, or_parts, not_from_false}
+use Rattle.std.specs.Prelude.{Option, Some, All, not, Bool, true, false, if◌then◌else◌, option_map}
+use Rattle.std.proofs.Common.{◌≡◌, ℕ, ◌<◌, List, [], ◌∷◌, length, map, refl, sym, ap, ◌∙◌, inl, inr, subst}
+use Rattle.std.proofs.lemmas.Bool.{both_ways, and_from, and_parts, eq-eqb, eqb-true}
 use Rattle.std.proofs.lemmas.List.{append-nil}
-use Rattle.std.proofs.lemmas.List.Elements.{All-nil, All-cons, All-head, All-tail}
 use Rattle.nc_num.specs.declared.names.ChanNo.{ChanNo}
 use Rattle.nc_num.specs.declared.names.Dir.{Dir}
 use Rattle.nc_num.specs.declared.names.HartNo.{HartNo}
@@ -16,7 +14,6 @@ use Rattle.nc_ops.specs.declared.ops.Op.{Op}
 use Rattle.nc_ops.specs.declared.ops.Op.TheVariants as ops
 use Rattle.nc_ops.specs.declared.ops.SgEntry.{SgEntry}
 use Rattle.nc_scen.specs.declared.scenario.Scenario.{Scenario}
-use Rattle.nc_sg.specs.declared.list.Entry.{Entry}
 use Rattle.nc_rules.specs.declared.answers.Refusal.{Refusal}
 use Rattle.nc_rules.specs.declared.lots.Kind.{Kind}
 use Rattle.nc_rules.specs.declared.lots.Kind.TheVariants as kinds
@@ -24,35 +21,34 @@ use Rattle.nc_rules.specs.declared.lots.Lot.{Lot}
 use Rattle.nc_rules.specs.declared.lots.LotId.{LotId}
 use Rattle.nc_rules.specs.declared.lots.Side.{Side}
 use Rattle.nc_rules.specs.declared.lots.Side.TheVariants as sides
-use Rattle.nc_rules.specs.declared.steps.Phase.TheVariants.{Steps, Search, Work}
 use Rattle.nc_rules.specs.declared.steps.Step.{Step}
 use Rattle.nc_rules.specs.declared.steps.Turn.{Turn}
 use Rattle.nc_rules.specs.declared.steps.Turn.TheVariants as turns
 use Rattle.nc_rules.specs.Lots.{Fixed, lot_id, lot_named, is_lot, is_named, is_labelled, is_wanted, same_kind, lot_waits, some_lot_waits}
-use Rattle.nc_rules.specs.Turns.{lots_after, transfers_of, turned_by, without_wanted}
+use Rattle.nc_rules.specs.Turns.{lots_after, transfers_of, turned_by}
 use Rattle.nc_rules.specs.Plans.{lend_steps}
 use Rattle.nc_rules.specs.Mappings as mappings
 use Rattle.nc_rules.specs.Mappings.{with_lot}
 use Rattle.nc_rules.specs.ScatterLists as lists
 use Rattle.nc_rules.specs.Operations.{meaning, opening, plan_of}
-use Rattle.nc_rules.specs.Driver.{DriverState, Went, in_hand, stays, searches, stands, with_lots, opened, placed, give_up, went_to, over}
+use Rattle.nc_rules.specs.Driver.{DriverState, Went, in_hand, stays, searches, with_lots, opened, placed, give_up, went_to}
 use Rattle.nc_rules.specs.World.{WorldState, driver_of}
-use Rattle.nc_scripts.specs.Drivers.{IsLotIn, IsSettled, AreMade, made_names}
-use Rattle.nc_scripts.proofs.Lists.{all_in, all_to, all_filtered, none_any}
+use Rattle.nc_scripts.specs.Drivers.{IsSettled, AreMade, made_names}
+use Rattle.nc_scripts.proofs.Lists.{all_in, all_filtered, none_any}
 use Rattle.nc_scripts.proofs.LotLaws.{its_name}
 use Rattle.nc_holds.proofs.EventFrom.{EveryoneIn}
 use Rattle.nc_holds.proofs.ListsA.{of_append, all_at}
 use Rattle.nc_holds.proofs.OwnerEnds.{left_all}
 use Rattle.nc_flatness.specs.Books.{loan_by, loan_of}
 use Rattle.nc_flatness.specs.Covered.{is_lending}
-use Rattle.nc_flatness.specs.Flatness.{IsMapping, IsStillOrWanted, makes_kind, IsMadeBy, IsStillOrMade, Drives, BytesStand, Flatness}
+use Rattle.nc_flatness.specs.Flatness.{IsMapping, IsStillOrWanted, makes_kind, IsStillOrMade, BytesStand, Flatness}
 use Rattle.nc_flatness.specs.Plans.{IsStill}
 use Rattle.nc_flatness.proofs.Outcomes.{gone}
 use Rattle.nc_flat_starts.proofs.Bases.{IsBase, with_these, label_one}
 use Rattle.nc_flat_starts.proofs.Lots.{loan_in, find_only, kept_loans}
 use Rattle.nc_flat_starts.proofs.OpenRows.{lend_opens}
 use Rattle.nc_flat_starts.proofs.Opens.{opens_bytes}
-use Rattle.nc_flat_starts.proofs.Quiets.{IsQuiet, quiet_bytes}
+use Rattle.nc_flat_starts.proofs.Quiets.{quiet_bytes}
 use Rattle.nc_flat_starts.proofs.Sides.{Others}
 
 -- ---- the hart with the lots that a call goes on with

@@ -1,11 +1,10 @@
 -- The starts of operations that lend and take back, and their searches, as events.
-use Rattle.std.specs.Prelude.{Option, Some, None, ◌&&◌, ◌==◌, not, is_none, is_some, Bool, true, false}
-use Rattle.std.proofs.Common.{◌≡◌, ℕ, ◌<◌, List, [], ◌∷◌, ◌++◌, length, refl, sym, ap, ◌∙◌, subst}
+use Rattle.std.specs.Prelude.{Option, Some, None, not, is_none, is_some, Bool, true, false}
+use Rattle.std.proofs.Common.{◌≡◌, ℕ, ◌<◌, List, [], length, refl, ap, ◌∙◌}
 use Rattle.std.proofs.lemmas.Bool.{cond-true}
 use Rattle.nc_num.specs.declared.names.HartNo.{HartNo}
 use Rattle.nc_slots.specs.SlotWords.{holder_of, tried}
 use Rattle.nc_ops.specs.declared.ops.Op.{Op}
-use Rattle.nc_scen.specs.declared.events.Event.{Event}
 use Rattle.nc_scen.specs.declared.events.Event.TheVariants as events
 use Rattle.nc_scen.specs.declared.scenario.Scenario.{Scenario}
 use Rattle.nc_rules.specs.declared.steps.Next.{Next}
@@ -17,8 +16,7 @@ use Rattle.nc_rules.specs.Driver.{DriverState, in_hand, next_of, next_of_op, nex
 use Rattle.nc_rules.specs.Events.{enabled}
 use Rattle.nc_rules.specs.Outcomes.{start_outcome, step_outcome, try_outcome, told_outcome, got_word, told_slots, at_word, outcome}
 use Rattle.nc_rules.specs.Records.{try_records, told_records}
-use Rattle.nc_rules.specs.Start.{fixed_of, hart_spec}
-use Rattle.nc_rules.specs.World.{WorldState, driver_of, hart}
+use Rattle.nc_rules.specs.World.{WorldState, driver_of}
 use Rattle.nc_flatness.specs.Covered.{IsCovered, may_lend, is_lending}
 use Rattle.nc_flatness.specs.Flatness.{Flatness}
 use Rattle.nc_flatness.specs.Steps.{IsNow, Goes, StartsAreFlat}

@@ -1,8 +1,8 @@
 -- The rows of a lot at its opening turn.
-use Rattle.std.specs.Prelude.{Option, Some, None, All, ◌&&◌, ◌||◌, ◌==◌, ◌+◌, ◌-◌, ◌*◌, ◌/◌, not, Bool, true, false, slice_get, map}
+use Rattle.std.specs.Prelude.{Option, Some, None, ◌+◌, ◌-◌, ◌/◌, Bool, true, false, slice_get}
 use Rattle.std.specs.List.{list_any}
-use Rattle.std.proofs.Common.{◌≡◌, ◌≢◌, ◌⊎◌, ℕ, ◌<◌, ◌≤◌, List, [], ◌∷◌, ◌++◌, length, refl, sym, ap, ◌∙◌, inl, inr, subst, arith}
-use Rattle.std.proofs.lemmas.Bool.{cases_Bool, cases_lt, both_ways, false_from_ne_true, cond-false}
+use Rattle.std.proofs.Common.{◌≡◌, ◌⊎◌, ℕ, ◌<◌, ◌≤◌, List, [], ◌∷◌, ◌++◌, length, refl, sym, ap, ◌∙◌, inl, inr, subst, arith}
+use Rattle.std.proofs.lemmas.Bool.{cases_lt, both_ways, false_from_ne_true, cond-false}
 use Rattle.std.proofs.lemmas.List.{get_or_past}
 use Rattle.std.proofs.lemmas.Option.{slice_get_within}
 use Rattle.nc_num.specs.Memory.{byte}
@@ -14,7 +14,6 @@ use Rattle.nc_num.specs.declared.names.MapId.{MapId}
 use Rattle.nc_num.specs.declared.places.Span.{Span}
 use Rattle.nc_model.proofs.Faults.{covers-from, covers-low, covers-high}
 use Rattle.nc_model.specs.declared.owners.Owner.{Owner}
-use Rattle.nc_model.specs.declared.owners.Owner.TheVariants.{Thread, Passing, Lending, Device, Returning, Synced, Pool}
 use Rattle.nc_queue.specs.Entries.{AllFit}
 use Rattle.nc_queue.specs.Laws.{Stands}
 use Rattle.nc_queue.specs.declared.entry.Entry.{Entry as QueueEntry}
@@ -22,7 +21,6 @@ use Rattle.nc_queue.specs.declared.entry.Entry.TheVariants as entries
 use Rattle.nc_hart.specs.HartState.{HartState}
 use Rattle.nc_lines.specs.Lines.{gives_at}
 use Rattle.nc_plan.specs.Parts.{comes_back}
-use Rattle.nc_plan.specs.Plans.{In}
 use Rattle.nc_plan.proofs.PlanLaws.{in_map}
 use Rattle.nc_scen.specs.Regions.{slots_of}
 use Rattle.nc_scen.specs.declared.scenario.Scenario.{Scenario}
@@ -39,15 +37,14 @@ use Rattle.nc_rules.specs.declared.steps.Seen.{Seen}
 use Rattle.nc_rules.specs.declared.steps.Step.{Step}
 use Rattle.nc_rules.specs.declared.steps.Turn.{Turn}
 use Rattle.nc_rules.specs.declared.steps.Turn.TheVariants as turns
-use Rattle.nc_rules.specs.Lots.{Fixed, is_wanted, map_id, owner_of_side, parts}
+use Rattle.nc_rules.specs.Lots.{Fixed, map_id, owner_of_side}
 use Rattle.nc_rules.specs.Machine.{MachineState, no_hart, queue_of}
 use Rattle.nc_rules.specs.Plans.{lend_steps, return_steps, ending}
 use Rattle.nc_rules.specs.Start.{hart_spec}
 use Rattle.nc_rules.specs.Turns.{set_side, of_those, to_side}
 use Rattle.nc_rules.specs.Driver.{DriverState, Went, in_hand, stands, with_lots, went_to}
-use Rattle.nc_rules.specs.Watched.{owner_of}
 use Rattle.nc_rules.specs.World.{WorldState, driver_of}
-use Rattle.nc_scripts.specs.Drivers.{IsLotIn, BouncesSo}
+use Rattle.nc_scripts.specs.Drivers.{BouncesSo}
 use Rattle.nc_scripts.proofs.LotLaws.{named_so}
 use Rattle.nc_holds.specs.Tokens.{token_of}
 use Rattle.nc_holds.proofs.ListsA.{all_at, at_get, none_of}
@@ -55,7 +52,7 @@ use Rattle.nc_holds.proofs.OwnerLots.{entry_in}
 use Rattle.nc_rows.specs.Ahead.{ends, names, is_full, coming}
 use Rattle.nc_rows.specs.Laws.{seen_at, place_of}
 use Rattle.nc_rows.specs.Places.{ThreadRow, CalmRow, Alone}
-use Rattle.nc_rows.specs.Rows.{Loan, Book, device_place, back, drop, gives_here, gives_block, ahead_of, Either, ByDir, LendingTo, LendingFrom, DeviceTo, DeviceFrom, LentRow, DeviceRow, BackRow, SyncedRow, Row}
+use Rattle.nc_rows.specs.Rows.{Loan, back, drop, gives_here, gives_block, ahead_of, Either, ByDir, LendingTo, LendingFrom, DeviceTo, DeviceFrom, LentRow, DeviceRow, BackRow, SyncedRow, Row}
 use Rattle.nc_row_plans.specs.Begins.{NoneQueued, LendsAhead, IsReady}
 use Rattle.nc_row_plans.specs.Plans.{WritesBack, DropsBlocks, IsPlaceOf, IsEntryOf as IsEntryOfLot}
 use Rattle.nc_row_plans.proofs.LendingPlans.{plans_lend, some_append}
@@ -66,13 +63,13 @@ use Rattle.nc_flatness.specs.Covered.{is_lending}
 use Rattle.nc_flatness.specs.Flatness.{Flatness}
 use Rattle.nc_flatness.specs.Plans.{IsBack, device_of}
 use Rattle.nc_flatness.proofs.Seen.{slot_at, slot_slots, slot_whole}
-use Rattle.nc_flat_starts.proofs.Bases.{IsBase, no_area, fixed_is, base_lot, base_mapping, base_beside, base_one, base_planned, base_unseen, waits_not, slot_in, in_slot_so, IsInSlot}
+use Rattle.nc_flat_starts.proofs.Bases.{IsBase, no_area, fixed_is, base_lot, base_mapping, base_beside, base_one, base_planned, base_unseen, waits_not, slot_in, in_slot_so}
 use Rattle.nc_flat_starts.proofs.Blocks.{none_in_block, whole_range}
 use Rattle.nc_flat_starts.proofs.Effects.{writes, drops}
 use Rattle.nc_flat_starts.proofs.Frames.{IsPlace}
 use Rattle.nc_flat_starts.proofs.Lots.{loan_for}
 use Rattle.nc_flat_starts.proofs.Opens.{Opens, base_owner}
-use Rattle.nc_flat_starts.proofs.PlansGo.{IsPlan, Lends, Returns, lend_so, return_so, back_turns}
+use Rattle.nc_flat_starts.proofs.PlansGo.{Lends, Returns, lend_so, return_so, back_turns}
 use Rattle.nc_flat_starts.proofs.Sides.{hand_set, set_one, turned_lot}
 
 -- ---- what is known of the hart

@@ -1,9 +1,8 @@
 -- An opening turn: a lot is lent, or is taken back, with its plan in hand; or it ends as it was synced.
-use Rattle.std.specs.Prelude.{Option, Some, None, All, ◌||◌, ◌+◌, ◌-◌, ◌/◌, Bool, true, false, flat_map, map, option_map, slice_get}
+use Rattle.std.specs.Prelude.{Option, Some, None, true, false, option_map, slice_get}
 use Rattle.std.specs.List.{list_any}
-use Rattle.std.proofs.Common.{◌≡◌, ◌≢◌, ◌⊎◌, ℕ, ◌<◌, ◌≤◌, List, [], ◌∷◌, ◌++◌, length, refl, sym, ap, ◌∙◌, inl, inr, subst, arith}
-use Rattle.std.proofs.lemmas.Bool.{both_ways, false_from_ne_true}
-use Rattle.nc_num.specs.Memory.{byte}
+use Rattle.std.proofs.Common.{◌≡◌, ◌⊎◌, ℕ, ◌<◌, List, [], length, refl, sym, ap, ◌∙◌, inl, inr, subst, arith}
+use Rattle.std.proofs.lemmas.Bool.{both_ways}
 use Rattle.nc_num.specs.Places.{covers}
 use Rattle.nc_num.specs.declared.names.HartNo.{HartNo}
 use Rattle.nc_num.specs.declared.names.MapId.{MapId}
@@ -15,46 +14,43 @@ use Rattle.nc_model.specs.declared.owners.Owner.{Owner}
 use Rattle.nc_model.specs.declared.owners.Owner.TheVariants.{Thread, Passing, Lending, Device, Returning, Synced, Pool}
 use Rattle.nc_plan.specs.Plans.{In}
 use Rattle.nc_own.specs.Books.{owner_in}
-use Rattle.nc_scen.specs.Regions.{pool_of, slots_of}
+use Rattle.nc_scen.specs.Regions.{slots_of}
 use Rattle.nc_scen.specs.declared.scenario.Scenario.{Scenario}
 use Rattle.nc_sg.specs.declared.list.Entry.{Entry}
 use Rattle.nc_ops.specs.declared.ops.Op.{Op}
 use Rattle.nc_ops.specs.declared.ops.Op.TheVariants as ops
 use Rattle.nc_rules.specs.declared.lots.Lot.{Lot}
-use Rattle.nc_rules.specs.declared.lots.LotId.{LotId}
 use Rattle.nc_rules.specs.declared.lots.Side.{Side}
 use Rattle.nc_rules.specs.declared.lots.Side.TheVariants as sides
-use Rattle.nc_rules.specs.declared.steps.Phase.TheVariants.{Steps, Search, Work}
+use Rattle.nc_rules.specs.declared.steps.Phase.TheVariants.{Work}
 use Rattle.nc_rules.specs.declared.steps.Step.{Step}
-use Rattle.nc_rules.specs.Lots.{Fixed, is_wanted, map_id, owner_of_side}
-use Rattle.nc_rules.specs.Machine.{MachineState, hart_of, queue_of}
+use Rattle.nc_rules.specs.Lots.{is_wanted, map_id, owner_of_side}
+use Rattle.nc_rules.specs.Machine.{hart_of, queue_of}
 use Rattle.nc_rules.specs.Turns.{set_side, of_those, to_side}
 use Rattle.nc_rules.specs.Driver.{DriverState, Went, in_hand, stands, with_lots}
 use Rattle.nc_rules.specs.Watched.{owner_of}
 use Rattle.nc_rules.specs.World.{WorldState, driver_of, owners_moved}
 use Rattle.nc_scripts.proofs.Lists.{all_to}
 use Rattle.nc_scripts.proofs.LotLaws.{its_name}
-use Rattle.nc_holds.specs.Held.{IsEntryOf}
 use Rattle.nc_holds.proofs.ListsA.{all_at}
 use Rattle.nc_holds.proofs.OwnerLots.{same_named}
 use Rattle.nc_holds.proofs.OwnerMoves.{moved_off}
 use Rattle.nc_holds.proofs.OwnerSides.{side_move, move_covers, owners_sided}
 use Rattle.nc_rows.specs.Ahead.{posts, is_full, sending, coming}
 use Rattle.nc_rows.specs.Laws.{seen_at, place_of}
-use Rattle.nc_rows.specs.Places.{CalmRow}
 use Rattle.nc_rows.specs.Rows.{Loan, Book, ahead_of, Row}
 use Rattle.nc_rows.specs.Parts.{IsQueued, rest_last}
 use Rattle.nc_rows.proofs.Steps.{steps_ahead}
 use Rattle.nc_flatness.specs.Covered.{is_lending}
 use Rattle.nc_flatness.specs.Books.{loan_by, loan_of, book_of, mapping_in, LiesIn}
-use Rattle.nc_flatness.specs.Flatness.{IsMapping, IsStillOrWanted, PlanLeft, PlanIs, PlanOf, Drives, IsUnseen, BytesStand, Flatness}
-use Rattle.nc_flatness.specs.Plans.{IsStill, PlanGoes}
+use Rattle.nc_flatness.specs.Flatness.{IsMapping, IsStillOrWanted, PlanLeft, PlanIs, PlanOf, Drives, BytesStand, Flatness}
+use Rattle.nc_flatness.specs.Plans.{PlanGoes}
 use Rattle.nc_flatness.proofs.Loans.{loan_is}
 use Rattle.nc_flatness.proofs.Outcomes.{gone}
 use Rattle.nc_flatness.proofs.Owned.{mapped, owned_ram}
 use Rattle.nc_flat_starts.specs.Books.{HasNoArea}
-use Rattle.nc_flat_starts.proofs.Bases.{IsBase, with_these, me_of, no_area, base_lot, base_mapping, base_first, base_beside, base_one}
-use Rattle.nc_flat_starts.proofs.Frames.{IsPlace, IsOff, IsSomewhere, On, Off, somewhere, IsRestful, StaysAside, Turns, goes_still, loan_hart, loan_aside, rest_hart, last_none, turn_bytes}
+use Rattle.nc_flat_starts.proofs.Bases.{IsBase, me_of, no_area, base_mapping, base_first, base_beside, base_one}
+use Rattle.nc_flat_starts.proofs.Frames.{IsPlace, IsOff, On, Off, somewhere, IsRestful, StaysAside, goes_still, loan_hart, loan_aside, rest_hart, last_none, turn_bytes}
 use Rattle.nc_flat_starts.proofs.Lots.{loan_in, loan_for, loan_here, other_set}
 use Rattle.nc_flat_starts.proofs.Sides.{turned_lot, set_all, set_here, set_one}
 

@@ -1,7 +1,7 @@
 -- The pieces of the copies of a plan: they lie in the ranges of their entries, no two share a byte, and each byte is in one.
 use Rattle.std.specs.Prelude.{All, Some, ◌-◌, Bool, true, false, if◌then◌else◌, map, flat_map, slice_get}
-use Rattle.std.proofs.Common.{◌≡◌, ◌≢◌, ◌⊎◌, ℕ, zero, suc, ◌+◌, ◌<◌, ◌≤◌, List, [], ◌∷◌, ◌++◌, refl, sym, ap, ◌∙◌, inl, inr, subst, arith}
-use Rattle.std.proofs.lemmas.Bool.{cases_Bool, cases_lt, cond-true, cond-false}
+use Rattle.std.proofs.Common.{◌≡◌, ◌≢◌, ℕ, zero, suc, ◌+◌, ◌<◌, ◌≤◌, List, [], ◌∷◌, ◌++◌, refl, sym, ap, ◌∙◌, inl, inr, subst, arith}
+use Rattle.std.proofs.lemmas.Bool.{cases_lt}
 use Rattle.std.proofs.lemmas.List.Elements.{All-nil, All-cons, All-head, All-tail, All-append}
 use Rattle.nc_num.specs.Places.{covers, pieces, Tiles}
 use Rattle.nc_num.specs.declared.places.Span.{Span}
@@ -12,7 +12,7 @@ use Rattle.nc_plan.proofs.PlanLaws.{in_left, in_right}
 use Rattle.nc_sg.specs.declared.list.Entry.{Entry}
 use Rattle.nc_holds.specs.Held.{SharesNone}
 use Rattle.nc_holds.proofs.ListsA.{all_at, at_get}
-use Rattle.nc_scripts.proofs.Lists.{all_in, all_to}
+use Rattle.nc_scripts.proofs.Lists.{all_in}
 use Rattle.nc_flatness.specs.Plans.{IsWithin}
 
 -- ---- tiles

@@ -1,5 +1,5 @@
 -- What is to come of operations and the steps behind them.
-use Rattle.std.specs.Prelude.{Option, Some, None, ◌||◌, ◌-◌, is_some, Bool, true, false, if◌then◌else◌, All, map, flat_map}
+use Rattle.std.specs.Prelude.{Option, Some, None, ◌||◌, ◌-◌, is_some, Bool, true, false, flat_map}
 use Rattle.std.specs.List.{list_any}
 use Rattle.std.proofs.Common.{◌≡◌, ℕ, List, [], ◌∷◌, ◌++◌, refl, sym, ap, ◌∙◌, inl, inr}
 use Rattle.std.proofs.lemmas.Bool.{or_right, cases_Bool, cond-true, cond-false}
@@ -24,7 +24,7 @@ use Rattle.nc_rules.specs.declared.steps.Turn.{Turn}
 use Rattle.nc_rules.specs.Plans.{hart_step, op_steps, turning, ending}
 use Rattle.nc_rows.specs.Ahead.{ends, posts, is_full, op_coming, coming}
 use Rattle.nc_rows.proofs.Steps.{next}
-use Rattle.nc_row_plans.proofs.LendingPlans.{is_plain, Are, are_append, are_flat}
+use Rattle.nc_row_plans.proofs.LendingPlans.{is_plain, Are, are_flat}
 use Rattle.nc_flat_starts.proofs.Pieces.{Move, stored}
 
 -- ---- operations

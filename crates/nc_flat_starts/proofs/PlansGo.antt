@@ -1,8 +1,8 @@
 -- The plans of a lot go through: what each of their steps is for, at their start.
-use Rattle.std.specs.Prelude.{Option, Some, None, ◌&&◌, ◌||◌, ◌==◌, ◌/◌, Bool, true, false, if◌then◌else◌, All, map, flat_map, slice_get}
+use Rattle.std.specs.Prelude.{Some, ◌&&◌, ◌||◌, ◌==◌, ◌/◌, Bool, true, false, if◌then◌else◌, All, map, flat_map, slice_get}
 use Rattle.std.specs.List.{list_any}
-use Rattle.std.proofs.Common.{◌≡◌, ◌≢◌, ◌⊎◌, ℕ, suc, ◌+◌, ◌<◌, ◌≤◌, List, [], ◌∷◌, ◌++◌, refl, sym, ap, ◌∙◌, inl, inr, subst, arith}
-use Rattle.std.proofs.lemmas.Bool.{cases_Bool, both_ways, and_from, eq-eqb, or_left, or_right, or_from, false_from_ne_true, cond-true, cond-false}
+use Rattle.std.proofs.Common.{◌≡◌, ◌≢◌, ◌⊎◌, ℕ, suc, ◌<◌, List, [], ◌∷◌, ◌++◌, refl, sym, ap, ◌∙◌, inl, inr, subst, arith}
+use Rattle.std.proofs.lemmas.Bool.{both_ways, and_from, eq-eqb, or_left, or_right, or_from, false_from_ne_true, cond-true, cond-false}
 use Rattle.std.proofs.lemmas.List.{append-nil}
 use Rattle.std.proofs.lemmas.List.Elements.{All-nil, All-cons, All-head, All-tail}
 use Rattle.std.proofs.lemmas.List.Folds.{list_any-append, flat_map-map}
@@ -22,8 +22,7 @@ use Rattle.nc_queue.specs.declared.entry.Entry.TheVariants as entries
 use Rattle.nc_lines.specs.Lines.{gives_at}
 use Rattle.nc_model.proofs.Faults.{covers-from}
 use Rattle.nc_plan.specs.Parts.{is_bounced, comes_back}
-use Rattle.nc_plan.specs.Plans.{In, full, moved, copies, copy_piece, copied_in, copied_back, written_back, dropped, returning, lend_op, return_op, blocks, cbo, cbos}
-use Rattle.nc_plan.specs.declared.effects.Effects.{Effects}
+use Rattle.nc_plan.specs.Plans.{In, full, copies, copied_in, copied_back, written_back, dropped, returning, lend_op, return_op, blocks, cbo, cbos}
 use Rattle.nc_plan.specs.declared.ops.HartOp.{HartOp}
 use Rattle.nc_plan.specs.declared.ops.HartOp.TheVariants as hart
 use Rattle.nc_plan.specs.declared.ops.Payload.TheVariants.{Last}
@@ -38,20 +37,19 @@ use Rattle.nc_rules.specs.declared.steps.Step.{Step}
 use Rattle.nc_rules.specs.declared.steps.Turn.{Turn}
 use Rattle.nc_rules.specs.declared.steps.Turn.TheVariants as turns
 use Rattle.nc_rules.specs.Lots.{Fixed, parts}
-use Rattle.nc_rules.specs.Plans.{hart_step, op_steps, turning, ending, carried, token_steps, lending_end, lend_steps, return_steps}
-use Rattle.nc_rules.specs.Turns.{lots_after}
+use Rattle.nc_rules.specs.Plans.{hart_step, op_steps, turning, ending, carried, token_steps, lend_steps, return_steps}
 use Rattle.nc_calls.specs.PlaceLaws.{drops_copies}
 use Rattle.nc_scripts.proofs.Lists.{all_in, all_to}
-use Rattle.nc_holds.specs.Held.{SharesNone, IsEntryOf}
-use Rattle.nc_holds.proofs.ListsA.{of_map, of_flat_map, all_at, get_at}
-use Rattle.nc_rows.specs.Ahead.{turns_lot, gives_lot, ends, posts, is_full, op_coming, step_coming, token, coming}
+use Rattle.nc_holds.specs.Held.{SharesNone}
+use Rattle.nc_holds.proofs.ListsA.{of_map, of_flat_map, get_at}
+use Rattle.nc_rows.specs.Ahead.{turns_lot, gives_lot, ends, posts, is_full, op_coming, token, coming}
 use Rattle.nc_rows.specs.Parts.{rest_last}
 use Rattle.nc_rows.proofs.Steps.{next, last}
 use Rattle.nc_row_plans.specs.Plans.{WritesBack, DropsBlocks}
-use Rattle.nc_row_plans.proofs.LendingPlans.{is_plain, Are, are_append}
-use Rattle.nc_flatness.specs.Plans.{IsInHand, IsStill, HasFull, HasByte, LoadsFirst, IsBack, GoesIn, ComesOut, IsCopied, StepGoes, Loads, Stores, WritesBack as WritesBackGoes, Drops, Gives, Fences, Ends, PlanGoes, device_of}
-use Rattle.nc_flat_starts.proofs.Pieces.{Move, stored, piece_of, moves_of, IsMove, MovesApart, AreCutApart, AllCutApart, CutsEven, moves_are, moves_apart, move_at, pairs_apart}
-use Rattle.nc_flat_starts.proofs.PlanComes.{ops_of, ends_behind, silent_ops, comes_ops, full_behind, unfenced_ops, copies_are, copies_give, ending_last, steps_append, append_steps}
+use Rattle.nc_row_plans.proofs.LendingPlans.{is_plain, Are}
+use Rattle.nc_flatness.specs.Plans.{IsInHand, HasFull, HasByte, LoadsFirst, IsBack, GoesIn, ComesOut, Loads, Stores, WritesBack as WritesBackGoes, Drops, Gives, Fences, Ends, PlanGoes, device_of}
+use Rattle.nc_flat_starts.proofs.Pieces.{Move, stored, piece_of, moves_of, IsMove, MovesApart, AreCutApart, CutsEven, moves_are, moves_apart, move_at, pairs_apart}
+use Rattle.nc_flat_starts.proofs.PlanComes.{ops_of, ends_behind, silent_ops, comes_ops, full_behind, copies_are, copies_give, ending_last, steps_append, append_steps}
 use Rattle.nc_flat_starts.proofs.Sides.{IsSingly, given_still, back_still}
 
 -- ---- what the plans of a lot need of it

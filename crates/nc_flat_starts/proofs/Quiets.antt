@@ -1,7 +1,6 @@
 -- A call with which a plan neither begins nor is left: nothing changes its owner, or a lot that is synced ends.
-use Rattle.std.specs.Prelude.{Option, Some, None, All, Bool, true, false, slice_get, option_map}
-use Rattle.std.specs.List.{list_any}
-use Rattle.std.proofs.Common.{◌≡◌, ◌≢◌, ◌⊎◌, ℕ, ◌<◌, List, [], ◌∷◌, length, refl, sym, ap, ◌∙◌, inl, inr, subst, arith}
+use Rattle.std.specs.Prelude.{Option, Some, None, All, true, false, slice_get, option_map}
+use Rattle.std.proofs.Common.{◌≡◌, ℕ, ◌<◌, List, [], length, refl, sym, ap, ◌∙◌, subst, arith}
 use Rattle.std.proofs.lemmas.Bool.{both_ways, cond-false}
 use Rattle.nc_num.specs.Places.{covers}
 use Rattle.nc_num.specs.declared.names.Dir.TheVariants.{Both}
@@ -18,10 +17,9 @@ use Rattle.nc_scen.specs.declared.scenario.Scenario.{Scenario}
 use Rattle.nc_sg.specs.declared.list.Entry.{Entry}
 use Rattle.nc_rules.specs.declared.lots.Kind.TheVariants.{Single}
 use Rattle.nc_rules.specs.declared.lots.Lot.{Lot}
-use Rattle.nc_rules.specs.declared.lots.Side.{Side}
 use Rattle.nc_rules.specs.declared.lots.Side.TheVariants as sides
 use Rattle.nc_rules.specs.declared.steps.Step.{Step}
-use Rattle.nc_rules.specs.Lots.{Fixed, lot_id, is_lot, is_wanted, map_id, owner_of_side}
+use Rattle.nc_rules.specs.Lots.{lot_id, is_lot, map_id, owner_of_side}
 use Rattle.nc_rules.specs.Machine.{MachineState, hart_of, queue_of}
 use Rattle.nc_rules.specs.Turns.{last_owner, of_those, to_end}
 use Rattle.nc_rules.specs.Driver.{DriverState, Went, over, with_lots}
@@ -44,8 +42,8 @@ use Rattle.nc_flatness.specs.Plans.{IsStill}
 use Rattle.nc_flatness.proofs.Outcomes.{gone}
 use Rattle.nc_flatness.proofs.Owned.{mapped, owned_ram}
 use Rattle.nc_flat_starts.proofs.Bases.{IsBase, me_of, no_area, base_mapping, base_beside}
-use Rattle.nc_flat_starts.proofs.Frames.{IsPlace, IsOff, IsSomewhere, On, Off, somewhere, IsRestful, StaysAside, goes_still, loan_aside, last_none, turn_bytes}
-use Rattle.nc_flat_starts.proofs.Lots.{loan_in, other_without}
+use Rattle.nc_flat_starts.proofs.Frames.{IsPlace, IsOff, On, Off, somewhere, IsRestful, StaysAside, goes_still, loan_aside, last_none, turn_bytes}
+use Rattle.nc_flat_starts.proofs.Lots.{other_without}
 use Rattle.nc_flat_starts.proofs.Opens.{queue_idle, no_areas, driven, still_rest, seen_aside, base_owner, base_others}
 use Rattle.nc_flat_starts.proofs.Sides.{without_lot, without_all}
 

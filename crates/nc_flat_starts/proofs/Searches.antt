@@ -1,11 +1,9 @@
 -- A search for slots: a word that is got or missed.
 use Rattle.std.specs.Prelude.{Option, Some, None, All, Result, Ok, Err, ◌||◌, ◌+◌, nat_lt, Bool, true, false, if◌then◌else◌, slice_set, option_map}
-use Rattle.std.specs.List.{list_any}
-use Rattle.std.proofs.Common.{◌≡◌, ◌⊎◌, ℕ, ◌<◌, List, [], ◌∷◌, ◌++◌, length, refl, sym, ap, ◌∙◌, inl, inr, subst, arith}
+use Rattle.std.proofs.Common.{◌≡◌, ℕ, ◌<◌, List, [], ◌∷◌, length, refl, sym, ap, ◌∙◌, inl, inr, subst}
 use Rattle.std.proofs.lemmas.Bool.{cases_Bool, both_ways, cond-true, cond-false}
 use Rattle.std.proofs.lemmas.List.Elements.{All-nil, All-cons, All-head, All-tail}
 use Rattle.nc_num.specs.declared.names.HartNo.{HartNo}
-use Rattle.nc_num.specs.declared.names.MapId.{MapId}
 use Rattle.nc_plan.specs.Plans.{In}
 use Rattle.nc_slots.specs.SlotWords.{holder_of}
 use Rattle.nc_ops.specs.declared.ops.Op.{Op}
@@ -21,7 +19,7 @@ use Rattle.nc_rules.specs.declared.steps.Next.TheVariants as nexts
 use Rattle.nc_rules.specs.declared.steps.Phase.{Phase}
 use Rattle.nc_rules.specs.declared.steps.Phase.TheVariants.{Steps, Search, Work}
 use Rattle.nc_rules.specs.declared.steps.Step.{Step}
-use Rattle.nc_rules.specs.Lots.{Fixed, is_wanted, lot_waits, some_lot_waits, with_slot, slot_given}
+use Rattle.nc_rules.specs.Lots.{is_wanted, lot_waits, some_lot_waits, with_slot, slot_given}
 use Rattle.nc_rules.specs.Operations.{has_start, step_at}
 use Rattle.nc_rules.specs.Driver.{DriverState, Went, in_hand, next_of, next_of_op, next_in, next_act, next_rest, next_step, searched, searching, stays, searches, give_up, told, told_of, told_in, told_word}
 use Rattle.nc_rules.specs.World.{WorldState, driver_of}
@@ -35,7 +33,7 @@ use Rattle.nc_holds.proofs.EventFrom.{everyone_from}
 use Rattle.nc_holds.proofs.EventHart.{change_stays}
 use Rattle.nc_holds.proofs.ListsA.{all_at}
 use Rattle.nc_holds.proofs.OwnerGiven.{owner_laws}
-use Rattle.nc_flatness.specs.Books.{loan_by, loan_of}
+use Rattle.nc_flatness.specs.Books.{loan_by}
 use Rattle.nc_flatness.specs.Covered.{is_lending}
 use Rattle.nc_flatness.specs.Flatness.{IsMapping, IsStillOrWanted, makes_kind, IsStillOrMade, StandsAt, BytesStand, Flatness}
 use Rattle.nc_flatness.proofs.Outcomes.{gone}

@@ -1,5 +1,5 @@
 -- The lots of a hart behind a turn of one of them.
-use Rattle.std.specs.Prelude.{All, Some, not, true, false, filter}
+use Rattle.std.specs.Prelude.{All, not, true, false, filter}
 use Rattle.std.proofs.Common.{◌≡◌, List, [], ◌∷◌, refl, sym, ap, ◌∙◌, inl, inr, subst}
 use Rattle.std.proofs.lemmas.Bool.{cases_Bool, both_ways, cond-true, cond-false, not_from_true, not_from_false}
 use Rattle.std.proofs.lemmas.List.Elements.{All-nil, All-cons, All-head, All-tail}
@@ -11,7 +11,7 @@ use Rattle.nc_rules.specs.declared.lots.Side.{Side}
 use Rattle.nc_rules.specs.declared.lots.Side.TheVariants as sides
 use Rattle.nc_rules.specs.declared.steps.Turn.{Turn}
 use Rattle.nc_rules.specs.declared.steps.Turn.TheVariants as turns
-use Rattle.nc_rules.specs.Lots.{Fixed, is_lot}
+use Rattle.nc_rules.specs.Lots.{is_lot}
 use Rattle.nc_rules.specs.Turns.{with_side, set_side, lots_after}
 use Rattle.nc_scripts.proofs.LotLaws.{its_name}
 use Rattle.nc_flatness.specs.Plans.{IsStill, IsInHand, IsBack}

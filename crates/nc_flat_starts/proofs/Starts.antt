@@ -1,8 +1,7 @@
 -- The start of an operation that maps, unmaps or syncs: flat memory's bytes stand behind it.
-use Rattle.std.specs.Prelude.{Option, Some, None, All, Result, Ok, Err, ◌==◌, not, Bool, true, false, if◌then◌else◌, option_map, flat_map}
-use Rattle.std.specs.List.{list_any, find}
+use Rattle.std.specs.Prelude.{Option, Some, All, Result, Ok, Err, ◌==◌, true, false, if◌then◌else◌, option_map, flat_map}
 use Rattle.std.proofs.Common.{◌≡◌, ◌⊎◌, ℕ, ◌<◌, List, [], ◌∷◌, ◌++◌, length, refl, sym, ap, ◌∙◌, inl, inr, subst, arith}
-use Rattle.std.proofs.lemmas.Bool.{cond-true, cond-false, and_parts, both_ways}
+use Rattle.std.proofs.lemmas.Bool.{cond-true, cond-false, and_parts}
 use Rattle.std.proofs.lemmas.List.{append-nil}
 use Rattle.std.proofs.lemmas.List.Folds.{list_any_none}
 use Rattle.std.proofs.lemmas.List.Elements.{All-nil, All-cons, All-append}
@@ -10,8 +9,6 @@ use Rattle.nc_num.specs.declared.names.ChanNo.{ChanNo}
 use Rattle.nc_num.specs.declared.names.Dir.{Dir}
 use Rattle.nc_num.specs.declared.names.HartNo.{HartNo}
 use Rattle.nc_num.specs.declared.names.Label.{Label}
-use Rattle.nc_num.specs.declared.names.MapId.{MapId}
-use Rattle.nc_num.specs.declared.places.Span.{Span}
 use Rattle.nc_plan.specs.Plans.{In}
 use Rattle.nc_plan.proofs.PlanLaws.{in_left}
 use Rattle.nc_model.specs.declared.owners.Owner.{Owner}
@@ -20,14 +17,11 @@ use Rattle.nc_ops.specs.declared.ops.Op.{Op}
 use Rattle.nc_ops.specs.declared.ops.Op.TheVariants as ops
 use Rattle.nc_ops.specs.declared.ops.SgEntry.{SgEntry}
 use Rattle.nc_scen.specs.declared.scenario.Scenario.{Scenario}
-use Rattle.nc_sg.specs.declared.list.Entry.{Entry}
 use Rattle.nc_rules.specs.declared.answers.Refusal.{Refusal}
 use Rattle.nc_rules.specs.declared.answers.Refusal.TheVariants as refusals
 use Rattle.nc_rules.specs.declared.lots.Kind.{Kind}
 use Rattle.nc_rules.specs.declared.lots.Kind.TheVariants as kinds
 use Rattle.nc_rules.specs.declared.lots.Lot.{Lot}
-use Rattle.nc_rules.specs.declared.lots.LotId.{LotId}
-use Rattle.nc_rules.specs.declared.lots.Side.{Side}
 use Rattle.nc_rules.specs.declared.lots.Side.TheVariants as sides
 use Rattle.nc_rules.specs.declared.steps.Phase.{Phase}
 use Rattle.nc_rules.specs.declared.steps.Phase.TheVariants.{Steps}
@@ -35,45 +29,42 @@ use Rattle.nc_rules.specs.declared.steps.Step.{Step}
 use Rattle.nc_rules.specs.declared.steps.Turn.{Turn}
 use Rattle.nc_rules.specs.declared.steps.Turn.TheVariants as turns
 use Rattle.nc_rules.specs.Lots.{Fixed, lot_id, lot_named, is_lot, is_named, is_labelled, is_synced, is_wanted, same_kind, lot_waits, some_lot_waits, slots_held, ranges_lot}
-use Rattle.nc_rules.specs.Refusals.{◌>>=◌, wanted, some_or, all_some, ranges_of, unused, named, owned_from, lendable, placeable}
+use Rattle.nc_rules.specs.Refusals.{◌>>=◌, wanted, all_some, ranges_of, unused, named, owned_from, lendable, placeable}
 use Rattle.nc_rules.specs.Plans.{lend_steps, return_steps, ending}
 use Rattle.nc_rules.specs.Mappings as mappings
 use Rattle.nc_rules.specs.Mappings.{with_lot, needs_lot, unmap_turn, unmap_steps, to_cpu_turn, to_cpu_steps, to_dev_turn, to_dev_steps}
 use Rattle.nc_rules.specs.ScatterLists as lists
 use Rattle.nc_rules.specs.ScatterLists.{some_entries, unmap_sg_begin, unmap_sg_turn, unmap_sg_steps}
 use Rattle.nc_rules.specs.Operations.{meaning, has_start, begin, opening, plan_of, step_at}
-use Rattle.nc_rules.specs.Turns.{set_side, of_those, to_side}
-use Rattle.nc_rules.specs.Driver.{DriverState, Went, in_hand, stays, searches, with_lots, opened, placed, begun, give_up, started, started_of, refused_step, steps_done, over}
+use Rattle.nc_rules.specs.Driver.{DriverState, Went, in_hand, stays, searches, with_lots, opened, placed, begun, started, started_of, refused_step, steps_done}
 use Rattle.nc_rules.specs.World.{WorldState, driver_of}
-use Rattle.nc_scripts.specs.Drivers.{IsLotIn, IsSettled, AreMade, IsPhase, made_names}
+use Rattle.nc_scripts.specs.Drivers.{IsSettled, AreMade, IsPhase}
 use Rattle.nc_scripts.proofs.DriverSteps.{passed}
 use Rattle.nc_scripts.proofs.EveryDriver.{in_hand_is}
 use Rattle.nc_scripts.proofs.Lists.{all_in, all_to, found}
-use Rattle.nc_scripts.proofs.NewLots.{AreNew, ranges_begin, behind_ranges, behind_test, sg_none, some_is, placeable_is, new_is}
+use Rattle.nc_scripts.proofs.NewLots.{ranges_begin, behind_ranges, behind_test, sg_none, some_is, placeable_is, new_is}
 use Rattle.nc_holds.specs.Changes.{Made, MayMake}
-use Rattle.nc_holds.specs.Held.{IsEntryOf}
 use Rattle.nc_holds.specs.Holds.{held_of, DriverHolds}
 use Rattle.nc_holds.specs.Rests.{RestAt}
 use Rattle.nc_holds.proofs.CallNew.{NewIs, Plain, OneArea, new_lots}
 use Rattle.nc_holds.proofs.EventFrom.{everyone_from}
 use Rattle.nc_holds.proofs.EventHart.{change_stays}
 use Rattle.nc_holds.proofs.ListsA.{all_at}
-use Rattle.nc_holds.proofs.OwnerFacts.{IsMaking, NoAreas}
+use Rattle.nc_holds.proofs.OwnerFacts.{NoAreas}
 use Rattle.nc_holds.proofs.OwnerGiven.{owner_laws}
-use Rattle.nc_flatness.specs.Books.{loan_by, loan_of, book_of}
-use Rattle.nc_flatness.specs.Covered.{IsCovered, may_lend, is_lending}
+use Rattle.nc_flatness.specs.Books.{loan_by, loan_of}
+use Rattle.nc_flatness.specs.Covered.{is_lending}
 use Rattle.nc_flatness.specs.Flatness.{is_mapping, IsMapping, IsStillOrWanted, makes_kind, IsStillOrMade, StandsAt, Drives, BytesStand, Flatness}
 use Rattle.nc_flatness.specs.Plans.{IsStill, IsBack}
 use Rattle.nc_flatness.proofs.Loans.{entry_loan}
 use Rattle.nc_flatness.proofs.Outcomes.{gone}
-use Rattle.nc_flat_starts.proofs.Bases.{IsBase, no_area, label_one}
-use Rattle.nc_flat_starts.proofs.Calls.{wanted_side, IsCall, call_base, gives_bytes, search_bytes, IsOpened, opened_so, Makes, OneMap, ListMap, placed_bytes}
+use Rattle.nc_flat_starts.proofs.Bases.{IsBase}
+use Rattle.nc_flat_starts.proofs.Calls.{wanted_side, IsCall, call_base, gives_bytes, opened_so, Makes, OneMap, ListMap, placed_bytes}
 use Rattle.nc_flat_starts.proofs.Lendings.{lending_starts}
-use Rattle.nc_flat_starts.proofs.Lots.{loan_in, loan_for, more_wanted}
+use Rattle.nc_flat_starts.proofs.Lots.{more_wanted}
 use Rattle.nc_flat_starts.proofs.OpenRows.{AreKnown, lend_opens, return_opens}
 use Rattle.nc_flat_starts.proofs.Opens.{opens_bytes}
-use Rattle.nc_flat_starts.proofs.Quiets.{IsQuiet, quiet_bytes, end_bytes}
-use Rattle.nc_flat_starts.proofs.Sides.{Others}
+use Rattle.nc_flat_starts.proofs.Quiets.{quiet_bytes, end_bytes}
 
 -- ---- a driver at steps
 
