@@ -9,7 +9,7 @@ use Rattle.nc_flat.proofs.Dispatch.{each_goes}
 use Rattle.nc_flat.proofs.Runs.{event_goes, latest_of, flat_of, kept_of}
 
 goes_always : EachGoes
-goes_always = each_goes moves_go_law scripts.steps_go starts.starts_go plans.plan_steps
+goes_always = each_goes moves_go_law scripts.steps_go starts.starts_go plans.plans_go
 
 pub event_always : EachEventIsFlat
 event_always sc f w e a c flat there = event_goes sc f w e goes_always a c flat there

@@ -12,9 +12,9 @@ use Rattle.nc_queue.specs.Entries.{entry_gives}
 use Rattle.nc_queue.specs.declared.entry.Entry.{Entry}
 use Rattle.nc_queue.specs.declared.entry.Entry.TheVariants.{Store, Cbo, Reg, Mail, Lend, Mark}
 use Rattle.nc_lines.specs.Lines.{bare}
+use Rattle.nc_hart.specs.HartState.{HartState}
 use Rattle.nc_model.specs.declared.owners.Owner.{Owner}
 use Rattle.nc_model.specs.declared.owners.Owner.TheVariants.{Thread, Passing, Lending, Device, Returning, Synced, Pool}
-use Rattle.nc_hart.specs.HartState.{HartState}
 use Rattle.nc_scen.specs.Regions.{slots_of}
 use Rattle.nc_scen.specs.declared.scenario.Scenario.{Scenario}
 use Rattle.nc_rules.specs.Machine.{MachineState, no_hart, hart_of, queue_of}

@@ -14,6 +14,8 @@ use Rattle.nc_num.specs.declared.places.Span.{Span}
 use Rattle.nc_num.proofs.Blocks.{inside}
 use Rattle.nc_env.specs.declared.CboOp.TheVariants as cbos
 use Rattle.nc_queue.specs.declared.entry.Entry.TheVariants as entries
+use Rattle.nc_plan.specs.Parts.{comes_back}
+use Rattle.nc_plan.specs.Plans.{In}
 use Rattle.nc_model.proofs.Faults.{covers-from, covers-high}
 use Rattle.nc_model.proofs.TouchLaws.{piece_passed, rights_passed, type_passed, hart_uses}
 use Rattle.nc_model.specs.Laws.{HartUses}
@@ -22,7 +24,8 @@ use Rattle.nc_model.specs.declared.owners.Access.{Access}
 use Rattle.nc_model.specs.declared.owners.Access.TheVariants.{Write}
 use Rattle.nc_model.specs.declared.owners.Owner.{Owner}
 use Rattle.nc_model.specs.declared.owners.Owner.TheVariants.{Thread, Passing, Lending, Device, Returning, Synced, Pool}
-use Rattle.nc_plan.specs.Plans.{In}
+use Rattle.nc_own.specs.Books.{owner_in}
+use Rattle.nc_scen.specs.Regions.{slots_of}
 use Rattle.nc_scen.specs.declared.scenario.Scenario.{Scenario}
 use Rattle.nc_rules.specs.declared.lots.Lot.{Lot}
 use Rattle.nc_rules.specs.Lots.{owner_of_side}
@@ -30,9 +33,6 @@ use Rattle.nc_rules.specs.Sound.{IsPieceIn, IsBlockIn}
 use Rattle.nc_rules.specs.Watched.{owner_of}
 use Rattle.nc_rules.specs.World.{WorldState, driver_of}
 use Rattle.nc_holds.proofs.ListsA.{all_at}
-use Rattle.nc_plan.specs.Parts.{comes_back}
-use Rattle.nc_own.specs.Books.{owner_in}
-use Rattle.nc_scen.specs.Regions.{slots_of}
 use Rattle.nc_rows.specs.Laws.{seen_at}
 use Rattle.nc_rows.specs.Rows.{Loan, device_place}
 use Rattle.nc_row_issues.specs.Laws.{IsOwn, IsSyncedOf}
