@@ -1,0 +1,5 @@
+pub mod Answers
+pub mod Calls
+pub mod Outcomes
+pub mod RefusalLaws
+pub mod FenceLaws

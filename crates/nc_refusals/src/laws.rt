@@ -1,0 +1,16 @@
+//! What a refused operation leaves as it was.
+
+ghost use Rattle.nc_refusals.specs.Laws.{FencesEmptyQueues, RefusalsLeaveAll};
+
+/// The event that refuses an operation changes no byte, cache, queue, box or channel, and no owner, grant or page. It gives
+/// back the slots of the lots that the operation made, which are gone; of a claim it is the same, where the channel was
+/// found granted. It is so in every world.
+pub fn refusals_leave_all()
+    ensures { RefusalsLeaveAll }
+{}
+
+/// Behind a fence of all four kinds on both sides the queue of its hart has no entry of class W or O. It is so in every
+/// world.
+pub fn fences_empty_queues()
+    ensures { FencesEmptyQueues }
+{}
