@@ -1,12 +1,19 @@
 //! What a refused operation leaves as it was.
 
-ghost use Rattle.nc_refusals.specs.Laws.{FencesEmptyQueues, RefusalsLeaveAll};
+ghost use Rattle.nc_refusals.specs.Laws.{RefusalsLeaveAll, EarlierEventsLeaveAll, FencesEmptyQueues};
 
 /// The event that refuses an operation changes no byte, cache, queue, box or channel, and no owner, grant or page. It gives
 /// back the slots of the lots that the operation made, which are gone; of a claim it is the same, where the channel was
 /// found granted. It is so in every world.
 pub fn refusals_leave_all()
     ensures { RefusalsLeaveAll }
+{}
+
+/// Before a refusal: each event of the hart with the refused operation in hand changes nothing but that it may take one
+/// free slot word, or makes a step of an operation by number, and that step alone. What other events do in between is not
+/// spoken of.
+pub fn earlier_events_leave_all()
+    ensures { EarlierEventsLeaveAll }
 {}
 
 /// Behind a fence of all four kinds on both sides the queue of its hart has no entry of class W or O. It is so in every
