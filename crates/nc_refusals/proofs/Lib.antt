@@ -6,4 +6,6 @@ pub mod FenceLaws
 pub mod Heads
 pub mod Numbers
 pub mod Quiet
+pub mod Grows
+pub mod Behind
 pub mod EarlierLaws

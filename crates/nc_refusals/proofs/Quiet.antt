@@ -195,6 +195,7 @@ pub record IsNumberDone (d : DriverState) (next : Next) (went : Went) : Type 0 w
   pub next_is : next ≡ next_act step.act
   pub after : went.driver.phase ≡ Steps (n + 1)
   pub moves : went.moves ≡ moved [] None
+  pub lots : went.driver.lots ≡ d.lots
 
 both_none : (f : Fixed) (lots : List Lot) (t u : Turn) → t ≡ turns.Stay → u ≡ turns.Stay → turned f lots t u None ≡ moved [] None
 unfolding turned_by
@@ -204,14 +205,18 @@ both_none f lots t u e k = ap (λ x. turned f lots x u None) e ∙ ap (λ x. tur
 record GoesOn (d : DriverState) (n : ℕ) (went : Went) : Type 0 where
   after : went.driver.phase ≡ Steps n
   moves : went.moves ≡ moved [] None
+  lots : went.driver.lots ≡ d.lots
+
+lots_none : (lots : List Lot) (t u : Turn) → t ≡ turns.Stay → u ≡ turns.Stay → lots_after_both t u lots ≡ lots
+lots_none lots t u e k = ap (λ x. lots_after_both x u lots) e ∙ ap (λ x. lots_after x lots) k
 
 no_end : (s : Step) (r next : Result (Option Step) Refusal) → (s.last ≡ turns.Stay) ⊎ (next ≡ Ok None) → (next ≡ Ok None → ⊥) → s.last ≡ turns.Stay
 no_end s r next (inl e) some = e
 no_end s r next (inr e) some = absurd (some e)
 
 stepped_quiet : (d : DriverState) (o : Op) (n : ℕ) (saw : Seen) (s : Step) (next : Result (Option Step) Refusal) → s.first ≡ turns.Stay → (s.last ≡ turns.Stay) ⊎ (next ≡ Ok None) → (stepped d o n saw (Ok (Some s)) next).driver.op ≡ d.op → GoesOn d n (stepped d o n saw (Ok (Some s)) next)
-stepped_quiet d o n saw s (Err r) first last same = record { after = refl; moves = both_none d.fixed d.lots s.first s.last first (no_end s (Err r) (Err r) last (λ e. absurd (cc))) }
-stepped_quiet d o n saw s (Ok (Some t)) first last same = record { after = refl; moves = both_none d.fixed d.lots s.first s.last first (no_end s (Ok (Some t)) (Ok (Some t)) last (λ e. absurd (cc))) }
+stepped_quiet d o n saw s (Err r) first last same = record { after = refl; moves = both_none d.fixed d.lots s.first s.last first (no_end s (Err r) (Err r) last (λ e. absurd (cc))); lots = lots_none d.lots s.first s.last first (no_end s (Err r) (Err r) last (λ e. absurd (cc))) }
+stepped_quiet d o n saw s (Ok (Some t)) first last same = record { after = refl; moves = both_none d.fixed d.lots s.first s.last first (no_end s (Ok (Some t)) (Ok (Some t)) last (λ e. absurd (cc))); lots = lots_none d.lots s.first s.last first (no_end s (Ok (Some t)) (Ok (Some t)) last (λ e. absurd (cc))) }
 stepped_quiet d o n saw s (Ok None) first last same = absurd (one_more_not d.op same)
 
 next_number : (d : DriverState) (o : Op) (n : ℕ) (s : Step) (a : Act) (r : Result (Option Step) Refusal) (t : Bool) → r ≡ Ok (Some s) → (if t then nexts.Start else next_step r) ≡ next_act a → (t ≡ false) × (next_act s.act ≡ next_act a)
@@ -245,6 +250,7 @@ number_done d o saw n a here p at same =
       next_is = sym k.1;
       after = ap (λ (x : Went). x.driver.phase) is ∙ on.after;
       moves = ap (λ (x : Went). x.moves) is ∙ on.moves;
+      lots = ap (λ (x : Went). x.driver.lots) is ∙ on.lots;
     }
 
 claims_not : {X : Type 0} (rest : List Step) → ClaimsNothing rest → begins_claim rest ≡ true → X
