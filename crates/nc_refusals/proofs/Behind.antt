@@ -1,6 +1,6 @@
 -- The driver of a hart behind any event: as it was, or behind one of its calls.
-use Rattle.std.proofs.Common.{◌≡◌, ℕ, ◌<◌, ◌≤◌, Bool, true, false, List, [], length, refl, sym, ap, ◌∙◌, subst, arith, inl, inr, Option, Some, None}
-use Rattle.std.specs.Prelude.{◌⊎◌, ◌≢◌, slice_set}
+use Rattle.std.proofs.Common.{◌≡◌, ℕ, ◌<◌, ◌≤◌, Bool, true, false, List, length, refl, sym, ap, ◌∙◌, subst, arith, inl, inr, Option, Some, None}
+use Rattle.std.specs.Prelude.{slice_set}
 use Rattle.std.proofs.lemmas.Bool.{cases_eq}
 use Rattle.std.proofs.lemmas.List.{get_or-set_same, get_or-set_other}
 use Rattle.nc_num.specs.declared.names.HartNo.{HartNo}
@@ -15,14 +15,13 @@ use Rattle.nc_scen.specs.declared.scenario.Scenario.{Scenario}
 use Rattle.nc_rules.specs.declared.steps.Act.{Act}
 use Rattle.nc_rules.specs.declared.steps.Next.TheVariants as nexts
 use Rattle.nc_rules.specs.declared.steps.Phase.{Phase}
-use Rattle.nc_rules.specs.declared.steps.Phase.TheVariants.{Steps}
 use Rattle.nc_rules.specs.declared.steps.Seen.{Seen}
 use Rattle.nc_rules.specs.Lots.{lot_id}
 use Rattle.nc_rules.specs.Calls.{leaving}
 use Rattle.nc_rules.specs.Driver.{DriverState, next_of, next_act, searching, started, told, done, lent}
 use Rattle.nc_rules.specs.Events.{enabled}
 use Rattle.nc_rules.specs.Next.{touched_by, after_outcome, counted, next}
-use Rattle.nc_rules.specs.Outcomes.{Outcome, goes, leaves, drain_outcome, outcome}
+use Rattle.nc_rules.specs.Outcomes.{Outcome, drain_outcome, outcome}
 use Rattle.nc_rules.specs.World.{WorldState, no_driver, driver_of, with_moves}
 use Rattle.nc_scripts.specs.Drivers.{IsPhase, IsLentAt}
 use Rattle.nc_holds.specs.Holds.{Holds}

@@ -1,5 +1,5 @@
 -- Which calls of a driver refuse its operation, and what they change then: nothing, but that slots are given back.
-use Rattle.std.proofs.Common.{◌≡◌, ℕ, ◌+◌, Bool, true, false, List, [], ◌∷◌, ◌++◌, refl, sym, ap, ◌∙◌, subst, Option, Some, None, Result, Ok, Err}
+use Rattle.std.proofs.Common.{◌≡◌, ℕ, ◌+◌, Bool, true, false, List, [], ◌∷◌, ◌++◌, refl, sym, ◌∙◌, subst, Option, Some, None, Result, Ok, Err}
 use Rattle.std.specs.Prelude.{if◌then◌else◌, nat_lt}
 use Rattle.std.proofs.lemmas.Bool.{false≢true}
 use Rattle.nc_num.specs.declared.names.HartNo.{HartNo}
@@ -14,12 +14,11 @@ use Rattle.nc_rules.specs.declared.steps.Phase.TheVariants.{Steps, Search, Work}
 use Rattle.nc_rules.specs.declared.steps.Seen.{Seen}
 use Rattle.nc_rules.specs.declared.steps.Seen.TheVariants as seen
 use Rattle.nc_rules.specs.declared.steps.Step.{Step}
-use Rattle.nc_rules.specs.declared.steps.Turn.TheVariants as turns
-use Rattle.nc_rules.specs.Lots.{Fixed, some_lot_waits, slot_given}
-use Rattle.nc_rules.specs.Turns.{lots_after, lots_after_both, turned_by, turned}
-use Rattle.nc_rules.specs.Operations.{has_start, step_at, begin, opening, plan_of, good_answer, bad_answer}
-use Rattle.nc_rules.specs.Driver.{DriverState, Went, in_hand, stays, give_up, answered, opened, searches, placed, with_lots, begun, refused_step, steps_done, started, started_of, started_op, missed, told, told_of, told_in, told_word, kept, busy, step_answer, stepped, worked, done, done_of, done_unless, done_in, lent}
-use Rattle.nc_refusals.specs.Refused.{is_refusal, refuses}
+use Rattle.nc_rules.specs.Lots.{some_lot_waits, slot_given}
+use Rattle.nc_rules.specs.Turns.{turned_by}
+use Rattle.nc_rules.specs.Operations.{has_start, step_at, begin, plan_of}
+use Rattle.nc_rules.specs.Driver.{DriverState, Went, in_hand, stays, give_up, answered, opened, searches, placed, with_lots, begun, refused_step, steps_done, started, started_of, told, told_of, told_in, told_word, kept, busy, step_answer, stepped, worked, done, done_of, done_unless, done_in}
+use Rattle.nc_refusals.specs.Refused.{refuses}
 use Rattle.nc_refusals.proofs.Answers.{good_is}
 
 -- ---- a call that gives up

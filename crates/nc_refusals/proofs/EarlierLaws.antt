@@ -1,13 +1,12 @@
 -- Before a refusal each event of its hart leaves all as it was, or makes one step of an operation by number.
-use Rattle.std.proofs.Common.{◌≡◌, ℕ, ◌+◌, ◌<◌, ◌≤◌, Bool, true, false, List, [], ◌∷◌, ◌++◌, length, refl, sym, ap, ◌∙◌, subst, arith, inl, inr, Option, Some, None}
-use Rattle.std.specs.Prelude.{◌⊎◌, All, ◌≢◌, slice_set}
-use Rattle.std.proofs.lemmas.Bool.{false≢true, cases_eq, cases_lt}
+use Rattle.std.proofs.Common.{◌≡◌, ℕ, ◌<◌, ◌≤◌, Bool, true, false, List, [], ◌∷◌, length, refl, sym, ap, ◌∙◌, subst, arith, inl, inr, Option, Some, None}
+use Rattle.std.specs.Prelude.{◌⊎◌, slice_set}
+use Rattle.std.proofs.lemmas.Bool.{cases_eq, cases_lt}
 use Rattle.std.proofs.lemmas.List.{get_or-set_same, get_or-set_other, get_or_past, length-set}
 use Rattle.std.proofs.lemmas.List.Elements.{All-head, All-tail}
 use Rattle.nc_num.specs.declared.names.HartNo.{HartNo}
 use Rattle.nc_model.specs.declared.touches.Touch.{Touch}
-use Rattle.nc_slots.specs.SlotWords.{holder_of, tried_at}
-use Rattle.nc_scen.specs.Accepted.{IsAccepted}
+use Rattle.nc_slots.specs.SlotWords.{holder_of}
 use Rattle.nc_scen.specs.Events.{IsThere}
 use Rattle.nc_scen.specs.declared.events.Event.{Event}
 use Rattle.nc_scen.specs.declared.events.Event.TheVariants as events
@@ -17,7 +16,6 @@ use Rattle.nc_rules.specs.declared.steps.Act.{Act}
 use Rattle.nc_rules.specs.declared.steps.Act.TheVariants as acts
 use Rattle.nc_rules.specs.declared.steps.Next.{Next}
 use Rattle.nc_rules.specs.declared.steps.Next.TheVariants as nexts
-use Rattle.nc_rules.specs.declared.steps.Phase.{Phase}
 use Rattle.nc_rules.specs.declared.steps.Seen.{Seen}
 use Rattle.nc_rules.specs.declared.steps.Seen.TheVariants as seen
 use Rattle.nc_rules.specs.Machine.{MachineState}
@@ -32,16 +30,15 @@ use Rattle.nc_rules.specs.Run.{after}
 use Rattle.nc_rules.specs.World.{WorldState, driver_of, with_moves, start}
 use Rattle.nc_scripts.specs.Drivers.{IsPhase}
 use Rattle.nc_scripts.proofs.Lists.{all_left, all_right}
-use Rattle.nc_holds.specs.Holds.{DriverHolds}
 use Rattle.nc_holds.proofs.EventHolds.{next_is, next_same}
 use Rattle.nc_flatness.specs.Flatness.{IsWorldOf}
 use Rattle.nc_flatness.proofs.Worlds.{worlds_start, worlds_stay}
-use Rattle.nc_refusals.specs.Refused.{refuses, maker, acted, Refuses, IsLeft, IsTakenFree, IsLeftButWords, IsOneStep}
-use Rattle.nc_refusals.specs.Laws.{IsBeforeRefusal, EarlierEventsLeaveAll}
-use Rattle.nc_refusals.proofs.Calls.{start_up, told_up, done_up}
+use Rattle.nc_refusals.specs.Refused.{refuses, maker, acted, Refuses, IsTakenFree, IsLeftButWords, IsOneStep}
+use Rattle.nc_refusals.specs.Laws.{EarlierEventsLeaveAll}
+use Rattle.nc_refusals.proofs.Calls.{done_up}
 use Rattle.nc_refusals.proofs.Outcomes.{Words, Free, Missed, SeesSo, Made, Starts, Hears, Acts, made}
 use Rattle.nc_refusals.proofs.Quiet.{IsOpen, IsNumberDone, start_open, search_open, claim_open, start_quiet, told_quiet, done_quiet}
-use Rattle.nc_refusals.proofs.Behind.{mine, driver_now, drivers_in, behind, grows, open_back}
+use Rattle.nc_refusals.proofs.Behind.{mine, driver_now, behind, grows, open_back}
 
 -- ---- runs
 
@@ -220,7 +217,7 @@ event_if w e h false off lt phase by =
 
 -- ---- the law
 
-maker_there : (sc : Scenario) (e : Event) (h : HartNo) → maker e ≡ Some h → IsThere (length sc.harts) sc.block_size sc.ram e → h.0 < length sc.harts
+pub maker_there : (sc : Scenario) (e : Event) (h : HartNo) → maker e ≡ Some h → IsThere (length sc.harts) sc.block_size sc.ram e → h.0 < length sc.harts
 maker_there sc (events.Issue g) h e there = let same : g ≡ h = cc in subst (λ (x : HartNo). x.0 < length sc.harts) same there
 maker_there sc (events.Try g) h e there = let same : g ≡ h = cc in subst (λ (x : HartNo). x.0 < length sc.harts) same there
 maker_there sc (events.Told g got) h e there = let same : g ≡ h = cc in subst (λ (x : HartNo). x.0 < length sc.harts) same there

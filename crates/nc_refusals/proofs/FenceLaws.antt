@@ -1,9 +1,8 @@
 -- A fence of all kinds on both sides is issued only where no write and no output is queued, and puts no entry.
-use Rattle.std.proofs.Common.{◌≡◌, ℕ, ◌<◌, ◌≤◌, Bool, true, false, List, [], ◌∷◌, length, refl, sym, ap, ◌∙◌, subst, arith, inl, inr, Option, Some, None}
-use Rattle.std.specs.Prelude.{All, ◌⊎◌, ◌&&◌, ◌||◌, not, if◌then◌else◌, slice_set, slice_index_or}
-use Rattle.std.specs.List.{list_any}
+use Rattle.std.proofs.Common.{◌≡◌, ℕ, ◌<◌, ◌≤◌, Bool, true, false, List, length, refl, sym, ap, ◌∙◌, subst, arith, inl, inr, Option, Some, None}
+use Rattle.std.specs.Prelude.{◌⊎◌, ◌&&◌, ◌||◌, not, slice_set}
 use Rattle.std.proofs.lemmas.Bool.{false≢true, and_parts, cases_lt}
-use Rattle.std.proofs.lemmas.List.{get_or-set_same, get_or-set_other, length-set, get_or_past}
+use Rattle.std.proofs.lemmas.List.{get_or-set_same, length-set, get_or_past}
 use Rattle.nc_num.specs.declared.names.HartNo.{HartNo}
 use Rattle.nc_model.specs.declared.touches.Touch.{Touch}
 use Rattle.nc_queue.specs.declared.entry.Entry.{Entry}
@@ -13,17 +12,16 @@ use Rattle.nc_hart.specs.HartState.{HartState}
 use Rattle.nc_hart.specs.Issue.{can_issue, has_room, fence_clear, load_clear, issued}
 use Rattle.nc_plan.specs.declared.ops.HartOp.{HartOp}
 use Rattle.nc_plan.specs.declared.ops.HartOp.TheVariants as hart
-use Rattle.nc_scen.specs.declared.events.Event.{Event}
 use Rattle.nc_scen.specs.declared.events.Event.TheVariants as events
 use Rattle.nc_scripts.proofs.Lists.{all_to, none_any}
 use Rattle.nc_rules.specs.declared.steps.Next.{Next}
 use Rattle.nc_rules.specs.declared.steps.Next.TheVariants as nexts
 use Rattle.nc_rules.specs.Machine.{MachineState, no_hart, hart_of, queue_of, with_hart}
-use Rattle.nc_rules.specs.Calls.{may_issue, issue_next, issue_answer}
-use Rattle.nc_rules.specs.Driver.{next_of, waits_for, done, is_script}
+use Rattle.nc_rules.specs.Calls.{may_issue, issue_next}
+use Rattle.nc_rules.specs.Driver.{next_of, waits_for}
 use Rattle.nc_rules.specs.Events.{enabled, may_go_on, is_out}
 use Rattle.nc_rules.specs.Next.{touched_by, after_outcome, counted, next}
-use Rattle.nc_rules.specs.Outcomes.{Outcome, outcome, step_outcome, op_outcome, seen_of}
+use Rattle.nc_rules.specs.Outcomes.{Outcome, outcome, step_outcome, op_outcome}
 use Rattle.nc_rules.specs.World.{WorldState, driver_of}
 use Rattle.nc_holds.proofs.EventHolds.{next_is}
 use Rattle.nc_refusals.specs.Refused.{HasNoneOfWO}

@@ -1,5 +1,5 @@
 -- No call takes a driver back to an earlier operation.
-use Rattle.std.proofs.Common.{◌≡◌, ℕ, ◌+◌, ◌≤◌, Bool, true, false, List, [], ◌∷◌, ◌++◌, arith, Option, Some, None, Result, Ok, Err}
+use Rattle.std.proofs.Common.{ℕ, ◌+◌, ◌≤◌, Bool, true, false, List, [], ◌∷◌, ◌++◌, arith, Option, Some, None, Result, Ok, Err}
 use Rattle.std.specs.Prelude.{if◌then◌else◌, nat_lt}
 use Rattle.nc_model.specs.declared.owners.Owner.{Owner}
 use Rattle.nc_coherent.specs.Pages.{PageMap}
@@ -10,12 +10,11 @@ use Rattle.nc_rules.specs.declared.lots.Lot.{Lot}
 use Rattle.nc_rules.specs.declared.steps.Phase.{Phase}
 use Rattle.nc_rules.specs.declared.steps.Phase.TheVariants.{Steps, Search, Work}
 use Rattle.nc_rules.specs.declared.steps.Seen.{Seen}
-use Rattle.nc_rules.specs.declared.steps.Seen.TheVariants as seen
 use Rattle.nc_rules.specs.declared.steps.Step.{Step}
 use Rattle.nc_rules.specs.Lots.{some_lot_waits, slot_given}
 use Rattle.nc_rules.specs.Turns.{lots_after, lots_after_both}
 use Rattle.nc_rules.specs.Operations.{has_start, step_at, begin, opening, plan_of}
-use Rattle.nc_rules.specs.Driver.{DriverState, Went, in_hand, stays, give_up, went_to, opened, searches, placed, with_lots, begun, refused_step, steps_done, started, started_of, told, told_of, told_in, told_word, kept, busy, stepped_to, stepped, worked, done, done_of, done_unless, done_in}
+use Rattle.nc_rules.specs.Driver.{DriverState, in_hand, stays, give_up, went_to, opened, searches, placed, with_lots, begun, refused_step, steps_done, started, started_of, told, told_of, told_in, told_word, kept, busy, stepped_to, stepped, worked, done, done_of, done_unless, done_in}
 
 abbrev Grows : DriverState → DriverState → Type 0
 Grows d e = d.op ≤ e.op

@@ -9,3 +9,5 @@ pub mod Quiet
 pub mod Grows
 pub mod Behind
 pub mod EarlierLaws
+pub mod KeptSlots
+pub mod WordLaws

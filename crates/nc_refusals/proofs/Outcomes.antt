@@ -1,14 +1,12 @@
 -- What each event is by which a hart's driver goes on: the call that is made, the machine and the slot words behind it.
-use Rattle.std.proofs.Common.{◌≡◌, ℕ, Bool, true, false, List, [], refl, sym, ap, ◌∙◌, subst, Option, Some, None}
+use Rattle.std.proofs.Common.{◌≡◌, ℕ, Bool, true, false, List, [], refl, ap, subst, Option, Some, None}
 use Rattle.std.specs.Prelude.{is_none, is_some}
 use Rattle.std.proofs.lemmas.Bool.{false≢true, and_parts}
 use Rattle.nc_num.specs.declared.names.ChanNo.{ChanNo}
 use Rattle.nc_num.specs.declared.names.HartNo.{HartNo}
 use Rattle.nc_plan.specs.declared.ops.HartOp.{HartOp}
-use Rattle.nc_queue.specs.declared.entry.Entry.{Entry}
-use Rattle.nc_queue.specs.declared.entry.Entry.TheVariants as entries
 use Rattle.nc_model.specs.declared.touches.Touch.{Touch}
-use Rattle.nc_slots.specs.SlotWords.{holder_of, tried, tried_at}
+use Rattle.nc_slots.specs.SlotWords.{holder_of, tried_at}
 use Rattle.nc_scen.specs.declared.events.Event.{Event}
 use Rattle.nc_scen.specs.declared.events.Event.TheVariants as events
 use Rattle.nc_rules.specs.declared.answers.Issued.{Issued}
@@ -21,10 +19,10 @@ use Rattle.nc_rules.specs.declared.steps.Next.TheVariants as nexts
 use Rattle.nc_rules.specs.declared.steps.Seen.{Seen}
 use Rattle.nc_rules.specs.declared.steps.Seen.TheVariants as seen
 use Rattle.nc_rules.specs.Machine.{MachineState, grantee_of}
-use Rattle.nc_rules.specs.Calls.{issue_answer, leaving, drain_next, control_of, claim_next, claimed_by}
-use Rattle.nc_rules.specs.Driver.{Went, next_of, next_act, searching, is_script, started, told, done, lent, waits_for}
+use Rattle.nc_rules.specs.Calls.{issue_answer, control_of, claim_next, claimed_by}
+use Rattle.nc_rules.specs.Driver.{next_of, next_act, searching, is_script, started, told, done, waits_for}
 use Rattle.nc_rules.specs.Events.{enabled, may_go_on, is_out}
-use Rattle.nc_rules.specs.Outcomes.{Outcome, goes, runs, seen_of, claim_seen, start_outcome, op_outcome, claim_outcome, poll_outcome, take_outcome, step_outcome, try_outcome, got_word, told_slots, told_outcome, at_word, leaves, drain_outcome, outcome}
+use Rattle.nc_rules.specs.Outcomes.{Outcome, goes, seen_of, claim_seen, start_outcome, op_outcome, claim_outcome, poll_outcome, take_outcome, step_outcome, try_outcome, told_outcome, at_word, outcome}
 use Rattle.nc_rules.specs.Records.{op_records, try_records, told_records}
 use Rattle.nc_rules.specs.Watched.{issue_touch, poll_touch}
 use Rattle.nc_rules.specs.World.{WorldState, driver_of}

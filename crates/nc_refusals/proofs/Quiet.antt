@@ -1,15 +1,12 @@
 -- The calls of a driver by which an operation goes on that may still be refused: they move nothing.
-use Rattle.std.proofs.Common.{◌≡◌, ℕ, suc, ◌+◌, ◌<◌, ◌≤◌, Bool, true, false, List, [], ◌∷◌, ◌++◌, length, refl, sym, ap, ◌∙◌, subst, arith, inl, inr, Option, Some, None, Result, Ok, Err}
-use Rattle.std.specs.Prelude.{◌⊎◌, All, if◌then◌else◌, nat_lt}
+use Rattle.std.proofs.Common.{◌≡◌, ℕ, ◌+◌, ◌<◌, Bool, true, false, List, [], ◌∷◌, ◌++◌, length, refl, sym, ap, ◌∙◌, subst, arith, inl, inr, Option, Some, None, Result, Ok, Err}
+use Rattle.std.specs.Prelude.{◌⊎◌, if◌then◌else◌, nat_lt}
 use Rattle.std.proofs.lemmas.Bool.{false≢true}
 use Rattle.std.proofs.lemmas.List.Elements.{All-head}
-use Rattle.nc_num.specs.declared.names.HartNo.{HartNo}
 use Rattle.nc_num.specs.declared.names.ChanNo.{ChanNo}
-use Rattle.nc_num.specs.declared.names.Label.{Label}
 use Rattle.nc_model.specs.declared.owners.Owner.{Owner}
 use Rattle.nc_coherent.specs.Pages.{PageMap}
 use Rattle.nc_ops.specs.declared.ops.Op.{Op}
-use Rattle.nc_rules.specs.declared.answers.Answer.{Answer}
 use Rattle.nc_rules.specs.declared.answers.Refusal.{Refusal}
 use Rattle.nc_rules.specs.declared.answers.Refusal.TheVariants as refusals
 use Rattle.nc_rules.specs.declared.lots.Lot.{Lot}
@@ -24,11 +21,11 @@ use Rattle.nc_rules.specs.declared.steps.Seen.TheVariants as seen
 use Rattle.nc_rules.specs.declared.steps.Step.{Step}
 use Rattle.nc_rules.specs.declared.steps.Turn.{Turn}
 use Rattle.nc_rules.specs.declared.steps.Turn.TheVariants as turns
-use Rattle.nc_rules.specs.Lots.{Fixed, lot_id, some_lot_waits, slot_given}
-use Rattle.nc_rules.specs.Turns.{Moved, moved, lots_after, lots_after_both, turned_by, turned, without_wanted}
-use Rattle.nc_rules.specs.Operations.{has_start, step_at, begin, opening, plan_of, good_answer, bad_answer}
-use Rattle.nc_rules.specs.Driver.{DriverState, Went, in_hand, next_of, next_of_op, next_in, next_act, next_step, next_rest, searched, searching, over, stands, stays, give_up, went_to, answered, opened, searches, placed, with_lots, begun, refused_step, steps_done, started, started_of, started_op, missed, told, told_of, told_in, told_word, kept, busy, stepped_to, step_answer, stepped, worked, done, done_of, done_unless, done_in, lent}
-use Rattle.nc_scripts.specs.Drivers.{IsDriver, IsPhase, IsAtWork, ClaimsNothing, ClaimsFirst, is_claim}
+use Rattle.nc_rules.specs.Lots.{Fixed, some_lot_waits, slot_given}
+use Rattle.nc_rules.specs.Turns.{moved, lots_after, lots_after_both, turned_by, turned}
+use Rattle.nc_rules.specs.Operations.{has_start, step_at, begin, opening, plan_of}
+use Rattle.nc_rules.specs.Driver.{DriverState, Went, in_hand, next_of, next_of_op, next_in, next_act, next_step, next_rest, searched, searching, stays, give_up, went_to, answered, opened, searches, placed, with_lots, begun, refused_step, steps_done, started, started_of, told, told_of, told_in, told_word, kept, busy, stepped, worked, done, done_of, done_unless, done_in}
+use Rattle.nc_scripts.specs.Drivers.{IsPhase, ClaimsNothing, ClaimsFirst, is_claim}
 use Rattle.nc_scripts.proofs.DriverLaws.{next_step_is}
 use Rattle.nc_scripts.specs.Scripts.{is_act}
 use Rattle.nc_holds.proofs.CallNumbers.{step_turns}
@@ -65,7 +62,7 @@ act_claims (acts.Claim c) chan e = refl
 act_claims (acts.Poll c) chan e = absurd (cc)
 act_claims (acts.Take buf) chan e = absurd (cc)
 
-rest_not_start : (rest : List Step) → 0 < length rest → next_rest rest ≡ nexts.Start → ⊥
+pub rest_not_start : (rest : List Step) → 0 < length rest → next_rest rest ≡ nexts.Start → ⊥
 rest_not_start [] lt e = absurd (omega arith)
 rest_not_start (s ∷ rest) lt e = act_not_start s.act e
 
@@ -118,7 +115,7 @@ claim_open d chan e = claim_by d (in_hand d) chan e
 
 -- ---- starts
 
-one_more_not : (n : ℕ) → n + 1 ≡ n → ⊥
+pub one_more_not : (n : ℕ) → n + 1 ≡ n → ⊥
 one_more_not n e = absurd (omega (arith, e))
 
 no_turn : (f : Fixed) (lots : List Lot) (t : Turn) → t ≡ turns.Stay → turned f lots t turns.Stay None ≡ moved [] None

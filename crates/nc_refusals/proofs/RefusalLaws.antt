@@ -1,21 +1,20 @@
 -- A refusing event leaves all as it was, but that slots are given back.
-use Rattle.std.proofs.Common.{◌≡◌, ℕ, Bool, true, false, List, [], refl, sym, ap, ◌∙◌, subst, Option, Some, None}
+use Rattle.std.proofs.Common.{◌≡◌, ℕ, Bool, true, false, List, refl, sym, ◌∙◌, subst, Option, Some, None}
 use Rattle.std.specs.Prelude.{slice_set}
 use Rattle.std.proofs.lemmas.Bool.{false≢true}
 use Rattle.nc_num.specs.declared.names.HartNo.{HartNo}
 use Rattle.nc_model.specs.declared.touches.Touch.{Touch}
-use Rattle.nc_scen.specs.declared.events.Event.{Event}
 use Rattle.nc_rules.specs.declared.records.Record.{Record}
 use Rattle.nc_rules.specs.declared.steps.Act.{Act}
 use Rattle.nc_rules.specs.declared.steps.Seen.{Seen}
 use Rattle.nc_rules.specs.declared.steps.Seen.TheVariants as seen
 use Rattle.nc_rules.specs.Machine.{MachineState}
 use Rattle.nc_rules.specs.Driver.{Went, give_up, started, told, done}
-use Rattle.nc_rules.specs.Next.{touched_by, after_outcome, counted, next}
+use Rattle.nc_rules.specs.Next.{touched_by, after_outcome, counted}
 use Rattle.nc_rules.specs.Outcomes.{Outcome, goes, outcome}
 use Rattle.nc_rules.specs.World.{WorldState, driver_of, with_moves}
 use Rattle.nc_holds.proofs.EventHolds.{next_is}
-use Rattle.nc_refusals.specs.Refused.{refuses, acted, maker, Refuses, IsLeft}
+use Rattle.nc_refusals.specs.Refused.{refuses, acted}
 use Rattle.nc_refusals.specs.Laws.{LeavesAll, RefusalsLeaveAll}
 use Rattle.nc_refusals.proofs.Calls.{GivesUp, start_up, told_up, done_up}
 use Rattle.nc_refusals.proofs.Outcomes.{Words, Free, Missed, SeesSo, Made, Starts, Hears, Acts, made}

@@ -1,5 +1,5 @@
 -- The laws of refused operations and of full fences, as statements.
-use Rattle.std.specs.Prelude.{ℕ, ◌≡◌, ◌+◌, ◌⊎◌, true, List, [], ◌∷◌, ◌++◌, Some, slice_set}
+use Rattle.std.specs.Prelude.{ℕ, ◌≡◌, ◌⊎◌, true, List, [], ◌∷◌, ◌++◌, Some, slice_set}
 use Rattle.nc_num.specs.declared.names.HartNo.{HartNo}
 use Rattle.nc_slots.specs.SlotWords.{holder_of}
 use Rattle.nc_plan.specs.declared.ops.HartOp.TheVariants as hart
@@ -44,7 +44,7 @@ EarlierEventsLeaveAll =
 
 -- an operation that begins behind these events, and is refused by a later one
 pub record IsRefusedOf (sc : Scenario) (before between : List Event) (f : Event) (h : HartNo) : Type 0 where
-  pub there : AreThere sc (before ++ between ++ f ∷ [])
+  pub there : AreThere sc (before ++ (between ++ f ∷ []))
   pub begins : (driver_of (after (start sc) before) h.0).phase ≡ Steps 0
   pub same : (driver_of (after (after (start sc) before) between) h.0).op ≡ (driver_of (after (start sc) before) h.0).op
   pub refused : Refuses (after (after (start sc) before) between) f h

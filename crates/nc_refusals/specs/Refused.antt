@@ -16,7 +16,7 @@ use Rattle.nc_rules.specs.declared.steps.Step.{Step}
 use Rattle.nc_rules.specs.Machine.{MachineState}
 use Rattle.nc_rules.specs.Calls.{issue_next, claim_next, take_next}
 use Rattle.nc_rules.specs.Operations.{has_start, step_at}
-use Rattle.nc_rules.specs.Driver.{DriverState, in_hand}
+use Rattle.nc_rules.specs.Driver.{in_hand}
 use Rattle.nc_rules.specs.Events.{enabled}
 use Rattle.nc_rules.specs.Outcomes.{outcome}
 use Rattle.nc_rules.specs.World.{WorldState, driver_of}

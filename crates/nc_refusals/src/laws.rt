@@ -1,6 +1,6 @@
 //! What a refused operation leaves as it was.
 
-ghost use Rattle.nc_refusals.specs.Laws.{RefusalsLeaveAll, EarlierEventsLeaveAll, FencesEmptyQueues};
+ghost use Rattle.nc_refusals.specs.Laws.{RefusalsLeaveAll, EarlierEventsLeaveAll, WordsAreGivenBack, FencesEmptyQueues};
 
 /// The event that refuses an operation changes no byte, cache, queue, box or channel, and no owner, grant or page. It gives
 /// back the slots of the lots that the operation made, which are gone; of a claim it is the same, where the channel was
@@ -14,6 +14,11 @@ pub fn refusals_leave_all()
 /// spoken of.
 pub fn earlier_events_leave_all()
     ensures { EarlierEventsLeaveAll }
+{}
+
+/// Behind a refusal the hart holds exactly the slot words that it held as the operation began.
+pub fn words_are_given_back()
+    ensures { WordsAreGivenBack }
 {}
 
 /// Behind a fence of all four kinds on both sides the queue of its hart has no entry of class W or O. It is so in every

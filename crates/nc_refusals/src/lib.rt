@@ -8,4 +8,6 @@
 
 mod laws;
 
-pub use laws::{earlier_events_leave_all, fences_empty_queues, refusals_leave_all};
+pub use laws::{
+    earlier_events_leave_all, fences_empty_queues, refusals_leave_all, words_are_given_back,
+};
