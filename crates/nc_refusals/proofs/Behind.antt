@@ -60,7 +60,7 @@ driver_now w o h = ap (λ (ds : List DriverState). drivers_in w ds h) (drivers_n
 pub mine : (w : WorldState) (h : ℕ) (d : DriverState) → h < length w.drivers → drivers_in w (slice_set w.drivers h d) h ≡ d
 mine w h d lt = get_or-set_same w.drivers h d no_driver lt
 
-same_hart : (g h : HartNo) → g.0 ≡ h.0 → g ≡ h
+pub same_hart : (g h : HartNo) → g.0 ≡ h.0 → g ≡ h
 same_hart g h e = λ i. record { 0 = e i }
 
 -- another's is not

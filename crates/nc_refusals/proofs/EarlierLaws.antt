@@ -173,7 +173,7 @@ step_of w v h act went n d k = record {
 }
 
 -- the driver behind a call of its hart
-call_driver : (w : WorldState) (h : HartNo) (machine : MachineState) (went : Went) (now : List (Option HartNo)) (touch : Option Touch) (records : List Record) → h.0 < length w.drivers → driver_of (counted (after_outcome w (goes w h machine went now touch records))) h.0 ≡ went.driver
+pub call_driver : (w : WorldState) (h : HartNo) (machine : MachineState) (went : Went) (now : List (Option HartNo)) (touch : Option Touch) (records : List Record) → h.0 < length w.drivers → driver_of (counted (after_outcome w (goes w h machine went now touch records))) h.0 ≡ went.driver
 call_driver w h machine went now touch records lt = driver_now w (goes w h machine went now touch records) h.0 ∙ mine w h.0 went.driver lt
 
 abbrev LeavesIf : WorldState → HartNo → WorldState → Type 0

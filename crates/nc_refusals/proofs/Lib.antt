@@ -11,3 +11,6 @@ pub mod Behind
 pub mod EarlierLaws
 pub mod KeptSlots
 pub mod WordLaws
+pub mod Answered
+pub mod EndLaws
+pub mod Returned

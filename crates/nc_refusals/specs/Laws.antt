@@ -1,5 +1,6 @@
--- The laws of refused operations and of full fences, as statements.
-use Rattle.std.specs.Prelude.{ℕ, ◌≡◌, ◌⊎◌, true, List, [], ◌∷◌, ◌++◌, Some, slice_set}
+-- The laws of refused operations, of copies that end and of full fences, as statements. This project's own, but for the
+-- fence (RISC-V, FENCE).
+use Rattle.std.specs.Prelude.{All, is_some, ℕ, ◌≡◌, ◌⊎◌, true, List, [], ◌∷◌, ◌++◌, Some, slice_set}
 use Rattle.nc_num.specs.declared.names.HartNo.{HartNo}
 use Rattle.nc_slots.specs.SlotWords.{holder_of}
 use Rattle.nc_plan.specs.declared.ops.HartOp.TheVariants as hart
@@ -7,6 +8,7 @@ use Rattle.nc_scen.specs.Accepted.{IsAccepted}
 use Rattle.nc_scen.specs.declared.events.Event.{Event}
 use Rattle.nc_scen.specs.declared.events.Event.TheVariants as events
 use Rattle.nc_scen.specs.declared.scenario.Scenario.{Scenario}
+use Rattle.nc_rules.specs.declared.lots.Lot.{Lot}
 use Rattle.nc_rules.specs.declared.steps.Next.TheVariants as nexts
 use Rattle.nc_rules.specs.declared.steps.Phase.TheVariants.{Steps}
 use Rattle.nc_rules.specs.Flat.{AreThere}
@@ -15,9 +17,12 @@ use Rattle.nc_rules.specs.Turns.{slots_wanted, without_wanted}
 use Rattle.nc_rules.specs.Driver.{next_of, over}
 use Rattle.nc_rules.specs.Events.{enabled}
 use Rattle.nc_rules.specs.Next.{next}
+use Rattle.nc_rules.specs.Outcomes.{outcome}
 use Rattle.nc_rules.specs.Run.{after}
 use Rattle.nc_rules.specs.World.{WorldState, driver_of, slots_back, start}
+use Rattle.nc_scripts.specs.Drivers.{IsEndName}
 use Rattle.nc_holds.specs.Held.{is_holder}
+use Rattle.nc_refusals.specs.Returned.{HasLentEnd, IsGone, IsReturned}
 use Rattle.nc_refusals.specs.Refused.{maker, Refuses, IsLeft, IsLeftButWords, IsOneStep, HasNoneOfWO}
 
 -- the refusing event: all is left, the slots of the lots that were not lent are given back, and these lots are gone
@@ -59,3 +64,15 @@ abbrev pub FencesEmptyQueues : Type 0
 FencesEmptyQueues =
     (w : WorldState) (h : HartNo) → enabled w (events.Issue h) ≡ true → next_of (driver_of w h.0) ≡ nexts.Op (hart.Fence 15 15)
     → HasNoneOfWO (queue_of (next w (events.Issue h)).machine h.0)
+
+-- an end of a copy that is lent leaves the lots of its hart only by an event that gives all of it back
+abbrev pub CopiesGiveBack : Type 0
+CopiesGiveBack =
+    (sc : Scenario) (before : List Event) (e : Event) (h : HartNo) (lot : Lot) → IsAccepted sc → AreThere sc (before ++ e ∷ []) → HasLentEnd (after (start sc) before) h lot → IsGone (next (after (start sc) before) e) h lot
+    → IsReturned (next (after (start sc) before) e) h lot
+
+-- where an operation is answered, be it that a copy failed, its hart has no end of a copy
+abbrev pub AnswersLeaveNoEnds : Type 0
+AnswersLeaveNoEnds =
+    (sc : Scenario) (before : List Event) (e : Event) (h : HartNo) → IsAccepted sc → AreThere sc (before ++ e ∷ []) → maker e ≡ Some h → enabled (after (start sc) before) e ≡ true → is_some (outcome (after (start sc) before) e).moves.answer ≡ true
+    → All (λ lot. IsEndName lot.id → ⊥) (driver_of (next (after (start sc) before) e) h.0).lots

@@ -1,6 +1,6 @@
 //! What a refused operation leaves as it was.
 
-ghost use Rattle.nc_refusals.specs.Laws.{RefusalsLeaveAll, EarlierEventsLeaveAll, WordsAreGivenBack, FencesEmptyQueues};
+ghost use Rattle.nc_refusals.specs.Laws.{RefusalsLeaveAll, EarlierEventsLeaveAll, WordsAreGivenBack, FencesEmptyQueues, AnswersLeaveNoEnds, CopiesGiveBack};
 
 /// The event that refuses an operation changes no byte, cache, queue, box or channel, and no owner, grant or page. It gives
 /// back the slots of the lots that the operation made, which are gone; of a claim it is the same, where the channel was
@@ -25,4 +25,16 @@ pub fn words_are_given_back()
 /// world.
 pub fn fences_empty_queues()
     ensures { FencesEmptyQueues }
+{}
+
+/// Where an operation is answered, be it that a copy failed, its hart has no end of a copy left.
+pub fn answers_leave_no_ends()
+    ensures { AnswersLeaveNoEnds }
+{}
+
+/// An end of a copy that is lent, or was, leaves the lots of its hart only by an event behind which each of its bytes is
+/// the hart's own, its grant is gone and its slot is free. So a copy that failed has given back both its ranges, though
+/// what its transfer wrote stands.
+pub fn copies_give_back()
+    ensures { CopiesGiveBack }
 {}
