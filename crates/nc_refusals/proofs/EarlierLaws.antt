@@ -1,12 +1,9 @@
 -- Before a refusal each event of its hart leaves all as it was, or makes one step of an operation by number.
 use Rattle.std.proofs.Common.{◌≡◌, ℕ, ◌<◌, ◌≤◌, Bool, true, false, List, [], ◌∷◌, length, refl, sym, ap, ◌∙◌, subst, arith, inl, inr, Option, Some, None}
 use Rattle.std.specs.Prelude.{◌⊎◌, slice_set}
-use Rattle.std.proofs.lemmas.Bool.{cases_eq, cases_lt}
-use Rattle.std.proofs.lemmas.List.{get_or-set_same, get_or-set_other, get_or_past, length-set}
 use Rattle.std.proofs.lemmas.List.Elements.{All-head, All-tail}
 use Rattle.nc_num.specs.declared.names.HartNo.{HartNo}
 use Rattle.nc_model.specs.declared.touches.Touch.{Touch}
-use Rattle.nc_slots.specs.SlotWords.{holder_of}
 use Rattle.nc_scen.specs.Events.{IsThere}
 use Rattle.nc_scen.specs.declared.events.Event.{Event}
 use Rattle.nc_scen.specs.declared.events.Event.TheVariants as events
@@ -33,7 +30,7 @@ use Rattle.nc_scripts.proofs.Lists.{all_left, all_right}
 use Rattle.nc_holds.proofs.EventHolds.{next_is, next_same}
 use Rattle.nc_flatness.specs.Flatness.{IsWorldOf}
 use Rattle.nc_flatness.proofs.Worlds.{worlds_start, worlds_stay}
-use Rattle.nc_refusals.specs.Refused.{refuses, maker, acted, Refuses, IsTakenFree, IsLeftButWords, IsOneStep}
+use Rattle.nc_refusals.specs.Refused.{refuses, maker, acted, Refuses, TakesOneWord, IsLeftButWord, IsOneStep}
 use Rattle.nc_refusals.specs.Laws.{EarlierEventsLeaveAll}
 use Rattle.nc_refusals.proofs.Calls.{done_up}
 use Rattle.nc_refusals.proofs.Outcomes.{Words, Free, Missed, SeesSo, Made, Starts, Hears, Acts, made}
@@ -114,27 +111,12 @@ goes_behaves w h machine went now touch records none =
     (subst (λ (m : Moved). Behaves w (with_moves (record w { machine = machine; drivers = slice_set w.drivers h.0 went.driver; slots = now }) m) machine now) (sym none)
     (record { machine_is = refl; owners = refl; grants = refl; slots = refl; pages = refl }))
 
-words_left : (w v : WorldState) (h : HartNo) → v.slots ≡ w.slots → (k : ℕ) → IsTakenFree h (holder_of w.slots k) (holder_of v.slots k)
-words_left w v h e k = inl (ap (λ (ws : List (Option HartNo)). holder_of ws k) e)
+left_if : (w v : WorldState) (h : HartNo) → Behaves w v w.machine w.slots → IsLeftButWord w v h
+left_if w v h k = record { left = record { machine = k.machine_is; owners = k.owners; grants = k.grants; pages = k.pages }; words = inl k.slots }
 
-left_if : (w v : WorldState) (h : HartNo) → Behaves w v w.machine w.slots → IsLeftButWords w v h
-left_if w v h k = record { left = record { machine = k.machine_is; owners = k.owners; grants = k.grants; pages = k.pages }; words = words_left w v h k.slots }
-
--- a word that is taken was free
-set_word : (ws : List (Option HartNo)) (h : HartNo) (k j : ℕ) → holder_of ws k ≡ None → IsTakenFree h (holder_of ws j) (holder_of (slice_set ws k (Some h)) j)
-set_word ws h k j free = elim (cases_eq j k) [
-  | inl e ↦ subst (λ (i : ℕ). IsTakenFree h (holder_of ws i) (holder_of (slice_set ws k (Some h)) i)) (sym e) (at (cases_lt k (length ws)))
-  | inr ne ↦ inl (get_or-set_other ws k j (Some h) None ne)
-]
-  where
-    at : (k < length ws) ⊎ (length ws ≤ k) → IsTakenFree h (holder_of ws k) (holder_of (slice_set ws k (Some h)) k)
-    at (inl lt) = inr (free, get_or-set_same ws k (Some h) None lt)
-    at (inr le) = inl (get_or_past (slice_set ws k (Some h)) k None (omega (arith, le, length-set ws k (Some h))) ∙ sym (get_or_past ws k None le))
-
-words_by : (w v : WorldState) (h : HartNo) (k : ℕ) (got : Bool) (now : List (Option HartNo)) → Words w h k got now → v.slots ≡ now → (j : ℕ) → IsTakenFree h (holder_of w.slots j) (holder_of v.slots j)
-words_by w v h k got now (Free free on e) is j =
-    subst (λ (ws : List (Option HartNo)). IsTakenFree h (holder_of w.slots j) (holder_of ws j)) (sym (is ∙ e)) (set_word w.slots h k j free)
-words_by w v h k got now (Missed off e) is j = words_left w v h (is ∙ e) j
+words_by : (w v : WorldState) (h : HartNo) (k : ℕ) (got : Bool) (now : List (Option HartNo)) → Words w h k got now → v.slots ≡ now → TakesOneWord w v h
+words_by w v h k got now (Free free on e) is = inr (k, free, is ∙ e)
+words_by w v h k got now (Missed off e) is = inl (is ∙ e)
 
 -- the machine behind an act, by what comes next
 abbrev acted_next : MachineState → HartNo → Next → MachineState
@@ -153,7 +135,7 @@ acted_so m h (acts.Poll chan) = refl
 acted_so m h (acts.Take buf) = refl
 
 abbrev Leaves : WorldState → HartNo → WorldState → Type 0
-Leaves w h v = IsLeftButWords w v h ⊎ IsOneStep w v h
+Leaves w h v = IsLeftButWord w v h ⊎ IsOneStep w v h
 
 step_of : (w v : WorldState) (h : HartNo) (act : Act) (went : Went) → IsNumberDone (driver_of w h.0) (next_act act) went → driver_of v h.0 ≡ went.driver → Behaves w v (acted w.machine h act) w.slots → IsOneStep w v h
 step_of w v h act went n d k = record {
@@ -213,7 +195,7 @@ event_if : (w : WorldState) (e : Event) (h : HartNo) (t : Bool) → enabled w e 
 event_if w e h true may lt phase by = subst (λ (v : WorldState). LeavesIf w h v) (sym (next_is w e may)) (made_leaves w h (outcome w e) lt phase (made w e h by may))
 event_if w e h false off lt phase by =
     subst (λ (v : WorldState). LeavesIf w h v) (sym (next_same w e off))
-    (λ same can. inl (record { left = record { machine = refl; owners = refl; grants = refl; pages = refl }; words = λ k. inl refl }))
+    (λ same can. inl (record { left = record { machine = refl; owners = refl; grants = refl; pages = refl }; words = inl refl }))
 
 -- ---- the law
 

@@ -23,7 +23,7 @@ use Rattle.nc_rules.specs.World.{WorldState, driver_of, slots_back, start}
 use Rattle.nc_scripts.specs.Drivers.{IsEndName}
 use Rattle.nc_holds.specs.Held.{is_holder}
 use Rattle.nc_refusals.specs.Returned.{HasLentEnd, IsGone, IsReturned}
-use Rattle.nc_refusals.specs.Refused.{maker, Refuses, IsLeft, IsLeftButWords, IsOneStep, HasNoneOfWO}
+use Rattle.nc_refusals.specs.Refused.{maker, Refuses, IsLeft, IsLeftButWord, IsOneStep, HasNoneOfWO}
 
 -- the refusing event: all is left, the slots of the lots that were not lent are given back, and these lots are gone
 pub record LeavesAll (w v : WorldState) (h : HartNo) : Type 0 where
@@ -45,7 +45,7 @@ pub record IsBeforeRefusal (sc : Scenario) (before between : List Event) (e f : 
 abbrev pub EarlierEventsLeaveAll : Type 0
 EarlierEventsLeaveAll =
     (sc : Scenario) (before between : List Event) (e f : Event) (h : HartNo) → IsAccepted sc → IsBeforeRefusal sc before between e f h
-    → IsLeftButWords (after (start sc) before) (next (after (start sc) before) e) h ⊎ IsOneStep (after (start sc) before) (next (after (start sc) before) e) h
+    → IsLeftButWord (after (start sc) before) (next (after (start sc) before) e) h ⊎ IsOneStep (after (start sc) before) (next (after (start sc) before) e) h
 
 -- an operation that begins behind these events, and is refused by a later one
 pub record IsRefusedOf (sc : Scenario) (before between : List Event) (f : Event) (h : HartNo) : Type 0 where

@@ -1,5 +1,5 @@
 -- When an event refuses the operation that its hart has in hand, and what an event leaves as it was. This project's own.
-use Rattle.std.specs.Prelude.{ℕ, ◌≡◌, ◌+◌, ◌⊎◌, Bool, true, false, Option, Some, None, Ok, List, All}
+use Rattle.std.specs.Prelude.{ℕ, ◌≡◌, ◌+◌, ◌⊎◌, Bool, true, false, Option, Some, None, Ok, List, All, slice_set}
 use Rattle.nc_num.specs.declared.names.HartNo.{HartNo}
 use Rattle.nc_queue.specs.declared.entry.Entry.{Entry}
 use Rattle.nc_queue.specs.Entries.{is_w, is_o}
@@ -59,14 +59,14 @@ pub record IsLeft (w v : WorldState) : Type 0 where
   pub grants : v.grants ≡ w.grants
   pub pages : v.pages ≡ w.pages
 
--- a slot word is as before, or hart h took it where it was free
-abbrev pub IsTakenFree : HartNo → Option HartNo → Option HartNo → Type 0
-IsTakenFree h was now = (now ≡ was) ⊎ ((was ≡ None) × (now ≡ Some h))
+-- the slot words are as before, or hart h took one that was free
+abbrev pub TakesOneWord : WorldState → WorldState → HartNo → Type 0
+TakesOneWord w v h = (v.slots ≡ w.slots) ⊎ ((k : ℕ) × (holder_of w.slots k ≡ None) × (v.slots ≡ slice_set w.slots k (Some h)))
 
--- all is left, but that hart h may have taken slot words that were free
-pub record IsLeftButWords (w v : WorldState) (h : HartNo) : Type 0 where
+-- all is left, but that hart h may have taken a slot word that was free
+pub record IsLeftButWord (w v : WorldState) (h : HartNo) : Type 0 where
   pub left : IsLeft w v
-  pub words : (k : ℕ) → IsTakenFree h (holder_of w.slots k) (holder_of v.slots k)
+  pub words : TakesOneWord w v h
 
 -- ---- a step of an operation by number
 

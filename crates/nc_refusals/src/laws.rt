@@ -3,8 +3,7 @@
 ghost use Rattle.nc_refusals.specs.Laws.{RefusalsLeaveAll, EarlierEventsLeaveAll, WordsAreGivenBack, FencesEmptyQueues, AnswersLeaveNoEnds, CopiesGiveBack};
 
 /// The event that refuses an operation changes no byte, cache, queue, box or channel, and no owner, grant or page. It gives
-/// back the slots of the lots that the operation made, which are gone; of a claim it is the same, where the channel was
-/// found granted. It is so in every world.
+/// back exactly the slots of the hart's lots that are not lent, which are gone. It is so of every operation, in every world.
 pub fn refusals_leave_all()
     ensures { RefusalsLeaveAll }
 {}
