@@ -1,0 +1,16 @@
+pub mod Answers
+pub mod Calls
+pub mod Outcomes
+pub mod RefusalLaws
+pub mod FenceLaws
+pub mod Heads
+pub mod Numbers
+pub mod Quiet
+pub mod Grows
+pub mod Behind
+pub mod EarlierLaws
+pub mod KeptSlots
+pub mod WordLaws
+pub mod Answered
+pub mod EndLaws
+pub mod Returned

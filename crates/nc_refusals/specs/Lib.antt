@@ -1,0 +1,3 @@
+pub mod Refused
+pub mod Returned
+pub mod Laws
