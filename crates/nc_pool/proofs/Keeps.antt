@@ -1,5 +1,5 @@
 -- One live seat's view changes, and the words with it.
-use Rattle.std.proofs.Common.{◌≡◌, ◌≢◌, ◌⊎◌, ℕ, zero, suc, ◌+◌, ◌<◌, true, false, List, [], ◌∷◌, length, set, refl, sym, ap, ◌∙◌, subst, ⊎_elim, arith}
+use Rattle.std.proofs.Common.{◌≡◌, ◌≢◌, ◌⊎◌, ℕ, zero, suc, ◌+◌, ◌<◌, true, false, List, [], ◌∷◌, length, set, refl, sym, ap, ◌∙◌, subst, ⊎_elim, arith, true≢false}
 use Rattle.std.specs.Prelude.{slice_index}
 use mathlib.Core.Option.{some, some-injective, some-ne-none}
 use mathlib.Core.Logic.{dite}
@@ -20,6 +20,10 @@ pub live_of_held : (v : PoolView) (k : ℕ) → has k (held_of v) ≡ true → i
 live_of_held (Root n) k h = h
 live_of_held (Live n held log) k h = refl
 live_of_held Gone k h = h
+
+-- the first view is the root's, and so another than a live seat's
+pub is_not_first : (views : List PoolView) (next id n : ℕ) (held : List ℕ) (log : List (ℕ × ℕ)) → get_elem? views 0 ≡ some (Root next) → get_elem? views id ≡ some (Live n held log) → 0 ≢ id
+is_not_first views next id n held log first at e = true≢false (sym (ap is_live (some-injective (Root next) (Live n held log) (sym first ∙ (ap (get_elem? views) e ∙ at)))))
 
 -- a view that was there, with the same number
 abbrev Was : List PoolView → ℕ → PoolView → Type 0
@@ -48,6 +52,7 @@ keeps slots seats words now views id n held held' log log' p at same first disti
       within = p.within;
       wide = same ∙ p.wide;
       zero = first;
+      first = set_else views id 0 w (is_not_first views p.next id n held log p.first at) ∙ p.first;
       fits = λ i v e. ⊎_elim
           (λ (t : (i ≡ id) × (w ≡ v)). subst (λ (y : ℕ × PoolView). Fits slots p.next now y.0 y.1) (λ x. (sym t.0 x, t.1 x)) ours)
           (λ (t : (i ≢ id) × (get_elem? views i ≡ some v)).

@@ -3,12 +3,13 @@ use Rattle.std.proofs.Common.{◌≡◌, ◌≢◌, ◌⊎◌, ℕ, zero, suc, �
 use mathlib.Core.Option.{some, some-injective, some-ne-none}
 use lib.ListN.{get_elem?}
 use Rattle.atomic_table.specs.Table.{Me, Splits, Joins}
-use Rattle.atomic_table.proofs.Lists.{at_set, at_longer, set_else, set_again}
+use Rattle.atomic_table.proofs.Lists.{at_set, at_longer, set_here, set_else, set_again}
 use Rattle.nc_pool.specs.declared.view.PoolView.{PoolView}
 use Rattle.nc_pool.specs.declared.view.PoolView.TheVariants.{Root, Live, Gone}
 use Rattle.nc_pool.specs.declared.view.PoolKey.{PoolKey}
 use Rattle.nc_pool.specs.Views.{has, held_of, number_of, is_live, after_seat, new_seat}
 use Rattle.nc_pool.specs.Rules.{Fits, IsPool, Holds}
+use Rattle.nc_pool.proofs.Keeps.{at_below, is_not_first}
 
 at_end : {A : Type 0} (l : List A) (a b : A) (j : ℕ) → get_elem? (l ++ a ∷ []) j ≡ some b → (get_elem? l j ≡ some b) ⊎ ((j ≡ length l) × (a ≡ b))
 at_end [] a b zero e = inr (refl, some-injective a b e)
@@ -45,6 +46,8 @@ seated slots seats words views id n p at lt =
       within = omega arith;
       wide = p.wide;
       zero = p.zero;
+      first = subst (λ (j : ℕ). get_elem? (set views id (Root (n + 1)) ++ Live n [] [] ∷ []) j ≡ some (Root (n + 1))) r.0
+          (at_longer (set views id (Root (n + 1))) (Live n [] [] ∷ []) id (Root (n + 1)) (set_here views id (Root (n + 1)) (at_below views id (Root n) at)));
       fits = λ i v e. ⊎_elim
           (λ (o : get_elem? (set views id (Root (n + 1))) i ≡ some v).
           ⊎_elim
@@ -99,6 +102,7 @@ ended slots seats words views other m log p at =
       within = p.within;
       wide = p.wide;
       zero = p.zero;
+      first = set_else views other 0 Gone (is_not_first views p.next other m [] log p.first at) ∙ p.first;
       fits = λ i v e. ⊎_elim
           (λ (t : (i ≡ other) × (Gone ≡ v)). subst (Fits slots p.next words i) t.1 record { root = λ h. absurd (off h); live = λ h. absurd (off h); distinct = refl; held = λ k h. absurd (off h) })
           (λ (t : (i ≢ other) × (get_elem? views i ≡ some v)). p.fits i v t.1)

@@ -4,6 +4,7 @@ use mathlib.Core.Option.{some}
 use lib.ListN.{get_elem?}
 use Rattle.atomic_table.specs.Table.{State, Me, Step}
 use Rattle.nc_pool.specs.declared.view.PoolView.{PoolView}
+use Rattle.nc_pool.specs.declared.view.PoolView.TheVariants.{Root}
 use Rattle.nc_pool.specs.declared.view.PoolKey.{PoolKey}
 use Rattle.nc_pool.specs.Views.{has, is_distinct, held_of, number_of, is_live, is_root, tried, given}
 
@@ -19,13 +20,14 @@ pub record Fits (slots next : ℕ) (words : List ℕ) (i : ℕ) (v : PoolView) :
 abbrev pub IsHeld : List PoolView → ℕ → Type 0
 IsHeld views k = (i : ℕ) × (v : PoolView) × (get_elem? views i ≡ some v) × (has k (held_of v) ≡ true)
 
--- the rule: word 0 is no slot, at most `seats` numbers were given, no two live seats have one number, and a slot
--- whose word is not 0 is held
+-- the rule: word 0 is no slot, at most `seats` numbers were given, the root's view is there, with the next number, no two
+-- live seats have one number, and a slot whose word is not 0 is held
 pub record IsPool (slots seats : ℕ) (words : List ℕ) (views : List PoolView) : Type 0 where
   pub next : ℕ
   pub within : next ≤ seats
   pub wide : length words ≡ slots + 1
   pub zero : slice_index words 0 ≡ 0
+  pub first : get_elem? views 0 ≡ some (Root next)
   pub fits : (i : ℕ) (v : PoolView) → get_elem? views i ≡ some v → Fits slots next words i v
   pub apart : (i j : ℕ) (v w : PoolView) → get_elem? views i ≡ some v → get_elem? views j ≡ some w → is_live v ≡ true → is_live w ≡ true → number_of v ≡ number_of w → i ≡ j
   pub filled : (k : ℕ) → k < slots → slice_index words (k + 1) ≢ 0 → IsHeld views k
