@@ -1,3 +1,4 @@
 pub mod Plain
 pub mod Tells
 mod CountLaws
+mod TouchLaws

@@ -6,6 +6,7 @@ use Rattle.nc_migrate.specs.Migrating.{KeepsReading}
 use Rattle.nc_top.specs.Due.{due, due_for, command_of, asks_input}
 use Rattle.nc_scen.specs.Reading.{most_bytes, reading}
 use Rattle.nc_scen.specs.declared.scenario.Scenario.{Scenario}
+use Rattle.nc_counts.specs.Touches.{TellsTouches}
 use Rattle.nc_flatness.specs.Covered.{IsCovered}
 use Rattle.nc_rules.specs.Flat.{IsLatest, IsKept}
 use Rattle.nc_rules.specs.Schedule.{sched}
@@ -37,6 +38,11 @@ IsRunWhereRead status bytes = (status ≢ 3) ↔ ((sc : Scenario) × (reading by
 -- flat memory's bytes are kept.
 abbrev pub IsFlat : ℕ → List ℕ → Type 0
 IsFlat status bytes = status ≢ 3 → (sc : Scenario) × (reading bytes ≡ Ok sc) × (IsCovered sc → IsLatest sc (sched sc) × IsKept sc (sched sc))
+
+-- Where the status is not a refusal's, the bytes are a scenario, and the status is 1 exactly where a line of the run of its
+-- schedule is a touch; with each other status that run has no touch.
+abbrev pub TellsItsTouches : ℕ → List ℕ → Type 0
+TellsItsTouches status bytes = status ≢ 3 → (sc : Scenario) × (reading bytes ≡ Ok sc) × TellsTouches status sc (sched sc)
 
 -- A text stands for the scenario that some bytes are: its reading is that of the bytes with version 2, and where it is not
 -- too long to be read, what `run` owes for it, report and status, is what it owes for the bytes.

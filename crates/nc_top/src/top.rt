@@ -10,12 +10,13 @@ ghost use Rattle.nc_pieces.specs.Serving.{pool_answer};
 ghost use Rattle.nc_flat.specs.Laws.{EachRunIsLatest, EachRunIsKept};
 ghost use Rattle.nc_scen.specs.Accepted.{IsAccepted};
 ghost use Rattle.nc_top.specs.Due.{due, due_by, due_for, due_for_gen, due_for_migrate, due_for_pool, command_of, is_migrate, is_pool, is_run, IsAnswer};
-ghost use Rattle.nc_top.specs.Inputs.{HasRead, IsFlat, IsRunWhereRead, KeepsScenario, TakesFew, WroteFront};
+ghost use Rattle.nc_top.specs.Inputs.{HasRead, IsFlat, IsRunWhereRead, KeepsScenario, TakesFew, TellsItsTouches, WroteFront};
 
 use crate::generated::run_generated;
 use crate::input::{Lost, input_of};
 use crate::run::run_out;
 use crate::words::{Command, command_of};
+use nc_counts::status_law;
 use nc_flat::{kept_law, latest_law};
 use nc_io::{Sink, Source, Stop, write_all};
 use nc_migrate::migrate;
@@ -63,12 +64,14 @@ fn answer_to<K: Sink>(alloc: Global, bytes: &[u8], out: &mut K) -> u8
     ensures reads { result ≢ 4 }
     ensures read { IsAnswer result → IsRunWhereRead result bytes.now }
     ensures flat { IsAnswer result → IsFlat result bytes.now }
+    ensures touches { IsAnswer result → TellsItsTouches result bytes.now }
     ensures front { Keeps (K.held out.old) (K.held out.new) ⊎ GrowsByFront (K.held out.old) (K.held out.new) (due_for (reading bytes.now)).text }
 {
     match read(alloc, bytes) {
         Ok(sc) => {
             latest_law();
             kept_law();
+            status_law();
             answer_scenario(alloc, &sc, out)
         }
         Err(ScenFault::Refused(r)) => match refused(alloc, &r) {
@@ -132,6 +135,7 @@ fn answer_command<K: Sink>(alloc: Global, command: Command, bytes: &[u8], out: &
     ensures reads { result ≢ 4 }
     ensures read { command ≡ Command.Run → IsAnswer result → IsRunWhereRead result bytes.now }
     ensures flat { command ≡ Command.Run → IsAnswer result → IsFlat result bytes.now }
+    ensures touches { command ≡ Command.Run → IsAnswer result → TellsItsTouches result bytes.now }
     ensures generated { (n : ℕ) → command ≡ Command.Gen n → result ≢ 3 }
     ensures moved { command ≡ Command.Migrate → result ≡ 0 → KeepsScenario bytes.now (due_by command bytes.now).text }
     ensures front { Keeps (K.held out.old) (K.held out.new) ⊎ GrowsByFront (K.held out.old) (K.held out.new) (due_by command bytes.now).text }
@@ -169,7 +173,8 @@ pub fn dmasim<S: Source, K: Sink>(
         × (result ≡ (due (map string_bytes words.now.items) bytes).status)
         × Appends (K.held out.old) (K.held out.new) (due (map string_bytes words.now.items) bytes).text
         × IsRunWhereRead result bytes
-        × IsFlat result bytes }
+        × IsFlat result bytes
+        × TellsItsTouches result bytes }
     ensures migrate { is_migrate (map string_bytes words.now.items) ≡ true → IsAnswer result
         → (bytes : List ℕ) × HasRead (S.left src.old) (S.left src.new) (S.ended src.new) bytes
         × (result ≡ (due (map string_bytes words.now.items) bytes).status)
