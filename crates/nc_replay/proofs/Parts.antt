@@ -1,5 +1,5 @@
 -- The parts of a line have no line feed.
-use Rattle.std.proofs.Common.{ℕ, true, false, List, [], ◌∷◌, ◌++◌, length, refl}
+use Rattle.std.proofs.Common.{ℕ, true, false, List, [], ◌∷◌, length, refl}
 use Rattle.std.specs.Prelude.{decimal, codes, flat_map}
 use Rattle.nc_num.specs.declared.names.MapId.{MapId}
 use Rattle.nc_env.specs.declared.CboOp.{CboOp}
@@ -29,7 +29,7 @@ use Rattle.nc_rules.specs.declared.records.ToldAnswer.{ToldAnswer}
 use Rattle.nc_rules.specs.declared.records.ToldAnswer.TheVariants as tolds
 use Rattle.nc_rules.specs.Lines.{hex_digits, hart, token, kind, actor, mapping, owner, operation, field, refusal, segment, answer, target, origin, tried, heard, phrase}
 use Rattle.hex.specs.Hex.{encode_lower}
-use Rattle.nc_replay.proofs.Plain.{IsPlain, ArePlain, plain_append, plain_decimal, plain_hex, plain_bytes, plain_phrase}
+use Rattle.nc_replay.proofs.Plain.{IsPlain, plain_append, plain_decimal, plain_hex, plain_bytes, plain_phrase}
 
 pub plain_token : (e : Event) → IsPlain (token e)
 plain_token (events.Issue h) = plain_decimal h.0

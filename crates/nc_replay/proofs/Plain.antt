@@ -1,6 +1,6 @@
 -- Texts without a line feed.
 use Rattle.std.proofs.Common.{◌≡◌, ℕ, zero, suc, ◌+◌, ◌-◌, ◌/◌, ◌%◌, Bool, true, false, List, [], ◌∷◌, ◌++◌, length, get_or, refl, sym, ap, ◌∙◌, arith, append_assoc, cond}
-use Rattle.std.specs.Prelude.{◌==◌, ◌&&◌, not, replicate, decimal, nat_lt}
+use Rattle.std.specs.Prelude.{◌==◌, not, replicate, decimal, nat_lt}
 use Rattle.std.specs.Fmt.{digits, digits_onto, digit_glyph}
 use Rattle.std.specs.List.{list_all, All}
 use Rattle.std.proofs.lemmas.Bool.{and_parts, and_from, ne_eqb}
