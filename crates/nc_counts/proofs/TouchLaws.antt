@@ -2,7 +2,7 @@
 use Rattle.std.proofs.Common.{◌≡◌, ℕ, zero, suc, ◌+◌, ◌≤◌, Bool, true, false, List, [], ◌∷◌, ◌++◌, refl, sym, ◌∙◌, arith, cond}
 use Rattle.std.specs.Prelude.{◌≢◌, ◌||◌, ◌↔◌, nat_lt, if◌then◌else◌}
 use Rattle.std.specs.List.{count_by, list_any}
-use Rattle.std.proofs.lemmas.Bool.{false≢true}
+use Rattle.std.proofs.lemmas.Bool.{false≢true, cond-true, lt-ltb}
 use Rattle.std.proofs.lemmas.List.Folds.{list_any-append}
 use Rattle.nc_env.specs.declared.CboOp.{CboOp}
 use Rattle.nc_env.specs.declared.CboOp.TheVariants as cbos
@@ -33,33 +33,33 @@ cbo_is s cbos.Inval at = record {}
 
 -- a record that is no touch makes no mark of one
 record_is : (s : ℕ) (grants : List Grant) (r : Record) → is_touch r ≡ false → Untouched (marks_of s grants r)
-record_is s grants (records.Touched t) no = absurd (false≢true (sym no))
-record_is s grants (records.Event e) no = record {}
-record_is s grants (records.Ld h at bytes) no = record {}
-record_is s grants (records.St h at bytes) no = record {}
-record_is s grants (records.Pl h at bytes) no = record {}
-record_is s grants (records.Ps h at bytes) no = record {}
-record_is s grants (records.Cbo h op at) no = cbo_is s op at.0
-record_is s grants (records.Fence h pred succ) no = record {}
-record_is s grants (records.Mark h pred succ) no = record {}
-record_is s grants (records.Io h target) no = record {}
-record_is s grants (records.DrStore h at bytes) no = record {}
-record_is s grants (records.DrCbo h op at) no = record {}
-record_is s grants (records.DrIo h target) no = record {}
-record_is s grants (records.DrMark h) no = record {}
-record_is s grants (records.Fill h at from) no = record {}
-record_is s grants (records.Own h at from) no = record {}
-record_is s grants (records.Wb h at bytes) no = record {}
-record_is s grants (records.Drop h at) no = record {}
-record_is s grants (records.Cr chan at bytes) no = record {}
-record_is s grants (records.Cw chan at bytes) no = record {}
-record_is s grants (records.Cd chan) no = record {}
-record_is s grants (records.Ce chan at len) no = record {}
-record_is s grants (records.Ow span owner) no = record {}
-record_is s grants (records.Try h k a) no = record {}
-record_is s grants (records.Told h k a) no = record {}
-record_is s grants (records.Back h k) no = record {}
-record_is s grants (records.Ans h op a) no = record {}
+record_is s grants (records.Touched t) absent = absurd (false≢true (sym absent))
+record_is s grants (records.Event e) absent = record {}
+record_is s grants (records.Ld h at bytes) absent = record {}
+record_is s grants (records.St h at bytes) absent = record {}
+record_is s grants (records.Pl h at bytes) absent = record {}
+record_is s grants (records.Ps h at bytes) absent = record {}
+record_is s grants (records.Cbo h op at) absent = cbo_is s op at.0
+record_is s grants (records.Fence h pred succ) absent = record {}
+record_is s grants (records.Mark h pred succ) absent = record {}
+record_is s grants (records.Io h target) absent = record {}
+record_is s grants (records.DrStore h at bytes) absent = record {}
+record_is s grants (records.DrCbo h op at) absent = record {}
+record_is s grants (records.DrIo h target) absent = record {}
+record_is s grants (records.DrMark h) absent = record {}
+record_is s grants (records.Fill h at from) absent = record {}
+record_is s grants (records.Own h at from) absent = record {}
+record_is s grants (records.Wb h at bytes) absent = record {}
+record_is s grants (records.Drop h at) absent = record {}
+record_is s grants (records.Cr chan at bytes) absent = record {}
+record_is s grants (records.Cw chan at bytes) absent = record {}
+record_is s grants (records.Cd chan) absent = record {}
+record_is s grants (records.Ce chan at len) absent = record {}
+record_is s grants (records.Ow span owner) absent = record {}
+record_is s grants (records.Try h k a) absent = record {}
+record_is s grants (records.Told h k a) absent = record {}
+record_is s grants (records.Back h k) absent = record {}
+record_is s grants (records.Ans h op a) absent = record {}
 
 untouched_rest : (ms ns : List Mark) → Untouched (ms ++ ns) → Untouched ns
 untouched_rest [] ns u = u
@@ -72,33 +72,33 @@ untouched_front (Did d ∷ ms) ns u = untouched_front ms ns u
 untouched_front (Touched ∷ ms) ns u = absurd u
 
 touch_is : (s : ℕ) (grants : List Grant) (r : Record) → is_touch r ≡ true → Untouched (marks_of s grants r) → ⊥
-touch_is s grants (records.Touched t) yes u = u
-touch_is s grants (records.Event e) yes u = false≢true yes
-touch_is s grants (records.Ld h at bytes) yes u = false≢true yes
-touch_is s grants (records.St h at bytes) yes u = false≢true yes
-touch_is s grants (records.Pl h at bytes) yes u = false≢true yes
-touch_is s grants (records.Ps h at bytes) yes u = false≢true yes
-touch_is s grants (records.Cbo h op at) yes u = false≢true yes
-touch_is s grants (records.Fence h pred succ) yes u = false≢true yes
-touch_is s grants (records.Mark h pred succ) yes u = false≢true yes
-touch_is s grants (records.Io h target) yes u = false≢true yes
-touch_is s grants (records.DrStore h at bytes) yes u = false≢true yes
-touch_is s grants (records.DrCbo h op at) yes u = false≢true yes
-touch_is s grants (records.DrIo h target) yes u = false≢true yes
-touch_is s grants (records.DrMark h) yes u = false≢true yes
-touch_is s grants (records.Fill h at from) yes u = false≢true yes
-touch_is s grants (records.Own h at from) yes u = false≢true yes
-touch_is s grants (records.Wb h at bytes) yes u = false≢true yes
-touch_is s grants (records.Drop h at) yes u = false≢true yes
-touch_is s grants (records.Cr chan at bytes) yes u = false≢true yes
-touch_is s grants (records.Cw chan at bytes) yes u = false≢true yes
-touch_is s grants (records.Cd chan) yes u = false≢true yes
-touch_is s grants (records.Ce chan at len) yes u = false≢true yes
-touch_is s grants (records.Ow span owner) yes u = false≢true yes
-touch_is s grants (records.Try h k a) yes u = false≢true yes
-touch_is s grants (records.Told h k a) yes u = false≢true yes
-touch_is s grants (records.Back h k) yes u = false≢true yes
-touch_is s grants (records.Ans h op a) yes u = false≢true yes
+touch_is s grants (records.Touched t) present u = u
+touch_is s grants (records.Event e) present u = false≢true present
+touch_is s grants (records.Ld h at bytes) present u = false≢true present
+touch_is s grants (records.St h at bytes) present u = false≢true present
+touch_is s grants (records.Pl h at bytes) present u = false≢true present
+touch_is s grants (records.Ps h at bytes) present u = false≢true present
+touch_is s grants (records.Cbo h op at) present u = false≢true present
+touch_is s grants (records.Fence h pred succ) present u = false≢true present
+touch_is s grants (records.Mark h pred succ) present u = false≢true present
+touch_is s grants (records.Io h target) present u = false≢true present
+touch_is s grants (records.DrStore h at bytes) present u = false≢true present
+touch_is s grants (records.DrCbo h op at) present u = false≢true present
+touch_is s grants (records.DrIo h target) present u = false≢true present
+touch_is s grants (records.DrMark h) present u = false≢true present
+touch_is s grants (records.Fill h at from) present u = false≢true present
+touch_is s grants (records.Own h at from) present u = false≢true present
+touch_is s grants (records.Wb h at bytes) present u = false≢true present
+touch_is s grants (records.Drop h at) present u = false≢true present
+touch_is s grants (records.Cr chan at bytes) present u = false≢true present
+touch_is s grants (records.Cw chan at bytes) present u = false≢true present
+touch_is s grants (records.Cd chan) present u = false≢true present
+touch_is s grants (records.Ce chan at len) present u = false≢true present
+touch_is s grants (records.Ow span owner) present u = false≢true present
+touch_is s grants (records.Try h k a) present u = false≢true present
+touch_is s grants (records.Told h k a) present u = false≢true present
+touch_is s grants (records.Back h k) present u = false≢true present
+touch_is s grants (records.Ans h op a) present u = false≢true present
 
 -- ---- a run
 
@@ -108,26 +108,26 @@ record Alike (ms : List Mark) (rs : List Record) : Type 0 where
   some : list_any is_touch rs ≡ true → Untouched ms → ⊥
 
 nothing : Alike [] []
-nothing = record { none = λ no. record {}; some = λ yes u. false≢true yes }
+nothing = record { none = λ absent. record {}; some = λ present u. false≢true present }
 
 any_front : (a b c : Bool) → c ≡ (a || b) → c ≡ false → a ≡ false
-any_front false b c e no = refl
-any_front true b c e no = absurd (false≢true (sym no ∙ e))
+any_front false b c e absent = refl
+any_front true b c e absent = absurd (false≢true (sym absent ∙ e))
 
 any_rest : (a b c : Bool) → c ≡ (a || b) → c ≡ false → b ≡ false
-any_rest false b c e no = sym e ∙ no
-any_rest true b c e no = absurd (false≢true (sym no ∙ e))
+any_rest false b c e absent = sym e ∙ absent
+any_rest true b c e absent = absurd (false≢true (sym absent ∙ e))
 
 some_of : (a b c : Bool) (P : Type 0) → c ≡ (a || b) → c ≡ true → (a ≡ true → P) → (b ≡ true → P) → P
-some_of true b c P e yes f g = f refl
-some_of false b c P e yes f g = g (sym e ∙ yes)
+some_of true b c P e present f g = f refl
+some_of false b c P e present f g = g (sym e ∙ present)
 
 both : (ms ns : List Mark) (rs ss : List Record) → Alike ms rs → Alike ns ss → Alike (ms ++ ns) (rs ++ ss)
 both ms ns rs ss a b =
     let any = list_any-append is_touch rs ss in
     record {
-      none = λ no. Untouched-append ms ns (a.none (any_front _ _ _ any no)) (b.none (any_rest _ _ _ any no));
-      some = λ yes u. some_of _ _ _ ⊥ any yes (λ y. a.some y (untouched_front ms ns u)) (λ y. b.some y (untouched_rest ms ns u));
+      none = λ absent. Untouched-append ms ns (a.none (any_front _ _ _ any absent)) (b.none (any_rest _ _ _ any absent));
+      some = λ present u. some_of _ _ _ ⊥ any present (λ y. a.some y (untouched_front ms ns u)) (λ y. b.some y (untouched_rest ms ns u));
     }
 
 or_false : (t : Bool) → (t || false) ≡ t
@@ -136,8 +136,8 @@ or_false false = refl
 
 one_is : (s : ℕ) (grants : List Grant) (r : Record) → Alike (marks_of s grants r) (r ∷ [])
 one_is s grants r = record {
-  none = λ no. record_is s grants r (sym (or_false (is_touch r)) ∙ no);
-  some = λ yes. touch_is s grants r (sym (or_false (is_touch r)) ∙ yes);
+  none = λ absent. record_is s grants r (sym (or_false (is_touch r)) ∙ absent);
+  some = λ present. touch_is s grants r (sym (or_false (is_touch r)) ∙ present);
 }
 
 all_are : (s : ℕ) (grants : List Grant) (rs : List Record) → Alike (all_marks s grants rs) rs
@@ -156,20 +156,20 @@ run_is w (e ∷ es) = both (event_marks w e) (run_marks (next w e) es) (event_re
 -- ---- the count, and the status
 
 none_more : (t a : Bool) (n : ℕ) → (t || a) ≡ false → (a ≡ false → n ≡ 0) → cond t 1 0 + n ≡ 0
-none_more true a n no f = absurd (false≢true (sym no))
-none_more false a n no f = omega (arith, f no)
+none_more true a n absent f = absurd (false≢true (sym absent))
+none_more false a n absent f = omega (arith, f absent)
 
 none_counted : (rs : List Record) → list_any is_touch rs ≡ false → count_by is_touch rs ≡ 0
-none_counted [] no = refl
-none_counted (r ∷ rs) no = count-cons is_touch r rs ∙ none_more (is_touch r) (list_any is_touch rs) (count_by is_touch rs) no (none_counted rs)
+none_counted [] absent = refl
+none_counted (r ∷ rs) absent = count-cons is_touch r rs ∙ none_more (is_touch r) (list_any is_touch rs) (count_by is_touch rs) absent (none_counted rs)
 
 some_more : (t a : Bool) (n : ℕ) → (t || a) ≡ true → (a ≡ true → 1 ≤ n) → 1 ≤ cond t 1 0 + n
-some_more true a n yes f = omega arith
-some_more false a n yes f = omega (arith, f yes)
+some_more true a n present f = omega arith
+some_more false a n present f = omega (arith, f present)
 
 some_counted : (rs : List Record) → list_any is_touch rs ≡ true → 1 ≤ count_by is_touch rs
-some_counted [] yes = absurd (false≢true yes)
-some_counted (r ∷ rs) yes = rw (count-cons is_touch r rs) (some_more (is_touch r) (list_any is_touch rs) (count_by is_touch rs) yes (some_counted rs))
+some_counted [] present = absurd (false≢true present)
+some_counted (r ∷ rs) present = rw (count-cons is_touch r rs) (some_more (is_touch r) (list_any is_touch rs) (count_by is_touch rs) present (some_counted rs))
 
 -- the status of so many touches
 abbrev status_of : ℕ → Bool → ℕ
@@ -181,8 +181,7 @@ no_touch zero false e one = absurd (cc)
 no_touch (suc n) ended e one = absurd (cc)
 
 a_touch : (n : ℕ) (ended : Bool) → 1 ≤ n → status_of n ended ≡ 1
-a_touch zero ended le = absurd (omega (arith, le))
-a_touch (suc n) ended le = refl
+a_touch n ended le = cond-true (nat_lt 0 n) 1 (if ended then 0 else 7) (lt-ltb 0 n le)
 
 -- by whether a record is a touch
 tells_by : (ms : List Mark) (rs : List Record) (n : ℕ) (ended t : Bool) → list_any is_touch rs ≡ t → Alike ms rs → n ≡ up_to_end (count_by is_touch rs)
@@ -198,4 +197,4 @@ pub status_always : EachStatusTells
 unfolding status
 status_always sc es =
     let all = tells_by (run_marks (start sc) es) (run.records (start sc) es) (run.after (start sc) es).touches (at_end (run.after (start sc) es)) (list_any is_touch (run.records (start sc) es)) refl (run_is (start sc) es) (counts_always sc es).touches in
-    record { line = all.0; touched = all.1.0; untouched = all.1.1 }
+    record { line = all.0; touched = all.1; untouched = all.2 }
