@@ -24,7 +24,7 @@ use Rattle.nc_rules.specs.Flat.{AreThere}
 use Rattle.nc_rules.specs.Next.{touched_by, after_outcome, counted, next}
 use Rattle.nc_rules.specs.Outcomes.{Outcome, goes, outcome}
 use Rattle.nc_rules.specs.Run.{after}
-use Rattle.nc_rules.specs.World.{WorldState, driver_of, with_moves, start}
+use Rattle.nc_rules.specs.World.{WorldState, driver_of, with_driver, with_machine, with_moves, start}
 use Rattle.nc_scripts.specs.Drivers.{IsPhase}
 use Rattle.nc_scripts.proofs.Lists.{all_left, all_right}
 use Rattle.nc_holds.proofs.EventHolds.{next_is, next_same}
@@ -107,8 +107,8 @@ touched_behaves w v machine now (Some t) k = record { machine_is = k.machine_is;
 goes_behaves : (w : WorldState) (h : HartNo) (machine : MachineState) (went : Went) (now : List (Option HartNo)) (touch : Option Touch) (records : List Record) → went.moves ≡ moved [] None
     → Behaves w (counted (after_outcome w (goes w h machine went now touch records))) machine now
 goes_behaves w h machine went now touch records none =
-    touched_behaves w (with_moves (record w { machine = machine; drivers = slice_set w.drivers h.0 went.driver; slots = now }) went.moves) machine now touch
-    (subst (λ (m : Moved). Behaves w (with_moves (record w { machine = machine; drivers = slice_set w.drivers h.0 went.driver; slots = now }) m) machine now) (sym none)
+    touched_behaves w (with_moves (record (with_driver (with_machine w machine) h.0 went.driver) { slots = now }) went.moves) machine now touch
+    (subst (λ (m : Moved). Behaves w (with_moves (record (with_driver (with_machine w machine) h.0 went.driver) { slots = now }) m) machine now) (sym none)
     (record { machine_is = refl; owners = refl; grants = refl; slots = refl; pages = refl }))
 
 left_if : (w v : WorldState) (h : HartNo) → Behaves w v w.machine w.slots → IsLeftButWord w v h

@@ -3,6 +3,7 @@ pub mod Calls
 pub mod Outcomes
 pub mod RefusalLaws
 pub mod FenceLaws
+pub mod StartLaws
 pub mod Heads
 pub mod Numbers
 pub mod Quiet

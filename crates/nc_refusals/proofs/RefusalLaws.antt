@@ -12,7 +12,7 @@ use Rattle.nc_rules.specs.Machine.{MachineState}
 use Rattle.nc_rules.specs.Driver.{Went, give_up, started, told, done}
 use Rattle.nc_rules.specs.Next.{touched_by, after_outcome, counted}
 use Rattle.nc_rules.specs.Outcomes.{Outcome, goes, outcome}
-use Rattle.nc_rules.specs.World.{WorldState, driver_of, with_moves}
+use Rattle.nc_rules.specs.World.{WorldState, driver_of, with_driver, with_machine, with_moves}
 use Rattle.nc_holds.proofs.EventHolds.{next_is}
 use Rattle.nc_refusals.specs.Refused.{refuses, acted}
 use Rattle.nc_refusals.specs.Laws.{LeavesAll, RefusalsLeaveAll}
@@ -27,7 +27,7 @@ leaves_touched w v (Some t) h k = record { left = record { machine = k.left.mach
 leaves_by : (w : WorldState) (h : HartNo) (machine : MachineState) (went : Went) (now : List (Option HartNo)) (touch : Option Touch) (records : List Record) → GivesUp (driver_of w h.0) went → machine ≡ w.machine → now ≡ w.slots
     → LeavesAll w (counted (after_outcome w (goes w h machine went now touch records))) h
 leaves_by w h machine went now touch records up m s =
-    leaves_touched w (with_moves (record w { machine = machine; drivers = slice_set w.drivers h.0 went.driver; slots = now }) went.moves) touch h
+    leaves_touched w (with_moves (record (with_driver (with_machine w machine) h.0 went.driver) { slots = now }) went.moves) touch h
     (subst (λ (x : Went). LeavesAll w (with_moves (record w { machine = machine; drivers = slice_set w.drivers h.0 x.driver; slots = now }) x.moves) h) (sym up.is)
     (subst (λ (ws : List (Option HartNo)). LeavesAll w (with_moves (record w { machine = machine; drivers = slice_set w.drivers h.0 (give_up (driver_of w h.0) up.op up.why).driver; slots = ws }) (give_up (driver_of w h.0) up.op up.why).moves) h) (sym s)
     (record { left = record { machine = m; owners = refl; grants = refl; pages = refl }; slots = refl; drivers = refl })))

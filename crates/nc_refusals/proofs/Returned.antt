@@ -38,7 +38,7 @@ use Rattle.nc_rules.specs.Machine.{MachineState}
 use Rattle.nc_rules.specs.Next.{touched_by, after_outcome, counted, next}
 use Rattle.nc_rules.specs.Outcomes.{Outcome, goes, outcome}
 use Rattle.nc_rules.specs.Run.{after}
-use Rattle.nc_rules.specs.World.{WorldState, no_driver, driver_of, owners_moved, grants_added, grants_ended, slots_back, with_moves, start}
+use Rattle.nc_rules.specs.World.{WorldState, no_driver, driver_of, owners_moved, grants_added, grants_ended, slots_back, with_driver, with_machine, with_moves, start}
 use Rattle.nc_scripts.specs.Drivers.{IsLotIn, FitsKind, IsEndName}
 use Rattle.nc_scripts.proofs.Lists.{all_left, all_right}
 use Rattle.nc_scripts.proofs.LotLaws.{named_so, its_name, lots_stay}
@@ -297,7 +297,7 @@ same_touched : (v : WorldState) (s : Held) (t : Option Touch) → Same3 v s → 
 same_touched v s None k = record { owners_are = k.owners_are; grants_are = k.grants_are; slots_are = k.slots_are }
 same_touched v s (Some t) k = record { owners_are = k.owners_are; grants_are = k.grants_are; slots_are = k.slots_are }
 
-gone_moves : (w : WorldState) (h : ℕ) (machine : MachineState) (went : Went) (now : List (Option HartNo)) → Same3 (with_moves (record w { machine = machine; drivers = slice_set w.drivers h went.driver; slots = now }) went.moves) (moved_by (record (held_of w h) { slots = now }) went.driver.lots went.moves)
+gone_moves : (w : WorldState) (h : ℕ) (machine : MachineState) (went : Went) (now : List (Option HartNo)) → Same3 (with_moves (record (with_driver (with_machine w machine) h went.driver) { slots = now }) went.moves) (moved_by (record (held_of w h) { slots = now }) went.driver.lots went.moves)
 unfolding moved_by
 gone_moves w h machine went now = record { owners_are = refl; grants_are = refl; slots_are = refl }
 
@@ -317,7 +317,7 @@ goes_back w h machine went now touch records lot all go has gone =
     let lt : h.0 < length w.drivers = (let t = go.there in omega (arith, t, all.drivers)) in
     let drivers : driver_of (counted (after_outcome w o)) h.0 ≡ went.driver = driver_now w o h.0 ∙ mine w h.0 went.driver lt in
     let back = shape_back (length w.machine.cache.ram) (fixed_in w h.0) (held_of w h.0) now went lot d.driver.lots all.owners has.here has.end has.lent (subst (λ (x : DriverState). Gone x.lots lot) drivers gone) go.call.shape in
-    let k = same_touched (with_moves (record w { machine = machine; drivers = slice_set w.drivers h.0 went.driver; slots = now }) went.moves) (moved_by (record (held_of w h.0) { slots = now }) went.driver.lots went.moves) touch (gone_moves w h.0 machine went now) in
+    let k = same_touched (with_moves (record (with_driver (with_machine w machine) h.0 went.driver) { slots = now }) went.moves) (moved_by (record (held_of w h.0) { slots = now }) went.driver.lots went.moves) touch (gone_moves w h.0 machine went now) in
     back_returned (counted (after_outcome w o)) h (fixed_in w h.0) (moved_by (record (held_of w h.0) { slots = now }) went.driver.lots went.moves) lot me k.owners_are k.grants_are k.slots_are back
 
 outcome_back : (w : WorldState) (by : Option HartNo) (o : Outcome) (h : HartNo) (lot : Lot) → Holds w → OutcomeIs w by o → HasLentEnd w h lot → Gone (lots_now w o h.0) lot → IsReturned (counted (after_outcome w o)) h lot

@@ -8,12 +8,16 @@ use Rattle.nc_scen.specs.Accepted.{IsAccepted}
 use Rattle.nc_scen.specs.declared.events.Event.{Event}
 use Rattle.nc_scen.specs.declared.events.Event.TheVariants as events
 use Rattle.nc_scen.specs.declared.scenario.Scenario.{Scenario}
+use Rattle.nc_ops.specs.declared.ops.Op.{Op}
 use Rattle.nc_rules.specs.declared.lots.Lot.{Lot}
 use Rattle.nc_rules.specs.declared.steps.Next.TheVariants as nexts
 use Rattle.nc_rules.specs.declared.steps.Phase.TheVariants.{Steps}
 use Rattle.nc_rules.specs.Flat.{AreThere}
 use Rattle.nc_rules.specs.Machine.{queue_of}
 use Rattle.nc_rules.specs.Turns.{slots_wanted, without_wanted}
+use Rattle.nc_rules.specs.Lots.{Fixed}
+use Rattle.nc_rules.specs.Meanings.{is_planned}
+use Rattle.nc_rules.specs.Operations.{has_start, meaning}
 use Rattle.nc_rules.specs.Driver.{next_of, over}
 use Rattle.nc_rules.specs.Events.{enabled}
 use Rattle.nc_rules.specs.Next.{next}
@@ -76,3 +80,7 @@ abbrev pub AnswersLeaveNoEnds : Type 0
 AnswersLeaveNoEnds =
     (sc : Scenario) (before : List Event) (e : Event) (h : HartNo) → IsAccepted sc → AreThere sc (before ++ e ∷ []) → maker e ≡ Some h → enabled (after (start sc) before) e ≡ true → is_some (outcome (after (start sc) before) e).moves.answer ≡ true
     → All (λ lot. IsEndName lot.id → ⊥) (driver_of (next (after (start sc) before) e) h.0).lots
+
+-- an operation has a start step, which may refuse it, exactly where it goes by a plan, whatever lots its hart has
+abbrev pub StartsAreOfPlans : Type 0
+StartsAreOfPlans = (f : Fixed) (lots : List Lot) (o : Op) → has_start o ≡ is_planned (meaning f lots o).way

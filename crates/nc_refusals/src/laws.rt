@@ -1,6 +1,6 @@
 //! What a refused operation leaves as it was.
 
-ghost use Rattle.nc_refusals.specs.Laws.{RefusalsLeaveAll, EarlierEventsLeaveAll, WordsAreGivenBack, FencesEmptyQueues, AnswersLeaveNoEnds, CopiesGiveBack};
+ghost use Rattle.nc_refusals.specs.Laws.{RefusalsLeaveAll, EarlierEventsLeaveAll, WordsAreGivenBack, FencesEmptyQueues, AnswersLeaveNoEnds, CopiesGiveBack, StartsAreOfPlans};
 
 /// The event that refuses an operation changes no byte, cache, queue, box or channel, and no owner, grant or page. It gives
 /// back exactly the slots of the hart's lots that are not lent, which are gone. It is so of every operation, in every world.
@@ -36,4 +36,11 @@ pub fn answers_leave_no_ends()
 /// what its transfer wrote stands.
 pub fn copies_give_back()
     ensures { CopiesGiveBack }
+{}
+
+/// An operation has a start step, which may refuse it before anything is lent, exactly where it goes by a plan; all others
+/// are steps by number.
+#[tactic(auto, using(crate::proofs::StartLaws::plans_start))]
+pub fn starts_are_of_plans()
+    ensures { StartsAreOfPlans }
 {}

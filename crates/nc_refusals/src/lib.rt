@@ -4,12 +4,13 @@
 //! run of an accepted scenario the event that refuses an operation, and each earlier event of that operation, leave the
 //! machine, the owners, the grants and the pages as they were, but for the steps that an operation by number has made;
 //! and slot words that such an operation got are given back. Beside it: a copy that is over, failed or done, has given
-//! back both its ranges, and behind a full fence its hart has no write and no output queued.
+//! back both its ranges, and behind a full fence its hart has no write and no output queued; and an operation has a start
+//! step exactly where it goes by a plan.
 #![tactic(auto)]
 
 mod laws;
 
 pub use laws::{
     answers_leave_no_ends, copies_give_back, earlier_events_leave_all, fences_empty_queues,
-    refusals_leave_all, words_are_given_back,
+    refusals_leave_all, starts_are_of_plans, words_are_given_back,
 };
