@@ -39,6 +39,7 @@ use Rattle.nc_flatness.proofs.Marks.{transfers_silent, entry_silent}
 use Rattle.nc_flatness.proofs.Outcomes.{ran, goes_silent, runs_go}
 use Rattle.nc_flat_moves.proofs.LosesRows.{loses_row}
 use Rattle.nc_flat_moves.proofs.Calm.{calm_of}
+use Rattle.nc_flat_moves.proofs.Tokens.{tokens_drained}
 use Rattle.nc_flat_moves.proofs.WorldNow.{has_pieces, no_token, whole_pool}
 
 -- ---- an entry that is no token
@@ -96,12 +97,13 @@ drained_bytes sc f w h i e flat is here none =
       placed = b.placed;
       pooled = b.pooled;
       slotted = b.slotted;
-      rows = λ x lt off. rows_drain.kept a (owner_of w x) (byte f x) m h i e x is (loses_row sc f w h e x flat lt off queued) (has_pieces sc f w x (owner_of w x) flat) (not_named (owner_of w x) h e none) (b.rows x lt off);
+      rows = λ x lt off. rows_drain.kept a (owner_of w x) (byte f x) m h i e x is (loses_row sc f w h e x flat lt off here queued) (has_pieces sc f w x (owner_of w x) flat) (not_named (owner_of w x) h e none) (b.rows x lt off);
       calm = λ z on unseen. calm_of m (drain_next m h i) z (rows_drain.kept a Pool (byte m.cache.ram z) m h i e z is tt tt refl (b.calm z on unseen));
       queued = parts_stay.queued_drain a (owner_of w) m h i e is b.queued;
       unfenced = λ g. (drain_places.drain_is m h i e is.sound is.hart is.out).queues.none is_full g (b.unfenced g);
       uncached = parts_stay.uncached_drain a (owner_of w) m h i e is (whole_pool sc f w flat) b.queued b.uncached;
       lasts = parts_stay.lasts_drain a f m h i e is b.lasts;
+      tokens = tokens_drained sc f w (drain_next m h i) h i e flat (entry_leaves m h i e is).drains.queues none;
     }
 
 -- ---- the event

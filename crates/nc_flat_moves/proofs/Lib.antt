@@ -1,3 +1,5 @@
+pub mod Pooled
+pub mod Tokens
 pub mod LosesRows
 pub mod Calm
 pub mod NamedBytes
