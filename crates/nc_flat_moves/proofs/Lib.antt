@@ -1,5 +1,10 @@
 pub mod Pooled
 pub mod Tokens
+pub mod GivenLots
+pub mod GivenPlans
+pub mod SentLots
+pub mod GivenWorld
+pub mod TokenBytes
 pub mod LosesRows
 pub mod Calm
 pub mod NamedBytes

@@ -53,30 +53,6 @@ has_pieces sc f w x (Returning n) flat = tt
 has_pieces sc f w x (Synced n) flat = tt
 has_pieces sc f w x Pool flat = tt
 
--- ---- tokens
-
-has_lent : (id : LotId) (lots : List Lot) (rest : List Step) → TokenStays id lots rest → HasLent lots id
-has_lent id lots [] stays = stays
-has_lent id lots (s ∷ rest) stays = stays.0
-
--- with full fences no token is queued
-token_by : (sc : Scenario) (f : List ℕ) (w : WorldState) (h : ℕ) (e : Entry) (id : LotId) → Flatness sc f w → h < length w.machine.harts → In e (queue_of w.machine h) → token_of e ≡ Some id → ⊥
-token_by sc f w h e id flat lt here is =
-    let d = driver_of w h in
-    let tokens = (flat.world.holds.each h lt).tokens in
-    let lent = has_lent id d.lots d.rest (tokens.queued e id here is) in
-    let drives = flat.bytes.drives h (omega (arith, flat.world.of_scenario.harts, lt)) in
-    both_ways (list_any (is_lot id) d.lots)
-    (none_of (is_lot id) d.lots (λ lot in_lots. absurd (both_ways d.fixed.light (all_at (IsMapping d.fixed) d.lots lot drives.lots in_lots).full (tokens.light e id here is))))
-    lent.there
-
-none_if : (sc : Scenario) (f : List ℕ) (w : WorldState) (h : ℕ) (e : Entry) (o : Option LotId) → Flatness sc f w → h < length w.machine.harts → In e (queue_of w.machine h) → token_of e ≡ o → o ≡ None
-none_if sc f w h e None flat lt here is = refl
-none_if sc f w h e (Some id) flat lt here is = absurd (token_by sc f w h e id flat lt here is)
-
-pub no_token : (sc : Scenario) (f : List ℕ) (w : WorldState) (h : ℕ) (e : Entry) → Flatness sc f w → h < length w.machine.harts → In e (queue_of w.machine h) → token_of e ≡ None
-no_token sc f w h e flat lt here = none_if sc f w h e (token_of e) flat lt here refl
-
 -- ---- the pool is whole blocks
 
 pub whole_pool : (sc : Scenario) (f : List ℕ) (w : WorldState) → Flatness sc f w → WholePool w.machine
