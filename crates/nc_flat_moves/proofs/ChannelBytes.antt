@@ -2,7 +2,7 @@
 use Rattle.nc_rows.specs.Ahead.{is_full}
 use Rattle.std.specs.Prelude.{Option, Some, ◌-◌, map}
 use Rattle.std.specs.List.{range_with_len, list_any}
-use Rattle.std.proofs.Common.{◌≡◌, ◌⊎◌, ℕ, ◌+◌, ◌<◌, ◌≤◌, Bool, true, false, List, length, refl, sym, ap, ◌∙◌, inl, inr, subst, arith}
+use Rattle.std.proofs.Common.{◌≡◌, ◌⊎◌, ℕ, ◌+◌, ◌<◌, ◌≤◌, true, false, List, length, refl, sym, ap, ◌∙◌, inl, inr, subst, arith}
 use Rattle.std.proofs.lemmas.Bool.{cases_Bool, both_ways}
 use Rattle.nc_num.specs.Memory.{byte}
 use Rattle.nc_num.specs.Memory as memory
@@ -30,7 +30,7 @@ use Rattle.nc_rules.specs.World.{WorldState}
 use Rattle.nc_calls.specs.MachineLaws.{SameShape}
 use Rattle.nc_calls.specs.PlaceLaws.{NotHeld, Stays, WritesSpan}
 use Rattle.nc_rows.specs.Places.{CalmRow}
-use Rattle.nc_rows.specs.Rows.{Loan, Book, device_place, Either, ByDir, Row}
+use Rattle.nc_rows.specs.Rows.{Loan, Book, device_place, ByDir, Row}
 use Rattle.nc_rows.specs.Parts.{Queued, Uncached, Lasts}
 use Rattle.nc_rows.specs.Laws.{place_of}
 use Rattle.nc_row_channels.specs.Laws.{Beside, IsWritten, IsPlain}

@@ -1,10 +1,9 @@
 -- A driver goes on as it did where another lot of its hart, whose token was queued, becomes its channel's.
-use Rattle.std.specs.Prelude.{All, Option, Some, None, ◌⊎◌, ◌||◌}
+use Rattle.std.specs.Prelude.{All, Option, Some, None, ◌||◌}
 use Rattle.std.specs.List.{list_any}
-use Rattle.std.proofs.Common.{◌≡◌, ℕ, Bool, true, false, List, [], ◌∷◌, refl, sym, ap, ◌∙◌, inl, inr, subst}
+use Rattle.std.proofs.Common.{◌≡◌, Bool, true, false, List, [], ◌∷◌, refl, sym, ap, ◌∙◌, inl, inr, subst}
 use Rattle.std.proofs.lemmas.Bool.{both_ways, or_parts, false_from_ne_true}
 use Rattle.nc_num.specs.declared.places.Span.{Span}
-use Rattle.nc_sg.specs.declared.list.Entry.{Entry}
 use Rattle.nc_plan.specs.Plans.{In}
 use Rattle.nc_ops.specs.declared.ops.Op.{Op}
 use Rattle.nc_ops.specs.declared.ops.Op.TheVariants as ops
@@ -21,11 +20,11 @@ use Rattle.nc_rules.specs.Turns.{is_area, lots_after}
 use Rattle.nc_scripts.proofs.LotLaws.{named_so, its_name}
 use Rattle.nc_holds.proofs.ListsA.{all_at}
 use Rattle.nc_rows.specs.Ahead.{turns_lot, ends, settling}
-use Rattle.nc_flatness.specs.Flatness.{IsMapping, IsStillOrMade, IsHanding, PlanLeft, PlanIs, PlanOf, StandsAt, Drives}
+use Rattle.nc_flatness.specs.Flatness.{IsMapping, IsStillOrMade, PlanLeft, PlanIs, PlanOf, StandsAt, Drives}
 use Rattle.nc_flatness.specs.Plans.{IsStill, IsInHand, HasEnd, IsCopied, StepGoes, PlanGoes}
 use Rattle.nc_flatness.specs.Plans as plans
 use Rattle.nc_flatness.proofs.Rests.{settling_ends}
-use Rattle.nc_flat_moves.proofs.GivenLots.{given, given_lot, IsLendingSo, AreLending, given_all, in_given, entry_given, lending_after, given_after}
+use Rattle.nc_flat_moves.proofs.GivenLots.{given, IsLendingSo, AreLending, given_all, in_given, entry_given, lending_after, given_after}
 
 -- ---- what is not to come
 

@@ -1,8 +1,8 @@
 -- The world behind a token that drained: what each mapping is stays, and the places of its lot are their channel's.
-use Rattle.std.specs.Prelude.{Option, Some, None, ◌&&◌, ◌==◌, not, nat_le, nat_lt, option_map, slice_get}
-use Rattle.std.specs.List.{list_any, find}
+use Rattle.std.specs.Prelude.{Option, Some, ◌&&◌, ◌==◌, not, nat_le, nat_lt, option_map}
+use Rattle.std.specs.List.{find}
 use Rattle.std.proofs.Common.{◌≡◌, ℕ, ◌+◌, ◌<◌, Bool, true, false, List, [], ◌∷◌, length, refl, sym, ap, ◌∙◌, inl, inr, subst, arith}
-use Rattle.std.proofs.lemmas.Bool.{cases_Bool, cases_eq, and_parts, both_ways, eqb-true, eq-eqb, cond-true, cond-false}
+use Rattle.std.proofs.lemmas.Bool.{cases_Bool, cases_eq, and_parts, both_ways, eqb-true, cond-true, cond-false}
 use Rattle.std.proofs.lemmas.Bool.Decides.{nat_tests}
 use Rattle.std.proofs.lemmas.List.Elements.{All-head, All-tail}
 use Rattle.nc_num.specs.Places.{covers}
@@ -22,9 +22,8 @@ use Rattle.nc_sg.specs.declared.list.Entry.{Entry}
 use Rattle.nc_rules.specs.declared.lots.Lot.{Lot}
 use Rattle.nc_rules.specs.declared.lots.LotId.{LotId}
 use Rattle.nc_rules.specs.declared.lots.Side.TheVariants as sides
-use Rattle.nc_rules.specs.declared.steps.Step.{Step}
 use Rattle.nc_rules.specs.Calls.{drain_next}
-use Rattle.nc_rules.specs.Driver.{DriverState, Went, lent}
+use Rattle.nc_rules.specs.Driver.{DriverState, lent}
 use Rattle.nc_rules.specs.Lots.{Fixed, is_lot, is_wanted, lot_id, map_id, owner_of_side}
 use Rattle.nc_rules.specs.Turns.{to_side, of_those, with_side, turned_by}
 use Rattle.nc_rules.specs.Watched.{owner_of}

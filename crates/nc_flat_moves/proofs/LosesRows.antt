@@ -1,6 +1,6 @@
 -- An entry that drains loses no byte that a row tells: what it may lose is of a block that its own mapping drops.
 use Rattle.std.specs.Prelude.{Option, Some, None, ◌/◌}
-use Rattle.std.proofs.Common.{◌≡◌, ◌⊎◌, ℕ, ◌<◌, Bool, true, false, List, refl, sym, ap, ◌∙◌, inl, inr, subst}
+use Rattle.std.proofs.Common.{◌≡◌, ◌⊎◌, ℕ, ◌<◌, true, false, List, refl, sym, ap, ◌∙◌, inl, inr, subst}
 use Rattle.std.proofs.lemmas.Bool.{eqb-true, both_ways}
 use Rattle.nc_num.specs.Places.{covers}
 use Rattle.nc_num.specs.declared.names.Dir.{Dir}
@@ -20,7 +20,7 @@ use Rattle.nc_rules.specs.Machine.{MachineState, queue_of}
 use Rattle.nc_rules.specs.Watched.{owner_of}
 use Rattle.nc_rules.specs.World.{WorldState}
 use Rattle.nc_calls.specs.PlaceLaws.{LosesNone, parts}
-use Rattle.nc_rows.specs.Rows.{Loan, device_place, Either, ByDir}
+use Rattle.nc_rows.specs.Rows.{Loan, device_place, ByDir}
 use Rattle.nc_rows.specs.Parts.{IsDropped, IsQueued}
 use Rattle.nc_row_moves.specs.Laws.{LosesFrom, LosesLent, LosesDevice, LosesNoRow}
 use Rattle.nc_flatness.specs.Books.{book_of, mapping_in}

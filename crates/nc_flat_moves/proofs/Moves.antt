@@ -3,7 +3,7 @@ use Rattle.nc_calls.proofs.StepPlaces.{fill_is, evict_is}
 use Rattle.nc_rows.specs.Ahead.{is_full}
 use Rattle.std.specs.List.{list_any}
 use Rattle.std.specs.Prelude.{Option, Some, None, ◌/◌}
-use Rattle.std.proofs.Common.{◌≡◌, ℕ, ◌+◌, ◌*◌, ◌<◌, ◌≤◌, true, false, List, length, refl, sym, ap, ◌∙◌, arith}
+use Rattle.std.proofs.Common.{◌≡◌, ℕ, ◌+◌, ◌*◌, ◌<◌, ◌≤◌, true, List, length, refl, ap, ◌∙◌, arith}
 use Rattle.std.proofs.lemmas.Bool.{false≢true}
 use Rattle.nc_num.specs.Memory.{byte}
 use Rattle.nc_num.specs.declared.names.HartNo.{HartNo}

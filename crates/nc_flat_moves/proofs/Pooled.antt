@@ -1,7 +1,6 @@
 -- The coherent pool: what drains loses no byte of it, and nobody holds a block of it but of an area that is allocated.
 use Rattle.std.specs.Prelude.{Option, Some, None}
-use Rattle.std.specs.List.{list_any}
-use Rattle.std.proofs.Common.{◌≡◌, ℕ, ◌<◌, Bool, true, false, List, refl, sym, ap, ◌∙◌, inl, inr, subst}
+use Rattle.std.proofs.Common.{◌≡◌, ℕ, Bool, true, false, List, refl, sym, ap, ◌∙◌, inl, inr, subst}
 use Rattle.std.proofs.lemmas.Bool.{both_ways}
 use Rattle.nc_num.specs.Memory.{byte}
 use Rattle.nc_num.specs.Places.{covers}
@@ -23,7 +22,7 @@ use Rattle.nc_flatness.specs.Books.{book_of, mapping_in}
 use Rattle.nc_flatness.specs.Flatness.{Flatness}
 use Rattle.nc_flatness.proofs.Areas.{area_pooled}
 use Rattle.nc_flatness.proofs.BookReads.{pool_unheld}
-use Rattle.nc_flatness.proofs.Owned.{IsMapped, mapped, owned_ram}
+use Rattle.nc_flatness.proofs.Owned.{mapped, owned_ram}
 use Rattle.nc_flatness.proofs.Seen.{mapped_unslotted}
 
 -- ---- one of two

@@ -1,8 +1,8 @@
 -- The lot whose token is queued: it is being lent, and its hart's plan does not end that. Behind the token it is its channel's.
-use Rattle.std.specs.Prelude.{All, Option, Some, None, ◌&&◌, ◌||◌, ◌==◌, not, slice_get, remove, filter, if◌then◌else◌}
+use Rattle.std.specs.Prelude.{All, Some, ◌||◌, ◌==◌, not, slice_get, remove, filter, if◌then◌else◌}
 use Rattle.std.specs.List.{list_any}
-use Rattle.std.proofs.Common.{◌≡◌, ◌≢◌, ℕ, ◌<◌, Bool, true, false, List, [], ◌∷◌, length, refl, sym, ap, ◌∙◌, inl, inr, subst}
-use Rattle.std.proofs.lemmas.Bool.{cases_Bool, cases_eq, and_parts, both_ways, not-true, false≢true, false_from_ne_true, eqb-true}
+use Rattle.std.proofs.Common.{◌≡◌, ℕ, ◌<◌, Bool, true, false, List, [], ◌∷◌, length, refl, sym, ap, ◌∙◌, inl, inr, subst}
+use Rattle.std.proofs.lemmas.Bool.{cases_Bool, and_parts, both_ways, not-true, false≢true, false_from_ne_true, eqb-true}
 use Rattle.nc_num.specs.declared.names.Label.{Label}
 use Rattle.nc_plan.specs.Plans.{In}
 use Rattle.nc_queue.specs.declared.entry.Entry.{Entry}
@@ -18,14 +18,14 @@ use Rattle.nc_rules.specs.Machine.{queue_of}
 use Rattle.nc_rules.specs.World.{WorldState, driver_of}
 use Rattle.nc_scripts.proofs.LotLaws.{named_so, its_name}
 use Rattle.nc_scripts.proofs.Lists.{all_in}
-use Rattle.nc_holds.specs.Tokens.{HasLent, TokenStays, token_of}
+use Rattle.nc_holds.specs.Tokens.{HasLent, TokenStays}
 use Rattle.nc_holds.proofs.ListsA.{all_at, at_get}
 use Rattle.nc_holds.proofs.ListsC.{none_here, other_removed, one_removed}
 use Rattle.nc_holds.proofs.OwnerLots.{same_named}
 use Rattle.nc_rows.specs.Ahead.{ends}
 use Rattle.nc_flatness.specs.Flatness.{Flatness}
 use Rattle.nc_flatness.specs.Tokens.{lot_token, is_lot_token, is_lending_side, is_sent, TokenStands}
-use Rattle.nc_flat_moves.proofs.GivenLots.{given, given_lot, IsLendingSo, AreLending, given_all}
+use Rattle.nc_flat_moves.proofs.GivenLots.{given, IsLendingSo, AreLending, given_all}
 
 -- ---- one of a list
 

@@ -1,41 +1,35 @@
 -- A token drains in flat memory: its lot is its channel's, and the bytes stand.
 use Rattle.nc_calls.proofs.DrainPlaces as drain_places
-use Rattle.std.specs.Prelude.{All, Option, Some, None, ◌/◌, remove}
-use Rattle.std.specs.List.{list_any}
-use Rattle.std.proofs.Common.{◌≡◌, ◌≢◌, ℕ, ◌<◌, Bool, true, false, List, length, refl, sym, ap, ◌∙◌, inl, inr, subst, arith}
-use Rattle.std.proofs.lemmas.Bool.{cases_eq, both_ways, false≢true}
+use Rattle.std.specs.Prelude.{All, Option, Some, None, remove}
+use Rattle.std.proofs.Common.{◌≡◌, ℕ, ◌<◌, true, false, List, length, refl, sym, ap, ◌∙◌, inl, inr, subst}
+use Rattle.std.proofs.lemmas.Bool.{cases_eq, both_ways}
 use Rattle.nc_num.specs.Memory.{byte}
-use Rattle.nc_num.specs.Places.{covers}
 use Rattle.nc_num.specs.declared.names.HartNo.{HartNo}
 use Rattle.nc_num.specs.declared.names.Label.{Label}
 use Rattle.nc_num.specs.declared.names.MapId.{MapId}
 use Rattle.nc_queue.specs.declared.entry.Entry.{Entry}
 use Rattle.nc_queue.specs.declared.entry.Entry.TheVariants as entries
-use Rattle.nc_plan.specs.Plans.{In}
 use Rattle.nc_model.specs.declared.owners.Owner.{Owner}
-use Rattle.nc_model.specs.declared.owners.Owner.TheVariants.{Thread, Passing, Lending, Device, Returning, Synced, Pool}
-use Rattle.nc_scen.specs.Regions.{pool_of, slots_of}
+use Rattle.nc_model.specs.declared.owners.Owner.TheVariants.{Lending, Returning, Pool}
+use Rattle.nc_scen.specs.Regions.{slots_of}
 use Rattle.nc_scen.specs.declared.scenario.Scenario.{Scenario}
-use Rattle.nc_rules.specs.declared.steps.Step.{Step}
 use Rattle.nc_rules.specs.Calls.{drain_next}
 use Rattle.nc_rules.specs.Driver.{DriverState, lent}
 use Rattle.nc_rules.specs.Lots.{lot_id}
-use Rattle.nc_rules.specs.Machine.{MachineState, queue_of}
+use Rattle.nc_rules.specs.Machine.{queue_of}
 use Rattle.nc_rules.specs.Watched.{owner_of}
 use Rattle.nc_rules.specs.World.{WorldState, driver_of}
 use Rattle.nc_calls.specs.PlaceLaws.{NotHeld}
-use Rattle.nc_holds.proofs.ListsA.{all_at, at_get}
 use Rattle.nc_rows.specs.Ahead.{is_full, settling}
 use Rattle.nc_rows.specs.Laws.{seen_at}
-use Rattle.nc_rows.specs.Places.{CalmRow}
-use Rattle.nc_rows.specs.Rows.{Loan, Book, Either, Row}
-use Rattle.nc_rows.specs.Parts.{IsDropped, IsZeroed, IsQueued, Queued, IsAllocating, MayBeHeld, Uncached, Lasts}
-use Rattle.nc_row_moves.specs.Laws.{is_token, IsDrain, IsGiven}
+use Rattle.nc_rows.specs.Rows.{Loan, Book, Row}
+use Rattle.nc_rows.specs.Parts.{Queued, IsAllocating, MayBeHeld, Lasts}
+use Rattle.nc_row_moves.specs.Laws.{is_token, IsGiven}
 use Rattle.nc_row_moves.proofs.PartMoves.{parts_stay}
 use Rattle.nc_row_moves.proofs.PlaceDrains.{leaves as entry_leaves}
 use Rattle.nc_row_moves.proofs.RowDrains.{rows_drain}
-use Rattle.nc_flatness.specs.Books.{book_of, mapping_in, LiesIn, IsOfArea, IsPooled}
-use Rattle.nc_flatness.specs.Flatness.{Drives, IsUnseen, BytesStand, Flatness}
+use Rattle.nc_flatness.specs.Books.{book_of, mapping_in, LiesIn, IsPooled}
+use Rattle.nc_flatness.specs.Flatness.{Drives, IsUnseen, BytesStand}
 use Rattle.nc_flatness.specs.Tokens.{TokenStands}
 use Rattle.nc_flatness.proofs.BookReads.{driver_here, driver_away, queued_to, pool_unheld}
 use Rattle.nc_flat_moves.proofs.Calm.{calm_of}

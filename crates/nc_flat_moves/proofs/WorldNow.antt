@@ -1,32 +1,21 @@
 -- What is known of a world with flat memory: what is to come of its drivers' plans, that no token is queued, and its pool.
 use Rattle.std.specs.Prelude.{Option, Some, None, ◌%◌}
-use Rattle.std.specs.List.{list_any}
-use Rattle.std.proofs.Common.{◌≡◌, ℕ, ◌<◌, List, [], ◌∷◌, length, refl, sym, ap, ◌∙◌, inl, arith}
-use Rattle.std.proofs.lemmas.Bool.{both_ways}
+use Rattle.std.proofs.Common.{◌≡◌, ℕ, List, length, refl, sym, ap, ◌∙◌, inl, arith}
 use Rattle.nc_num.specs.declared.names.MapId.{MapId}
 use Rattle.nc_num.specs.declared.places.Span.{Span}
 use Rattle.nc_num.proofs.Blocks.{page_whole}
-use Rattle.nc_queue.specs.declared.entry.Entry.{Entry}
-use Rattle.nc_plan.specs.Plans.{In}
 use Rattle.nc_model.specs.declared.owners.Owner.{Owner}
 use Rattle.nc_model.specs.declared.owners.Owner.TheVariants.{Thread, Passing, Lending, Device, Returning, Synced, Pool}
 use Rattle.nc_scen.specs.declared.scenario.Scenario.{Scenario}
-use Rattle.nc_rules.specs.declared.lots.Lot.{Lot}
-use Rattle.nc_rules.specs.declared.lots.LotId.{LotId}
-use Rattle.nc_rules.specs.declared.steps.Step.{Step}
-use Rattle.nc_rules.specs.Lots.{is_lot}
-use Rattle.nc_rules.specs.Machine.{queue_of}
 use Rattle.nc_rules.specs.World.{WorldState, driver_of}
 use Rattle.nc_scripts.specs.Scripts.{IsDriven}
 use Rattle.nc_holds.specs.Holds.{DriverHolds}
-use Rattle.nc_holds.specs.Tokens.{HasLent, TokenStays, token_of}
-use Rattle.nc_holds.proofs.ListsA.{all_at, none_of}
 use Rattle.nc_calls.proofs.StepPlaces.{pool_block}
 use Rattle.nc_rows.specs.Rows.{Loan, device_place}
 use Rattle.nc_row_moves.specs.Laws.{PiecesOf, HasPieces}
 use Rattle.nc_row_moves.specs.Parts.{WholePool}
 use Rattle.nc_flatness.specs.Books.{book_of}
-use Rattle.nc_flatness.specs.Flatness.{IsMapping, Flatness}
+use Rattle.nc_flatness.specs.Flatness.{Flatness}
 use Rattle.nc_flatness.proofs.Loans.{loan_is}
 use Rattle.nc_flatness.proofs.WholeBlocks.{in_whole}
 use Rattle.nc_flat_moves.proofs.Pieces.{comes_in_block}
