@@ -227,7 +227,7 @@ lasts_written : (sc : Scenario) (f : List ℕ) (w : WorldState) (k : MachineStat
 lasts_written sc f w k c span bytes is = λ h.
     last_stays sc f (told w c f span bytes) w (book_of w) k h is.flat (length-written f (named_from (channel_name w.grants c) span.at bytes) ∙ is.flat.bytes.flat_size) refl
     (ap (λ (hs : List HartState). (hart_of (record w.machine { harts = hs }) h).last) is.writes.harts) (λ n own. refl)
-    (λ x n lent. byte_beside sc f w k c span bytes x is (λ z on u same. not_device w n u.id x u.place lent u.owner same))
+    (λ x n own lent. byte_beside sc f w k c span bytes x is (λ z on u same. not_device w n u.id x u.place lent u.owner same))
 
 -- ---- the whole
 

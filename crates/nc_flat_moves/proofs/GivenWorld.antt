@@ -22,10 +22,11 @@ use Rattle.nc_sg.specs.declared.list.Entry.{Entry}
 use Rattle.nc_rules.specs.declared.lots.Lot.{Lot}
 use Rattle.nc_rules.specs.declared.lots.LotId.{LotId}
 use Rattle.nc_rules.specs.declared.lots.Side.TheVariants as sides
+use Rattle.nc_rules.specs.declared.steps.Turn.TheVariants as turns
 use Rattle.nc_rules.specs.Calls.{drain_next}
-use Rattle.nc_rules.specs.Driver.{DriverState, lent}
+use Rattle.nc_rules.specs.Driver.{DriverState, with_lots, lent}
 use Rattle.nc_rules.specs.Lots.{Fixed, is_lot, is_wanted, lot_id, map_id, owner_of_side}
-use Rattle.nc_rules.specs.Turns.{to_side, of_those, with_side, turned_by}
+use Rattle.nc_rules.specs.Turns.{to_side, of_those, with_side, lots_after, turned_by}
 use Rattle.nc_rules.specs.Watched.{owner_of}
 use Rattle.nc_rules.specs.World.{WorldState, driver_of, hart, owners_moved}
 use Rattle.nc_scripts.proofs.LotLaws.{named_so}
@@ -43,9 +44,9 @@ use Rattle.nc_flatness.proofs.BookReads.{loan_here, loan_away, rest_gone, buffer
 use Rattle.nc_flatness.proofs.Loans.{IsLoan, loan_is, one_lot, get_below}
 use Rattle.nc_flatness.proofs.Outcomes.{gone}
 use Rattle.nc_flatness.proofs.Owned.{me_is, entry_owned, of_buffer, mapped, owned_ram}
-use Rattle.nc_flat_moves.proofs.GivenLots.{given, given_lot, IsLendingSo, AreLending}
-use Rattle.nc_flat_moves.proofs.GivenPlans.{given_driver, unsettled}
-use Rattle.nc_flat_moves.proofs.SentLots.{IsSent, sent_one, sent_lending}
+use Rattle.nc_flatness.proofs.Lents.{lent as lent_lots, AreLending}
+use Rattle.nc_flatness.proofs.Tokens.{unended_settling}
+use Rattle.nc_flat_moves.proofs.SentLots.{IsSent, sent_one}
 
 abbrev pub given_world : WorldState → HartNo → ℕ → Label → ℕ → WorldState
 given_world w h i label first = gone w h (drain_next w.machine h.0 i) (lent (driver_of w h.0) label first)
@@ -60,6 +61,10 @@ pub record IsGiving (sc : Scenario) (f : List ℕ) (w : WorldState) (h : HartNo)
 
 -- ---- the driver
 
+-- the lots of the name are its channel's
+abbrev pub given_driver : DriverState → LotId → DriverState
+given_driver d id = with_lots d (lots_after (turns.Give id) d.lots)
+
 pub lent_driver : (d : DriverState) (label : Label) (first : ℕ) → (lent d label first).driver ≡ given_driver d (lot_id label first)
 unfolding lent
 lent_driver d label first = refl
@@ -73,25 +78,25 @@ lent_transfers d label first = nothing_behind (of_those (to_side d.fixed.me side
 abbrev loan_in : Fixed → List Lot → MapId → Option Loan
 loan_in f lots n = option_map (loan_by f n) (find (is_entry_of n) lots)
 
-entry_same : (n : MapId) (lot : Lot) → is_wanted lot.side ≡ false → is_entry_of n (given_lot lot) ≡ is_entry_of n lot
+entry_same : (n : MapId) (lot : Lot) → is_wanted lot.side ≡ false → is_entry_of n (record lot { side = sides.Device }) ≡ is_entry_of n lot
 entry_same n lot was = ap (λ (t : Bool). not t && (lot.id.label.0 == n.label.0 && (nat_le lot.id.first n.entry && nat_lt n.entry (lot.id.first + length lot.list.entries)))) (sym was)
 
 found_same : (f : Fixed) (n : MapId) (a b : Lot) (xs ys : List Lot) (t : Bool) → is_entry_of n a ≡ t → is_entry_of n b ≡ t → loan_by f n a ≡ loan_by f n b → loan_in f xs n ≡ loan_in f ys n → loan_in f (a ∷ xs) n ≡ loan_in f (b ∷ ys) n
 found_same f n a b xs ys true p q loan more = rw (p, q) (ap (λ (l : Loan). Some l) loan)
 found_same f n a b xs ys false p q loan more = rw (p, q) more
 
-loans_given : (f : Fixed) (n : MapId) (id : LotId) (lots : List Lot) → AreLending id lots → loan_in f (given id lots) n ≡ loan_in f lots n
+loans_given : (f : Fixed) (n : MapId) (id : LotId) (lots : List Lot) → AreLending id lots → loan_in f (lent_lots id lots) n ≡ loan_in f lots n
 loans_given f n id [] lending = refl
 loans_given f n id (lot ∷ lots) lending =
-    let more = loans_given f n id lots (All-tail (IsLendingSo id) lot lots lending) in
+    let more = loans_given f n id lots (All-tail (λ (l : Lot). is_lot id l ≡ true → l.side ≡ sides.Lending) lot lots lending) in
     elim (cases_Bool (is_lot id lot)) [
       | inl is ↦
-          let was : is_wanted lot.side ≡ false = ap is_wanted (All-head (IsLendingSo id) lot lots lending is) in
-          ap (λ (k : Lot). loan_in f (k ∷ given id lots) n) (cond-true (is_lot id lot) (given_lot lot) lot is)
-          ∙ found_same f n (given_lot lot) lot (given id lots) lots (is_entry_of n lot) (entry_same n lot was) refl refl more
+          let was : is_wanted lot.side ≡ false = ap is_wanted (All-head (λ (l : Lot). is_lot id l ≡ true → l.side ≡ sides.Lending) lot lots lending is) in
+          ap (λ (k : Lot). loan_in f (k ∷ lent_lots id lots) n) (cond-true (is_lot id lot) (record lot { side = sides.Device }) lot is)
+          ∙ found_same f n (record lot { side = sides.Device }) lot (lent_lots id lots) lots (is_entry_of n lot) (entry_same n lot was) refl refl more
       | inr other ↦
-          ap (λ (k : Lot). loan_in f (k ∷ given id lots) n) (cond-false (is_lot id lot) (given_lot lot) lot other)
-          ∙ found_same f n lot lot (given id lots) lots (is_entry_of n lot) refl refl refl more
+          ap (λ (k : Lot). loan_in f (k ∷ lent_lots id lots) n) (cond-false (is_lot id lot) (record lot { side = sides.Device }) lot other)
+          ∙ found_same f n lot lot (lent_lots id lots) lots (is_entry_of n lot) refl refl refl more
     ]
 
 pub drivers_there : (sc : Scenario) (f : List ℕ) (w : WorldState) (h : HartNo) (i : ℕ) (label : Label) (first count : ℕ) → IsGiving sc f w h i label first count → h.0 < length w.drivers
@@ -104,8 +109,7 @@ book_given sc f w h i label first count g =
     let went = lent d label first in
     let lt = drivers_there sc f w h i label first count g in
     let now = lent_driver d label first in
-    let lending = sent_lending sc f w h.0 label first count g.flat g.there g.sent in
-    let mine : (n : MapId) → loan_of went.driver n ≡ loan_of d n = λ n. ap (λ (e : DriverState). loan_of e n) now ∙ loans_given d.fixed n (lot_id label first) d.lots lending in
+    let mine : (n : MapId) → loan_of went.driver n ≡ loan_of d n = λ n. ap (λ (e : DriverState). loan_of e n) now ∙ loans_given d.fixed n (lot_id label first) d.lots g.sent.all in
     let loans : (n : MapId) → (book_of (gone w h m went)).loan n ≡ (book_of w).loan n = λ n. elim (cases_eq n.hart.0 h.0) [
       | inl own ↦ loan_here w h m went n own lt ∙ mine n ∙ ap (λ (k : ℕ). loan_of (driver_of w k) n) (sym own)
       | inr ne ↦ loan_away w h m went n ne
@@ -141,7 +145,7 @@ pub named_unsettled : (sc : Scenario) (f : List ℕ) (w : WorldState) (h : HartN
 named_unsettled sc f w h i label first count n l g on known =
     let by = named_by sc f w h i label first count n l g on known in
     ap (λ (id : LotId). settling id (driver_of w n.hart.0).rest) (by.is.lot_is ∙ ap (λ (k : Lot). k.id) by.lot_is) ∙ ap (λ (j : ℕ). settling g.sent.lot.id (driver_of w j).rest) by.hart
-    ∙ unsettled g.sent.lot.id (driver_of w h.0).rest g.sent.by.none
+    ∙ unended_settling g.sent.lot.id (driver_of w h.0).rest g.sent.none
 
 -- and each entry of the lot is one of them
 names_entry : (h : HartNo) (lot : Lot) (j : ℕ) → j < length lot.list.entries → is_token_of (map_id h lot.id j) h.0 (lot_token lot) ≡ true
@@ -161,11 +165,11 @@ owner_on sc f w h i label first count j e x g here on =
     let lot = g.sent.lot in
     let id = lot_id label first in
     let holds = g.flat.world.holds.each h.0 g.there in
-    let agree : OwnersAgree d.fixed.me (owners_moved w.owners (of_those (to_side d.fixed.me sides.Device) id d.lots)) (given id d.lots) =
+    let agree : OwnersAgree d.fixed.me (owners_moved w.owners (of_those (to_side d.fixed.me sides.Device) id d.lots)) (lent_lots id d.lots) =
     owners_sided (length w.machine.cache.ram) d.fixed sides.Device id d.lots w.owners holds.driver.lots g.flat.world.holds.owners holds.agrees.apart holds.agrees.owners in
-    let now : In (given_lot lot) (given id d.lots) =
-    subst (λ (k : Lot). In k (given id d.lots)) (cond-true (is_lot id lot) (given_lot lot) lot g.sent.named) (in_map {Y = Lot} (with_side sides.Device id) lot d.lots g.sent.here) in
-    ap (λ (ts : List (Span × Owner)). owner_in (owners_moved w.owners ts) x) (lent_transfers d label first) ∙ agree (given_lot lot) j e x (record { lot_in = now; entry = here.entry }) on
+    let now : In (record lot { side = sides.Device }) (lent_lots id d.lots) =
+    subst (λ (k : Lot). In k (lent_lots id d.lots)) (cond-true (is_lot id lot) (record lot { side = sides.Device }) lot g.sent.named) (in_map {Y = Lot} (with_side sides.Device id) lot d.lots g.sent.here) in
+    ap (λ (ts : List (Span × Owner)). owner_in (owners_moved w.owners ts) x) (lent_transfers d label first) ∙ agree (record lot { side = sides.Device }) j e x (record { lot_in = now; entry = here.entry }) on
     ∙ ap (λ (k : HartNo). Device (map_id k lot.id j)) (me_is w h.0 g.flat.world.holds g.there)
 
 owner_off : (sc : Scenario) (f : List ℕ) (w : WorldState) (h : HartNo) (i : ℕ) (label : Label) (first count x : ℕ) → IsGiving sc f w h i label first count → is_token (owner_of w x) h.0 (entries.Lend label first count) ≡ false
@@ -181,9 +185,9 @@ owner_off sc f w h i label first count x g off =
     let same = sent_one sc f w h.0 label first count r.lot g.flat g.there g.sent r.here.lot_in r.named in
     let here : IsEntryOf d.lots lot r.i r.entry = subst (λ (l : Lot). IsEntryOf d.lots l r.i r.entry) same r.here in
     let owned : owner_of w x ≡ Lending (map_id h lot.id r.i) =
-    entry_owned sc f w h.0 lot r.i r.entry x g.flat here (move_covers d.fixed.me sides.Device id d.lots t x r over) ∙ ap (owner_of_side (map_id h lot.id r.i)) g.sent.by.lending in
+    entry_owned sc f w h.0 lot r.i r.entry x g.flat here (move_covers d.fixed.me sides.Device id d.lots t x r over) ∙ ap (owner_of_side (map_id h lot.id r.i)) g.sent.lending in
     let on : is_token (owner_of w x) h.0 (entries.Lend label first count) ≡ true =
-    ap (λ (o : Owner). is_token o h.0 (entries.Lend label first count)) owned ∙ ap (is_token_of (map_id h lot.id r.i) h.0) g.sent.by.is ∙ names_entry h lot r.i (get_below lot.list.entries r.i r.entry here.entry) in
+    ap (λ (o : Owner). is_token o h.0 (entries.Lend label first count)) owned ∙ ap (is_token_of (map_id h lot.id r.i) h.0) g.sent.token ∙ names_entry h lot r.i (get_below lot.list.entries r.i r.entry here.entry) in
     both_ways (is_token (owner_of w x) h.0 (entries.Lend label first count)) off on)
 
 given_named : (sc : Scenario) (f : List ℕ) (w : WorldState) (h : HartNo) (i : ℕ) (label : Label) (first count x : ℕ) (n : MapId) → IsGiving sc f w h i label first count → owner_of w x ≡ Lending n → is_token (Lending n) h.0 (entries.Lend label first count) ≡ true

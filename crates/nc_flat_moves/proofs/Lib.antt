@@ -1,7 +1,5 @@
 pub mod Pooled
 pub mod Tokens
-pub mod GivenLots
-pub mod GivenPlans
 pub mod SentLots
 pub mod GivenWorld
 pub mod TokenBytes

@@ -32,12 +32,13 @@ use Rattle.nc_flatness.specs.Books.{book_of, mapping_in, LiesIn, IsPooled}
 use Rattle.nc_flatness.specs.Flatness.{Drives, IsUnseen, BytesStand}
 use Rattle.nc_flatness.specs.Tokens.{TokenStands}
 use Rattle.nc_flatness.proofs.BookReads.{driver_here, driver_away, queued_to, pool_unheld}
+use Rattle.nc_flatness.proofs.Lents.{drives_lent}
+use Rattle.nc_flatness.proofs.Stands.{drain_stands}
 use Rattle.nc_flat_moves.proofs.Calm.{calm_of}
-use Rattle.nc_flat_moves.proofs.GivenPlans.{given_driver, drives_given}
-use Rattle.nc_flat_moves.proofs.GivenWorld.{given_world, IsGiving, lent_driver, drivers_there, book_given, named_unsettled, IsGivenAt, Given, Kept, given_at}
+use Rattle.nc_flat_moves.proofs.GivenWorld.{given_driver, given_world, IsGiving, lent_driver, drivers_there, book_given, named_unsettled, IsGivenAt, Given, Kept, given_at}
 use Rattle.nc_flat_moves.proofs.LosesRows.{nowhere}
 use Rattle.nc_flat_moves.proofs.Pooled.{either_by, loan_pooled}
-use Rattle.nc_flat_moves.proofs.SentLots.{sent_lending, sent_none, tokens_given}
+use Rattle.nc_flat_moves.proofs.SentLots.{sent_none}
 use Rattle.nc_flat_moves.proofs.Tokens.{TokensStand}
 use Rattle.nc_flat_moves.proofs.WorldNow.{has_pieces, whole_pool}
 
@@ -54,7 +55,7 @@ drives_behind sc f w h i label first count k g lt =
           let now : driver_of (given_world w h i label first) k ≡ given_driver d (lot_id label first) =
           ap (driver_of (given_world w h i label first)) own ∙ driver_here w h m went (drivers_there sc f w h i label first count g) ∙ lent_driver d label first in
           subst Drives (sym now)
-          (drives_given d (lot_id label first) (sent_lending sc f w h.0 label first count g.flat g.there g.sent) (sent_none w h.0 label first count g.sent) (g.flat.bytes.drives h.0 g.lt))
+          (drives_lent d (lot_id label first) (sent_none w h.0 label first count g.sent) g.sent.all (g.flat.bytes.drives h.0 g.lt))
       | inr ne ↦ subst Drives (sym (driver_away w h m went k ne)) (g.flat.bytes.drives k lt)
     ]
 
@@ -72,7 +73,7 @@ tokens_behind sc f w h i label first count k g lt light =
           let queue : queue_of m k ≡ remove (queue_of w.machine h.0) i = ap (queue_of m) own ∙ loses.own in
           subst (λ (e : DriverState). All (TokenStands e.rest (queue_of m k)) e.lots) (sym now)
           (subst (λ (q : List Entry). All (TokenStands d.rest q) (given_driver d (lot_id label first)).lots) (sym queue)
-          (tokens_given d.rest (queue_of w.machine h.0) i label first count d.lots loses.stood (g.flat.bytes.tokens h.0 g.lt g.sent.light)))
+          (drain_stands d.rest (queue_of w.machine h.0) i (entries.Lend label first count) (lot_id label first) d.lots loses.stood refl (g.flat.bytes.tokens h.0 g.lt g.sent.light)))
       | inr ne ↦
           let same = driver_away w h m went k ne in
           subst (λ (e : DriverState). All (TokenStands e.rest (queue_of m k)) e.lots) (sym same)

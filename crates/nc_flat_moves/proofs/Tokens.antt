@@ -1,22 +1,20 @@
 -- Queued tokens behind an event: each lot has its own where it had it, until it drains.
 use Rattle.std.specs.Prelude.{All, Some, None, slice_get, remove}
-use Rattle.std.proofs.Common.{◌≡◌, ℕ, ◌<◌, true, false, List, length, refl, sym, ap, ◌∙◌, inl, inr, subst}
+use Rattle.std.proofs.Common.{◌≡◌, ℕ, ◌<◌, true, List, length, sym, ap, ◌∙◌, inl, inr, subst}
 use Rattle.std.proofs.lemmas.Bool.{cases_eq}
 use Rattle.nc_queue.specs.declared.entry.Entry.{Entry}
-use Rattle.nc_queue.specs.declared.entry.Entry.TheVariants as entries
 use Rattle.nc_scen.specs.declared.scenario.Scenario.{Scenario}
 use Rattle.nc_rules.specs.declared.lots.Lot.{Lot}
-use Rattle.nc_rules.specs.declared.lots.LotId.{LotId}
 use Rattle.nc_rules.specs.declared.steps.Step.{Step}
 use Rattle.nc_rules.specs.Machine.{MachineState, queue_of}
 use Rattle.nc_rules.specs.World.{WorldState, driver_of}
 use Rattle.nc_calls.specs.PlaceLaws.{QueueLoses}
 use Rattle.nc_scripts.proofs.Lists.{all_to}
 use Rattle.nc_holds.specs.Tokens.{token_of}
-use Rattle.nc_holds.proofs.ListsC.{other_removed}
 use Rattle.nc_flatness.specs.Flatness.{Flatness}
-use Rattle.nc_flatness.specs.Tokens.{is_lot_token, TokenStands}
+use Rattle.nc_flatness.specs.Tokens.{TokenStands}
 use Rattle.nc_flatness.proofs.Outcomes.{ran}
+use Rattle.nc_flatness.proofs.Tokens.{pass_stands, token_none}
 
 -- each lot of hart h has its token queued exactly where it is sent
 abbrev pub TokensStand : WorldState → ℕ → Type 0
@@ -32,17 +30,9 @@ tokens_same sc f w k flat same h lt light = tokens_in w k h (same h) (flat.bytes
 
 -- ---- an entry that is no token drains
 
-no_lot_token : (id : LotId) (e : Entry) → token_of e ≡ None → is_lot_token id e ≡ false
-no_lot_token id (entries.Lend label first count) none = absurd cc
-no_lot_token id (entries.Store span bytes kind) none = refl
-no_lot_token id (entries.Cbo block op) none = refl
-no_lot_token id (entries.Reg chan off width value) none = refl
-no_lot_token id (entries.Mail buf to) none = refl
-no_lot_token id (entries.Mark pred succ) none = refl
-
 tokens_left : (rest : List Step) (q : List Entry) (i : ℕ) (e : Entry) (lots : List Lot) → slice_get q i ≡ Some e → token_of e ≡ None → All (TokenStands rest q) lots → All (TokenStands rest (remove q i)) lots
 tokens_left rest q i e lots stood none all =
-    all_to (TokenStands rest q) (TokenStands rest (remove q i)) lots all (λ lot stands. other_removed (is_lot_token lot.id) q i e stood (no_lot_token lot.id e none) ∙ stands)
+    all_to (TokenStands rest q) (TokenStands rest (remove q i)) lots all (λ lot stands. pass_stands rest q i e lot stood (token_none lot.id e none) stands)
 
 pub tokens_drained : (sc : Scenario) (f : List ℕ) (w : WorldState) (k : MachineState) (h i : ℕ) (e : Entry) → Flatness sc f w → QueueLoses w.machine k h i e → token_of e ≡ None
     → (g : ℕ) → g < length sc.harts → (driver_of w g).fixed.light ≡ true → TokensStand (ran w k) g
