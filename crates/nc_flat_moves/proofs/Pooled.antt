@@ -48,7 +48,7 @@ loan_pooled sc f w n l x flat mine known area =
     let same = one_loan ((book_of w).loan n) l m.loan known m.known in
     subst (λ (s : Span). covers s x ≡ true) (sym flat.world.of_scenario.pool) (area_pooled sc f w n x flat m (ap (λ (k : Loan). k.area) (sym same) ∙ area))
 
--- with its channel or taken back, nobody holds it
+-- where its channel has it nobody holds it
 pub device_unheld : (sc : Scenario) (f : List ℕ) (w : WorldState) (n : MapId) (l : Loan) (x : ℕ) → Flatness sc f w → owner_of w x ≡ Device n → (book_of w).loan n ≡ Some l → l.area ≡ true → NotHeld w.machine x
 device_unheld sc f w n l x flat own known area =
     pool_unheld sc f w x flat (loan_pooled sc f w n l x flat (ap mapping_in own) known area) (λ may. subst (λ (o : Owner). MayBeHeld (book_of w) o) own may)
