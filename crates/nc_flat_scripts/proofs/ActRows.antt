@@ -189,16 +189,16 @@ entry_calm sc f w k h e z flat by own on calm =
     calm_at k v z (rows_issue.passed (book_of w) Pool v w.machine k h e z by (unowned_none (book_of w) (owner_of w) w.machine.size h e z own (subst IsUnowned (sym (flat.bytes.slotted z on)) tt)) calm)
 
 -- flat memory g has the bytes that the entry gives
-pub entry_stands : (sc : Scenario) (f g : List ℕ) (w : WorldState) (k : MachineState) (h : ℕ) (e : Entry) → Flatness sc f w → Enters w.machine k h e → Comes (book_of w) (owner_of w) w.machine h e → IsNoMail e → h < length sc.harts → IsIdle (driver_of w h)
+pub entry_stands : (sc : Scenario) (f g : List ℕ) (w : WorldState) (k : MachineState) (h : ℕ) (e : Entry) → Flatness sc f w → Enters w.machine k h e → Comes (book_of w) (owner_of w) w.machine h e → IsNoMail e → IsIdle (driver_of w h)
     → IsQueued (book_of w) (owner_of w) w.machine.pool w.machine.size h e → length g ≡ length f → ((x : ℕ) → byte g x ≡ unwrap_or (entry_gives w.machine.size e x) (byte f x)) → StandsIn sc g w k
-entry_stands sc f g w k h e flat by comes quiet few was is long bytes =
+entry_stands sc f g w k h e flat by comes quiet was is long bytes =
     let m = w.machine in
     let a = book_of w in
     record {
       flat_size = long ∙ flat.bytes.flat_size;
       rows = λ x lt off.
           subst (λ (v : ℕ). Row a (owner_of w x) v k x) (sym (bytes x))
-          (row_entered a (owner_of w) (byte f x) m k h e x by comes (apart_at sc f w x flat lt) (posted_at sc f w h x flat few was.still (none_ends (driver_of w h).rest was.rest) lt) (λ j g passing own. quiet (a.buffer x)) (flat.bytes.rows x lt off));
+          (row_entered a (owner_of w) (byte f x) m k h e x by comes (apart_at sc f w x flat lt) (posted_at sc f w h x flat was.still (none_ends (driver_of w h).rest was.rest) lt) (λ j g passing own. quiet (a.buffer x)) (flat.bytes.rows x lt off));
       calm = λ z on unseen. entry_calm sc f w k h e z flat by comes.own on (flat.bytes.calm z on unseen);
       queued = queued_more a (owner_of w) m k h e by is flat.bytes.queued;
       uncached = uncached_by a (owner_of w) m k by.shape (λ x over none. (by.pushes.places x).line ∙ none) flat.bytes.uncached;

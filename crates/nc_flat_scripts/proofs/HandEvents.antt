@@ -67,7 +67,7 @@ other_row : (sc : Scenario) (f : List ℕ) (w : WorldState) (h : HartNo) (n : Ma
 other_row sc f w h n went e buf x s lt off other =
     let p = s.passes in
     let flat = p.flat in
-    let entered = row_entered (book_of w) (owner_of w) (byte f x) w.machine n h.0 e x s.by s.comes (apart_at sc f w x flat lt) (posted_at sc f w h.0 x flat p.lt p.still p.was lt) (λ j g is own. s.mail ((book_of w).buffer x) (other j g is own)) (flat.bytes.rows x lt off) in
+    let entered = row_entered (book_of w) (owner_of w) (byte f x) w.machine n h.0 e x s.by s.comes (apart_at sc f w x flat lt) (posted_at sc f w h.0 x flat p.still p.was lt) (λ j g is own. s.mail ((book_of w).buffer x) (other j g is own)) (flat.bytes.rows x lt off) in
     let same : Row (book_of w) (owner_of w x) (byte f x) n x = subst (λ (o : Option ℕ). Row (book_of w) (owner_of w x) (unwrap_or o (byte f x)) n x) (s.silent x) entered in
     row_over sc f w h n n went (owner_of w x) (byte f x) x p lt refl (λ j g is own. s.others ((book_of w).buffer x) (other j g is own)) same
 

@@ -1,5 +1,5 @@
 -- A script's operation that is no touch: what it shows or writes, and the bytes of flat memory behind it.
-use Rattle.std.specs.Prelude.{Option, Some, None, Bool, true, false, if◌then◌else◌, unwrap_or, All, ◌/◌, ◌%◌}
+use Rattle.std.specs.Prelude.{Option, Some, None, Bool, true, false, if◌then◌else◌, unwrap_or, ◌/◌, ◌%◌}
 use Rattle.std.proofs.Common.{◌≡◌, ◌≢◌, ℕ, ◌*◌, ◌<◌, List, [], ◌∷◌, ◌++◌, length, replicate, refl, sym, ap, ◌∙◌, inl, inr, arith, subst}
 use Rattle.std.proofs.lemmas.Bool.{false≢true, ne_eqb}
 use Rattle.nc_num.specs.Memory.{byte}
@@ -153,7 +153,7 @@ put_stands sc f g w h op e flat lt was puts long bytes =
     let m = w.machine in
     let is = flat.world.machine in
     entry_stands sc f g w (issue_next m h.0 op) h.0 e flat (enters w h op e is lt puts.of_op puts.there puts.may)
-    (record { size = is.block_size; fits = issues_by_place.fits m h.0 op e is puts.there puts.of_op; plain = puts.plain; own = puts.own }) puts.mail (omega (arith, flat.world.of_scenario.harts, lt)) was puts.queued long bytes
+    (record { size = is.block_size; fits = issues_by_place.fits m h.0 op e is puts.there puts.of_op; plain = puts.plain; own = puts.own }) puts.mail was puts.queued long bytes
 
 -- one that gives nothing
 silent_stands : (sc : Scenario) (f : List ℕ) (w : WorldState) (h : HartNo) (op : HartOp) (e : Entry) → Flatness sc f w → h.0 < length w.machine.harts → IsIdle (driver_of w h.0) → Puts w h op e → ((x : ℕ) → entry_gives w.machine.size e x ≡ None)

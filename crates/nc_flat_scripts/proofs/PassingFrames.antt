@@ -1,8 +1,8 @@
 -- The bytes of flat memory behind a step with which a hart passes a buffer on, or takes one.
-use Rattle.std.specs.Prelude.{Option, Some, None, Bool, true, false, not, ◌&&◌, if◌then◌else◌, filter, All}
+use Rattle.std.specs.Prelude.{Option, Some, None, Bool, true, false, filter}
 use Rattle.std.specs.List.{list_any}
-use Rattle.std.proofs.Common.{◌≡◌, ◌⊎◌, ℕ, ◌<◌, List, [], ◌∷◌, length, refl, sym, ap, ◌∙◌, inl, inr, subst, arith}
-use Rattle.std.proofs.lemmas.Bool.{cases_eq, false≢true}
+use Rattle.std.proofs.Common.{◌≡◌, ℕ, ◌<◌, List, refl, sym, ap, ◌∙◌, inl, inr, subst}
+use Rattle.std.proofs.lemmas.Bool.{cases_eq}
 use Rattle.nc_num.specs.Memory.{byte}
 use Rattle.nc_num.specs.Places.{covers}
 use Rattle.nc_num.specs.declared.names.HartNo.{HartNo}
@@ -11,35 +11,29 @@ use Rattle.nc_num.specs.declared.places.Span.{Span}
 use Rattle.nc_queue.specs.declared.entry.Entry.{Entry}
 use Rattle.nc_model.specs.declared.owners.Owner.{Owner}
 use Rattle.nc_model.specs.declared.owners.Owner.TheVariants.{Thread, Passing, Lending, Device, Returning, Synced, Pool}
-use Rattle.nc_scen.specs.Regions.{pool_of, slots_of}
+use Rattle.nc_scen.specs.Regions.{slots_of}
 use Rattle.nc_scen.specs.declared.scenario.Scenario.{Scenario}
-use Rattle.nc_rules.specs.declared.lots.Lot.{Lot}
 use Rattle.nc_rules.specs.declared.lots.LotId.{LotId}
 use Rattle.nc_rules.specs.declared.steps.Step.{Step}
 use Rattle.nc_rules.specs.Machine.{MachineState, hart_of, queue_of}
-use Rattle.nc_rules.specs.Lots.{Fixed}
-use Rattle.nc_rules.specs.Driver.{DriverState, Went}
+use Rattle.nc_rules.specs.Driver.{Went}
 use Rattle.nc_rules.specs.Watched.{owner_of}
 use Rattle.nc_rules.specs.World.{WorldState, driver_of}
 use Rattle.nc_calls.specs.MachineLaws.{SameShape}
 use Rattle.nc_calls.specs.PlaceLaws.{NotHeld}
-use Rattle.nc_scripts.proofs.Lists.{all_to}
 use Rattle.nc_rows.specs.Ahead.{is_full, settling, coming, sending}
-use Rattle.nc_rows.specs.Laws.{seen_at}
 use Rattle.nc_rows.specs.Places.{CalmRow}
 use Rattle.nc_rows.specs.Rows.{Loan, Book, device_place, PassingRow, LendingTo, LendingFrom, AllocatingRow, GivingRow, Either, ByDir, LentRow, Row}
-use Rattle.nc_rows.specs.Parts.{IsDropped, IsZeroed, Queued, IsAllocating, MayBeHeld, rest_last, Lasts}
-use Rattle.nc_flatness.specs.Books.{book_of, mapping_in, LiesIn, IsPooled}
-use Rattle.nc_flatness.specs.Flatness.{Drives, IsUnseen, BytesStand, Flatness}
-use Rattle.nc_flatness.specs.Plans.{IsStill}
-use Rattle.nc_flatness.specs.Tokens.{lot_token, is_lot_token, is_lending_side, TokenStands}
-use Rattle.nc_flatness.proofs.BookReads.{loan_gone, rest_away, rest_here, buffer_gone, row_alike, seen_alike, queued_to}
-use Rattle.nc_flatness.proofs.Lasts.{last_stays}
+use Rattle.nc_rows.specs.Parts.{Queued}
+use Rattle.nc_flatness.specs.Books.{book_of}
+use Rattle.nc_flatness.specs.Flatness.{BytesStand}
+use Rattle.nc_flatness.specs.Tokens.{is_lot_token}
+use Rattle.nc_flatness.proofs.BookReads.{loan_gone, rest_away, rest_here, buffer_gone, row_alike, queued_to, zeroed_to}
 use Rattle.nc_flatness.proofs.Outcomes.{gone}
-use Rattle.nc_flat_scripts.proofs.LastLoads.{last_none}
-use Rattle.nc_flat_scripts.proofs.StepFrames.{driver_here, driver_away, drives_set}
-use Rattle.nc_flat_scripts.proofs.StillLots.{EndsNone, none_comes, none_settles, untaken_at}
-use Rattle.nc_flat_scripts.proofs.PassingParts.{Passes, there, OwnerMoves, placed_by, pooled_by, slotted_by, dropped_by, zeroed_by, held_moves, unseen_before, lasts_passed, tokens_passed}
+use Rattle.nc_flatness.proofs.Tokens.{unended_settling}
+use Rattle.nc_flat_scripts.proofs.StepFrames.{drives_set}
+use Rattle.nc_flat_scripts.proofs.StillLots.{EndsNone, none_comes, untaken_at}
+use Rattle.nc_flat_scripts.proofs.PassingParts.{Passes, there, OwnerMoves, placed_by, pooled_by, slotted_by, dropped_by, allocates_by, held_by, unseen_before, lasts_passed, tokens_passed}
 
 -- ---- a row of which the buffer is another
 
@@ -75,7 +69,7 @@ lent_ended a b n None v m x was left row = row
 lent_ended a b n (Some l) v m x was left row =
     let r = a.rest n.hart.0 in
     let s = b.rest n.hart.0 in
-    let settles : settling l.lot r ≡ settling l.lot s = none_settles l.lot r was ∙ sym (none_settles l.lot s left) in
+    let settles : settling l.lot r ≡ settling l.lot s = unended_settling l.lot r (was l.lot) ∙ sym (unended_settling l.lot s (left l.lot)) in
     let ahead : coming n l.lot r ≡ coming n l.lot s = none_comes n l.lot r was ∙ sym (none_comes n l.lot s left) in
     subst (λ (t : Bool). LentBy n l t (coming n l.lot s) v m x) settles (subst (λ (es : List Entry). LentBy n l (settling l.lot r) es v m x) ahead row)
 
@@ -133,10 +127,10 @@ stands_passed sc f w h n went p is =
       slotted = λ x over. slotted_by sc w v x (is.owners x) over (flat.bytes.slotted x over);
       rows = is.rows;
       calm = λ z on unseen. is.calm z on (flat.bytes.calm z on (unseen_before sc w v z (λ m. loan_gone w h n went m (there sc f w h went p) p.fixed p.lots) is.owners unseen));
-      queued = queued_to (book_of w) (book_of v) (owner_of w) (owner_of v) n (λ j k. dropped_by sc f w h n went n.size j k p is.owners) (λ j k. zeroed_by sc f w h n went n.size j k p is.owners) is.queued;
+      queued = queued_to (book_of w) (book_of v) (owner_of w) (owner_of v) n (λ j k. dropped_by sc f w h n went n.size j k p is.owners) (λ j k. zeroed_to (book_of w) (book_of v) (owner_of w) (owner_of v) n.size j k (allocates_by sc f w h n went j p is.owners)) is.queued;
       uncached = λ x over. elim (flat.bytes.uncached x (subst (λ (s : Span). covers s x ≡ true) is.shape.pool over)) [
         | inl none ↦ inl (is.held x none)
-        | inr may ↦ inr (held_moves sc f w h n went x p (is.owners x) may)
+        | inr may ↦ inr (held_by sc f w h n went x p is.owners may)
       ];
       unfenced = is.unfenced;
       tokens = tokens_passed sc f w h n went p is.tokens;

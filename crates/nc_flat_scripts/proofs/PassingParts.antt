@@ -3,11 +3,9 @@ use Rattle.std.specs.Prelude.{Option, Some, None, Bool, true, false, not, ◌&&�
 use Rattle.std.specs.List.{list_any}
 use Rattle.std.proofs.Common.{◌≡◌, ◌⊎◌, ℕ, ◌<◌, List, [], ◌∷◌, length, refl, sym, ap, ◌∙◌, inl, inr, subst, arith}
 use Rattle.std.proofs.lemmas.Bool.{cases_eq, false≢true}
-use Rattle.nc_num.specs.Memory.{byte}
 use Rattle.nc_num.specs.Places.{covers}
 use Rattle.nc_num.specs.declared.names.HartNo.{HartNo}
 use Rattle.nc_num.specs.declared.names.MapId.{MapId}
-use Rattle.nc_num.specs.declared.places.Span.{Span}
 use Rattle.nc_queue.specs.declared.entry.Entry.{Entry}
 use Rattle.nc_model.specs.declared.owners.Owner.{Owner}
 use Rattle.nc_model.specs.declared.owners.Owner.TheVariants.{Thread, Passing, Lending, Device, Returning, Synced, Pool}
@@ -21,24 +19,22 @@ use Rattle.nc_rules.specs.Lots.{Fixed}
 use Rattle.nc_rules.specs.Driver.{DriverState, Went}
 use Rattle.nc_rules.specs.Watched.{owner_of}
 use Rattle.nc_rules.specs.World.{WorldState, driver_of}
-use Rattle.nc_calls.specs.MachineLaws.{SameShape}
-use Rattle.nc_calls.specs.PlaceLaws.{NotHeld}
 use Rattle.nc_scripts.proofs.Lists.{all_to}
-use Rattle.nc_rows.specs.Ahead.{is_full, settling, coming, sending}
+use Rattle.nc_rows.specs.Ahead.{is_full, settling, coming}
 use Rattle.nc_rows.specs.Laws.{seen_at}
-use Rattle.nc_rows.specs.Places.{CalmRow}
-use Rattle.nc_rows.specs.Rows.{Loan, Book, device_place, PassingRow, LendingTo, LendingFrom, AllocatingRow, GivingRow, Either, ByDir, LentRow, Row}
-use Rattle.nc_rows.specs.Parts.{IsDropped, IsZeroed, Queued, IsAllocating, MayBeHeld, rest_last, Lasts}
+use Rattle.nc_rows.specs.Rows.{Book}
+use Rattle.nc_rows.specs.Parts.{IsDropped, MayBeHeld, rest_last, Lasts}
 use Rattle.nc_flatness.specs.Books.{book_of, mapping_in, LiesIn, IsPooled}
-use Rattle.nc_flatness.specs.Flatness.{Drives, IsUnseen, BytesStand, Flatness}
+use Rattle.nc_flatness.specs.Flatness.{Drives, IsUnseen, Flatness}
 use Rattle.nc_flatness.specs.Plans.{IsStill}
 use Rattle.nc_flatness.specs.Tokens.{lot_token, is_lot_token, is_lending_side, TokenStands}
-use Rattle.nc_flatness.proofs.BookReads.{loan_gone, rest_away, rest_here, buffer_gone, row_alike, seen_alike, queued_to}
+use Rattle.nc_flatness.proofs.BookReads.{loan_gone, rest_away, rest_here, seen_alike, StillAllocates, may_to, allocating}
 use Rattle.nc_flatness.proofs.Lasts.{last_stays}
 use Rattle.nc_flatness.proofs.Outcomes.{gone}
+use Rattle.nc_flatness.proofs.Tokens.{unended_settling}
 use Rattle.nc_flat_scripts.proofs.LastLoads.{last_none}
-use Rattle.nc_flat_scripts.proofs.StepFrames.{driver_here, driver_away, drives_set}
-use Rattle.nc_flat_scripts.proofs.StillLots.{EndsNone, none_comes, none_settles, untaken_at}
+use Rattle.nc_flat_scripts.proofs.StepFrames.{driver_here, driver_away}
+use Rattle.nc_flat_scripts.proofs.StillLots.{EndsNone, none_comes}
 
 -- hart h's driver goes on, and its lots stay as they are
 pub record Passes (sc : Scenario) (f : List ℕ) (w : WorldState) (h : HartNo) (went : Went) : Type 0 where
@@ -115,48 +111,22 @@ dropped_by sc f w h n went s j k p owners is =
 -- and so is what is allocated
 settles_by : (sc : Scenario) (f : List ℕ) (w : WorldState) (h : HartNo) (n : MachineState) (went : Went) (k : MapId) (lot : LotId) → Passes sc f w h went → settling lot ((book_of w).rest k.hart.0) ≡ true → settling lot ((book_of (gone w h n went)).rest k.hart.0) ≡ true
 settles_by sc f w h n went k lot p settles = elim (cases_eq k.hart.0 h.0) [
-  | inl own ↦ absurd (false≢true (sym (none_settles lot ((book_of w).rest k.hart.0) (subst (λ (g : ℕ). EndsNone ((book_of w).rest g)) (sym own) p.was)) ∙ settles))
+  | inl own ↦ absurd (false≢true (sym (unended_settling lot ((book_of w).rest k.hart.0) (subst (λ (g : ℕ). EndsNone ((book_of w).rest g)) (sym own) p.was lot)) ∙ settles))
   | inr ne ↦ ap (settling lot) (rest_away w h n went k.hart.0 ne) ∙ settles
 ]
 
-pub zeroed_by : (sc : Scenario) (f : List ℕ) (w : WorldState) (h : HartNo) (n : MachineState) (went : Went) (s j k : ℕ) → Passes sc f w h went → ((x : ℕ) → OwnerMoves sc w (gone w h n went) x) → IsZeroed (book_of w) (owner_of w) s j k
-    → IsZeroed (book_of (gone w h n went)) (owner_of (gone w h n went)) s j k
-zeroed_by sc f w h n went s j k p owners is = record {
-  id = is.id;
-  loan = is.loan;
-  lent = loan_gone w h n went is.id (there sc f w h went p) p.fixed p.lots ∙ is.lent;
-  own = is.own;
-  area = is.area;
-  ahead = settles_by sc f w h n went is.id is.loan.lot p is.ahead;
-  owned = λ x e. lending_by sc w (gone w h n went) x is.id (owners x) (is.owned x e);
+pub allocates_by : (sc : Scenario) (f : List ℕ) (w : WorldState) (h : HartNo) (n : MachineState) (went : Went) (j : ℕ) → Passes sc f w h went → ((x : ℕ) → OwnerMoves sc w (gone w h n went) x)
+    → StillAllocates (book_of w) (book_of (gone w h n went)) (owner_of w) (owner_of (gone w h n went)) j
+allocates_by sc f w h n went j p owners = record {
+  loans = λ k l own known area settles. (loan_gone w h n went k (there sc f w h went p) p.fixed p.lots ∙ known, settles_by sc f w h n went k l.lot p settles);
+  owners = λ k x own e. lending_by sc w (gone w h n went) x k (owners x) e;
 }
 
-allocates_by : (sc : Scenario) (f : List ℕ) (w : WorldState) (h : HartNo) (n : MachineState) (went : Went) (k : MapId) (o : Option Loan) → Passes sc f w h went → IsAllocating (book_of w) k o → IsAllocating (book_of (gone w h n went)) k o
-allocates_by sc f w h n went k None p is = is
-allocates_by sc f w h n went k (Some l) p is = (is.0, settles_by sc f w h n went k l.lot p is.1)
-
-held_by : (sc : Scenario) (f : List ℕ) (w : WorldState) (h : HartNo) (n : MachineState) (went : Went) (o : Owner) → Passes sc f w h went → MayBeHeld (book_of w) o → MayBeHeld (book_of (gone w h n went)) o
-held_by sc f w h n went (Lending k) p may =
-    subst (IsAllocating (book_of (gone w h n went)) k) (sym (loan_gone w h n went k (there sc f w h went p) p.fixed p.lots)) (allocates_by sc f w h n went k ((book_of w).loan k) p may)
-held_by sc f w h n went (Thread j) p may = may
-held_by sc f w h n went (Passing j g) p may = may
-held_by sc f w h n went (Device k) p may = may
-held_by sc f w h n went (Returning k) p may = may
-held_by sc f w h n went (Synced k) p may = may
-held_by sc f w h n went Pool p may = may
-
-unmapped_held : (a : Book) (o : Owner) → mapping_in o ≡ None → MayBeHeld a o → ⊥
-unmapped_held a (Lending k) none may = let no : ◌≡◌ {A = Option MapId} (Some k) None = none in absurd cc
-unmapped_held a (Thread j) none may = may
-unmapped_held a (Passing j g) none may = may
-unmapped_held a (Device k) none may = may
-unmapped_held a (Returning k) none may = may
-unmapped_held a (Synced k) none may = may
-unmapped_held a Pool none may = may
-
-pub held_moves : (sc : Scenario) (f : List ℕ) (w : WorldState) (h : HartNo) (n : MachineState) (went : Went) (x : ℕ) → Passes sc f w h went → OwnerMoves sc w (gone w h n went) x → MayBeHeld (book_of w) (owner_of w x) → MayBeHeld (book_of (gone w h n went)) (owner_of (gone w h n went) x)
-held_moves sc f w h n went x p (inl stays) may = subst (MayBeHeld (book_of (gone w h n went))) (sym stays) (held_by sc f w h n went (owner_of w x) p may)
-held_moves sc f w h n went x p (inr moves) may = absurd (unmapped_held (book_of w) (owner_of w x) moves.before may)
+pub held_by : (sc : Scenario) (f : List ℕ) (w : WorldState) (h : HartNo) (n : MachineState) (went : Went) (x : ℕ) → Passes sc f w h went → ((y : ℕ) → OwnerMoves sc w (gone w h n went) y) → MayBeHeld (book_of w) (owner_of w x)
+    → MayBeHeld (book_of (gone w h n went)) (owner_of (gone w h n went) x)
+held_by sc f w h n went x p owners may =
+    let is = allocating sc f w x p.flat may in
+    may_to (book_of w) (book_of (gone w h n went)) (owner_of w) (owner_of (gone w h n went)) is.id x (allocates_by sc f w h n went is.id.hart.0 p owners) is.owner may
 
 -- ---- what channels see
 

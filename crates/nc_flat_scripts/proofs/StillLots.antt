@@ -1,12 +1,8 @@
 -- The lots of a hart that has no plan at them: none is taken back, and of each that is being lent the token is queued.
-use Rattle.std.specs.Prelude.{All, Bool, true, false, not, nat_le, nat_lt, ◌==◌, ◌&&◌, if◌then◌else◌, filter, map}
+use Rattle.std.specs.Prelude.{All, true, false, map}
 use Rattle.std.specs.List.{list_any}
-use Rattle.std.proofs.Common.{◌≡◌, ℕ, ◌+◌, ◌<◌, List, [], ◌∷◌, length, refl, sym, ap, ◌∙◌, inl, inr, subst, arith}
-use Rattle.std.proofs.lemmas.Bool.{cases_Bool, and_from, false≢true}
-use Rattle.std.proofs.lemmas.Bool.Decides.{nat_tests}
+use Rattle.std.proofs.Common.{◌≡◌, ℕ, ◌<◌, List, [], sym, ap, ◌∙◌, subst}
 use Rattle.nc_num.specs.declared.names.MapId.{MapId}
-use Rattle.nc_queue.specs.declared.entry.Entry.{Entry}
-use Rattle.nc_queue.specs.declared.entry.Entry.TheVariants.{Store, Cbo, Reg, Mail, Lend, Mark}
 use Rattle.nc_lines.specs.Lines.{bare}
 use Rattle.nc_lines.proofs.Bared.{any_bare}
 use Rattle.nc_plan.specs.Plans.{In}
@@ -14,23 +10,21 @@ use Rattle.nc_model.specs.declared.owners.Owner.TheVariants.{Thread, Lending, De
 use Rattle.nc_scen.specs.declared.scenario.Scenario.{Scenario}
 use Rattle.nc_rules.specs.declared.lots.Lot.{Lot}
 use Rattle.nc_rules.specs.declared.lots.LotId.{LotId}
-use Rattle.nc_rules.specs.declared.lots.Side.{Side}
 use Rattle.nc_rules.specs.declared.lots.Side.TheVariants as sides
 use Rattle.nc_rules.specs.declared.steps.Step.{Step}
 use Rattle.nc_rules.specs.Lots.{Fixed, owner_of_side}
 use Rattle.nc_rules.specs.Machine.{queue_of}
 use Rattle.nc_rules.specs.Watched.{owner_of}
 use Rattle.nc_rules.specs.World.{WorldState, driver_of}
-use Rattle.nc_holds.proofs.ListsA.{all_at, none_at, of_filter}
-use Rattle.nc_rows.specs.Ahead.{ends, names, settling, coming}
+use Rattle.nc_holds.proofs.ListsA.{all_at}
+use Rattle.nc_rows.specs.Ahead.{ends, names, coming}
 use Rattle.nc_rows.proofs.Steps.{steps_ahead}
+use Rattle.nc_row_moves.proofs.Tests.{bare_names}
 use Rattle.nc_flatness.specs.Books.{mapping_in}
 use Rattle.nc_flatness.specs.Flatness.{Flatness}
 use Rattle.nc_flatness.specs.Plans.{IsStill, StillDevice, StillSynced, StillOwn, StillSent}
-use Rattle.nc_flatness.specs.Tokens.{lot_token, is_lot_token, is_lending_side, TokenStands}
-use Rattle.nc_flatness.proofs.Loans.{get_below}
 use Rattle.nc_flatness.proofs.Owned.{IsMapped, mapped}
-use Rattle.nc_flatness.proofs.Rests.{settling_ends}
+use Rattle.nc_flatness.proofs.Tokens.{lent_sent, sent_named}
 use Rattle.nc_flat_scripts.specs.Entering.{IsPosted}
 
 -- no step of the rest ends the stay of a lot with its owner
@@ -40,15 +34,9 @@ EndsNone rest = (lot : LotId) → list_any (ends lot) rest ≡ false
 pub none_ends : (rest : List Step) → rest ≡ [] → EndsNone rest
 none_ends rest none lot = ap (list_any (ends lot)) none
 
--- so nothing of a lot is to come, and none is allocated
+-- so nothing of a lot is to come
 pub none_comes : (n : MapId) (lot : LotId) (rest : List Step) → EndsNone rest → coming n lot rest ≡ []
 none_comes n lot rest none = steps_ahead.none n lot rest (none lot)
-
-pub none_settles : (lot : LotId) (rest : List Step) → EndsNone rest → settling lot rest ≡ false
-none_settles lot rest none = elim (cases_Bool (settling lot rest)) [
-  | inl settles ↦ absurd (false≢true (sym (none lot) ∙ settling_ends lot rest settles))
-  | inr not ↦ not
-]
 
 -- ---- sides
 
@@ -69,39 +57,6 @@ still_sent f n lot (StillSynced is single) e = let no : Lending n ≡ Synced n =
 still_sent f n lot (StillOwn is area) e = let no : Lending n ≡ Thread n.hart = e ∙ ap (owner_of_side n) is in absurd cc
 still_sent f n lot (StillSent is light) e = record { side = is; light = light }
 
--- ---- tokens
-
-bare_names : (n : MapId) (e : Entry) → names n (bare e) ≡ names n e
-bare_names n (Lend label first count) = refl
-bare_names n (Store span bytes kind) = refl
-bare_names n (Cbo block op) = refl
-bare_names n (Reg chan off width value) = refl
-bare_names n (Mail buf to) = refl
-bare_names n (Mark pred succ) = refl
-
--- the token of a lot names each of its mappings
-token_names : (n : MapId) (lot : Lot) (i : ℕ) → lot.id.label.0 ≡ n.label.0 → n.entry ≡ lot.id.first + i → i < length lot.list.entries → names n (lot_token lot) ≡ true
-token_names n lot i label entry lt =
-    let same : (lot.id.label.0 == n.label.0) ≡ true = grind (arith, nat_tests) in
-    let low : nat_le lot.id.first n.entry ≡ true = grind (arith, nat_tests) in
-    let high : nat_lt n.entry (lot.id.first + length lot.list.entries) ≡ true = grind (arith, nat_tests) in
-    and_from (lot.id.label.0 == n.label.0) (nat_le lot.id.first n.entry && nat_lt n.entry (lot.id.first + length lot.list.entries)) same
-    (and_from (nat_le lot.id.first n.entry) (nat_lt n.entry (lot.id.first + length lot.list.entries)) low high)
-
-queued_names : (q : List Entry) (n : MapId) (lot : Lot) → filter (is_lot_token lot.id) q ≡ lot_token lot ∷ [] → names n (lot_token lot) ≡ true → list_any (names n) (map bare q) ≡ true
-queued_names q n lot e named =
-    let here : In (lot_token lot) q = (of_filter (is_lot_token lot.id) (lot_token lot) q (subst (λ (es : List Entry). In (lot_token lot) es) (sym e) (inl refl))).0 in
-    elim (cases_Bool (list_any (names n) q)) [
-      | inl any ↦ any_bare (names n) (bare_names n) q ∙ any
-      | inr none ↦ absurd (false≢true (sym (none_at (names n) q (lot_token lot) none here) ∙ named))
-    ]
-
-sent_token : (rest : List Step) (q : List Entry) (lot : Lot) → TokenStands rest q lot → lot.side ≡ sides.Lending → list_any (ends lot.id) rest ≡ false → filter (is_lot_token lot.id) q ≡ lot_token lot ∷ []
-sent_token rest q lot is side none =
-    is
-    ∙ ap (λ (s : Side). if is_lending_side s && not (list_any (ends lot.id) rest) then lot_token lot ∷ [] else []) side
-    ∙ ap (λ (t : Bool). if not t then lot_token lot ∷ [] else []) none
-
 -- ---- places
 
 lot_here : (w : WorldState) (h : ℕ) (n : MapId) (x : ℕ) → (m : IsMapped w n x) → n.hart.0 ≡ h → In m.is.lot (driver_of w h).lots
@@ -114,16 +69,17 @@ untaken_at sc f w h x n flat still lt e hart =
     let d = driver_of w h in
     still_taken d.fixed n m.is.lot (all_at (IsStill d.fixed) d.lots m.is.lot still (lot_here w h n x m hart)) (sym e ∙ m.owner)
 
+-- the token of a mapping whose lot is sent
+sent_posted : (sc : Scenario) (f : List ℕ) (w : WorldState) (n : MapId) (x : ℕ) → Flatness sc f w → (m : IsMapped w n x) → IsSent (driver_of w n.hart.0).fixed m.is.lot → EndsNone (driver_of w n.hart.0).rest → list_any (names n) (map bare (queue_of w.machine n.hart.0)) ≡ true
+sent_posted sc f w n x flat m sent none =
+    any_bare (names n) (bare_names n) (queue_of w.machine n.hart.0)
+    ∙ sent_named sc f w n m.loan flat m.is sent.light (lent_sent (driver_of w n.hart.0).rest m.is.lot sent.side (none m.is.lot.id))
+
 -- and of each that it lends the token is queued
-pub posted_at : (sc : Scenario) (f : List ℕ) (w : WorldState) (h x : ℕ) → Flatness sc f w → h < length sc.harts → All (IsStill (driver_of w h).fixed) (driver_of w h).lots → EndsNone (driver_of w h).rest → x < sc.ram → IsPosted (owner_of w) w.machine h x
-posted_at sc f w h x flat few still none lt = λ n e hart.
+pub posted_at : (sc : Scenario) (f : List ℕ) (w : WorldState) (h x : ℕ) → Flatness sc f w → All (IsStill (driver_of w h).fixed) (driver_of w h).lots → EndsNone (driver_of w h).rest → x < sc.ram → IsPosted (owner_of w) w.machine h x
+posted_at sc f w h x flat still none lt = λ n e hart.
     let m = mapped sc f w n x flat lt (ap mapping_in e) in
     let d = driver_of w h in
-    let q = queue_of w.machine h in
-    let lot = m.is.lot in
-    let here = lot_here w h n x m hart in
-    let sent = still_sent d.fixed n lot (all_at (IsStill d.fixed) d.lots lot still here) (sym e ∙ m.owner) in
-    let stands = all_at (TokenStands d.rest q) d.lots lot (flat.bytes.tokens h few sent.light) here in
-    let entry : n.entry ≡ lot.id.first + m.is.i = omega (arith, m.is.first, m.is.number) in
-    queued_names q n lot (sent_token d.rest q lot stands sent.side (none lot.id))
-    (token_names n lot m.is.i m.is.label entry (get_below lot.list.entries m.is.i m.is.entry m.is.here.entry))
+    let sent = still_sent d.fixed n m.is.lot (all_at (IsStill d.fixed) d.lots m.is.lot still (lot_here w h n x m hart)) (sym e ∙ m.owner) in
+    subst (λ (k : ℕ). list_any (names n) (map bare (queue_of w.machine k)) ≡ true) hart
+    (sent_posted sc f w n x flat m (subst (λ (k : ℕ). IsSent (driver_of w k).fixed m.is.lot) (sym hart) sent) (subst (λ (k : ℕ). EndsNone (driver_of w k).rest) (sym hart) none))
