@@ -2,7 +2,7 @@
 -- and no other place does.
 use Rattle.std.specs.Prelude.{Option, Some, None, All, true, false, slice_get}
 use Rattle.std.specs.List.{list_any}
-use Rattle.std.proofs.Common.{◌≡◌, ◌≢◌, ℕ, zero, suc, ◌<◌, List, [], ◌∷◌, length, refl, sym, ap, ◌∙◌, inl, inr, subst}
+use Rattle.std.proofs.Common.{◌≡◌, ◌≢◌, ◌⊎◌, ℕ, zero, suc, ◌<◌, List, [], ◌∷◌, length, refl, sym, ap, ◌∙◌, inl, inr, subst, arith}
 use Rattle.std.proofs.lemmas.Bool.{cases_Bool, cases_eq, both_ways}
 use Rattle.std.proofs.lemmas.List.{get_or-set_same, get_or-set_other}
 use Rattle.nc_num.specs.Memory.{byte}
@@ -13,6 +13,7 @@ use Rattle.nc_num.specs.declared.places.Span.{Span}
 use Rattle.nc_env.specs.declared.CboOp.TheVariants as cbos
 use Rattle.nc_queue.specs.declared.entry.Entry.{Entry as QueueEntry}
 use Rattle.nc_queue.specs.declared.entry.Entry.TheVariants as entries
+use Rattle.nc_model.proofs.Faults.{covers-high}
 use Rattle.nc_model.specs.declared.owners.Owner.{Owner}
 use Rattle.nc_model.specs.declared.owners.Owner.TheVariants.{Thread, Passing, Lending, Device, Returning, Synced, Pool}
 use Rattle.nc_own.specs.Books.{owner_in}
@@ -31,12 +32,13 @@ use Rattle.nc_scripts.proofs.Lists.{all_to}
 use Rattle.nc_rows.specs.Ahead.{is_full, settling, sending, coming}
 use Rattle.nc_rows.specs.Places.{CalmRow}
 use Rattle.nc_rows.specs.Rows.{Loan, Book, Row}
-use Rattle.nc_rows.specs.Parts.{IsQueued, MayBeHeld, rest_last, LastIs}
+use Rattle.nc_rows.specs.Parts.{IsQueued, IsAllocating, MayBeHeld, rest_last, LastIs}
 use Rattle.nc_calls.specs.PlaceLaws.{NotHeld}
-use Rattle.nc_flatness.specs.Books.{loan_of, number_in, book_of, mapping_in, LiesIn}
+use Rattle.nc_flatness.specs.Books.{loan_of, number_in, book_of, mapping_in, LiesIn, IsPooled}
 use Rattle.nc_flatness.specs.Flatness.{Drives, IsUnseen, BytesStand, Flatness}
+use Rattle.nc_flatness.specs.Tokens.{TokenStands}
 use Rattle.nc_flatness.proofs.Outcomes.{gone}
-use Rattle.nc_flat_starts.specs.Books.{SameLoan, ReadsAlike, HasNoArea}
+use Rattle.nc_flat_starts.specs.Books.{SameLoan, ReadsAlike}
 use Rattle.nc_flat_starts.proofs.BookRows.{row_same}
 
 -- ---- the places of a lot
@@ -104,23 +106,38 @@ IsRestful (Device n) = Unit {0}
 IsRestful (Synced n) = Unit {0}
 IsRestful Pool = Unit {0}
 
+-- flat memory goes on from f to g, and no place beside the lot has another byte
+pub record Rewrites (sc : Scenario) (f g : List ℕ) (w : WorldState) (h : HartNo) (lot : Lot) : Type 0 where
+  pub size : length g ≡ length f
+  pub beside : (x : ℕ) → x < sc.ram → IsOff lot x → byte g x ≡ byte f x
+  pub pieces : (j : ℕ) → j ≢ h.0 → LastIs (book_of w) f j (hart_of w.machine j).last (rest_last ((book_of w).rest j)) → LastIs (book_of w) g j (hart_of w.machine j).last (rest_last ((book_of w).rest j))
+
+pub rewrites_none : (sc : Scenario) (f : List ℕ) (w : WorldState) (h : HartNo) (lot : Lot) → Rewrites sc f f w h lot
+rewrites_none sc f w h lot = record { size = refl; beside = λ x there off. refl; pieces = λ j ne is. is }
+
 -- hart h's driver and the owners before and behind: each entry of the lot has this side behind, and nothing else changes
-pub record Turns (sc : Scenario) (f : List ℕ) (w : WorldState) (h : HartNo) (m : MachineState) (went : Went) (lot : Lot) (side : Side) : Type 0 where
+pub record Turns (sc : Scenario) (f g : List ℕ) (w : WorldState) (h : HartNo) (m : MachineState) (went : Went) (lot : Lot) (side : Side) : Type 0 where
   pub on : (i : ℕ) (e : Entry) (x : ℕ) → x < sc.ram → IsPlace lot i e x → owner_in (owners_moved w.owners went.moves.transfers) x ≡ owner_of_side (map_id h lot.id i) side
   pub off : (x : ℕ) → IsOff lot x → owner_in (owners_moved w.owners went.moves.transfers) x ≡ owner_of w x
-  pub beside : (i : ℕ) (e : Entry) (x : ℕ) → IsPlace lot i e x → (covers (pool_of sc) x ≡ false) × (covers (slots_of sc) x ≡ false)
-  pub mine : (i : ℕ) (e : Entry) (x : ℕ) (k : MapId) → IsPlace lot i e x → owner_of w x ≡ Returning k → k.hart.0 ≡ h.0
+  pub unslotted : (i : ℕ) (e : Entry) (x : ℕ) → IsPlace lot i e x → covers (slots_of sc) x ≡ false
+  pub mine : (i : ℕ) (e : Entry) (x : ℕ) (k : MapId) → IsPlace lot i e x → mapping_in (owner_of w x) ≡ Some k → k.hart.0 ≡ h.0
   -- the hart's other mappings stay, and none of them is being lent or taken back
   pub others : (x : ℕ) (k : MapId) → x < sc.ram → IsOff lot x → mapping_in (owner_of w x) ≡ Some k → k.hart.0 ≡ h.0 → (loan_of went.driver k ≡ loan_of (driver_of w h.0) k) × IsRestful (owner_of w x)
+  -- so do its other areas
+  pub areas : (x : ℕ) (k : MapId) (l : Loan) → IsOff lot x → k.hart.0 ≡ h.0 → (book_of w).loan k ≡ Some l → l.area ≡ true → covers l.grant.buffer x ≡ true → loan_of went.driver k ≡ Some l
+  -- a place of the lot that is one of the coherent pool
+  pub pooled : (i : ℕ) (e : Entry) (x : ℕ) → IsPlace lot i e x → covers (pool_of sc) x ≡ true → IsPooled (book_of (gone w h m went)) (owner_of_side (map_id h lot.id i) side) x
+  pub free : (i : ℕ) (e : Entry) (x : ℕ) → IsPlace lot i e x → covers (pool_of sc) x ≡ true → NotHeld m x ⊎ MayBeHeld (book_of (gone w h m went)) (owner_of_side (map_id h lot.id i) side)
   -- no message is begun or gone
   pub silent : (b : ℕ) → sending b went.driver.rest ≡ sending b (driver_of w h.0).rest
   pub fixed : went.driver.fixed ≡ (driver_of w h.0).fixed
   pub drives : Drives went.driver
-  pub lasting : LastIs (book_of (gone w h m went)) f h.0 (hart_of m h.0).last (rest_last went.driver.rest)
+  pub lasting : LastIs (book_of (gone w h m went)) g h.0 (hart_of m h.0).last (rest_last went.driver.rest)
   pub queue : All (IsQueued (book_of (gone w h m went)) (owner_of (gone w h m went)) m.pool m.size h.0) (queue_of m h.0)
+  pub tokens : went.driver.fixed.light ≡ true → All (TokenStands went.driver.rest (queue_of m h.0)) went.driver.lots
   pub passes : (x v : ℕ) → x < sc.ram → covers (slots_of sc) x ≡ false → IsOff lot x → Row (book_of w) (owner_of w x) v w.machine x → Row (book_of w) (owner_of w x) v m x
   pub lies : (i : ℕ) (e : Entry) (x : ℕ) (k : MapId) → x < sc.ram → IsPlace lot i e x → mapping_in (owner_of_side (map_id h lot.id i) side) ≡ Some k → LiesIn ((book_of (gone w h m went)).loan k) x
-  pub row : (i : ℕ) (e : Entry) (x v : ℕ) → x < sc.ram → IsPlace lot i e x → Row (book_of w) (owner_of w x) v w.machine x → Row (book_of (gone w h m went)) (owner_of_side (map_id h lot.id i) side) v m x
+  pub row : (i : ℕ) (e : Entry) (x : ℕ) → x < sc.ram → IsPlace lot i e x → Row (book_of w) (owner_of w x) (byte f x) w.machine x → Row (book_of (gone w h m went)) (owner_of_side (map_id h lot.id i) side) (byte g x) m x
   pub calm : (z : ℕ) → covers (slots_of sc) z ≡ true → IsUnseen (book_of (gone w h m went)) (owner_of (gone w h m went)) (slots_of sc) z → CalmRow m z
 
 -- ---- the drivers behind
@@ -195,12 +212,12 @@ reads_aside w h m went Pool x lt fixed silent aside = tt
 -- ---- what is queued, and loaded last
 
 -- of another hart's queue
-pub queued_aside : (w : WorldState) (h : HartNo) (m : MachineState) (went : Went) (g : ℕ) (pool : Span) (s : ℕ) (owner : ℕ → Owner) (e : QueueEntry) → g ≢ h.0 → HasNoArea (book_of w)
-    → ((x : ℕ) (k : MapId) → owner_of w x ≡ Returning k → k.hart.0 ≢ h.0 → owner x ≡ Returning k) → IsQueued (book_of w) (owner_of w) pool s g e → IsQueued (book_of (gone w h m went)) owner pool s g e
-queued_aside w h m went g pool s owner (entries.Store span bytes kind) ne plain stays is = is
-queued_aside w h m went g pool s owner (entries.Cbo block cbos.Clean) ne plain stays is = tt
-queued_aside w h m went g pool s owner (entries.Cbo block cbos.Flush) ne plain stays is = tt
-queued_aside w h m went g pool s owner (entries.Cbo block cbos.Inval) ne plain stays is =
+pub queued_aside : (w : WorldState) (h : HartNo) (m : MachineState) (went : Went) (g : ℕ) (pool : Span) (s : ℕ) (owner : ℕ → Owner) (e : QueueEntry) → g ≢ h.0
+    → ((x : ℕ) (k : MapId) → mapping_in (owner_of w x) ≡ Some k → k.hart.0 ≢ h.0 → owner x ≡ owner_of w x) → IsQueued (book_of w) (owner_of w) pool s g e → IsQueued (book_of (gone w h m went)) owner pool s g e
+queued_aside w h m went g pool s owner (entries.Store span bytes kind) ne stays is = is
+queued_aside w h m went g pool s owner (entries.Cbo block cbos.Clean) ne stays is = tt
+queued_aside w h m went g pool s owner (entries.Cbo block cbos.Flush) ne stays is = tt
+queued_aside w h m went g pool s owner (entries.Cbo block cbos.Inval) ne stays is =
     let other : is.id.hart.0 ≢ h.0 = λ own. ne (sym is.own ∙ own) in
     record {
       id = is.id;
@@ -210,15 +227,25 @@ queued_aside w h m went g pool s owner (entries.Cbo block cbos.Inval) ne plain s
       back = is.back;
       ahead = ap (λ (rest : List Step). list_any is_full (coming is.id is.loan.lot rest)) (rest_there w h m went is.id.hart.0 other) ∙ is.ahead;
       place = is.place;
-      owned = stays is.place is.id is.owned other;
+      owned = stays is.place is.id (ap mapping_in is.owned) other ∙ is.owned;
       here = is.here;
     }
-queued_aside w h m went g pool s owner (entries.Cbo block cbos.Zero) ne plain stays (inl beside) = inl beside
-queued_aside w h m went g pool s owner (entries.Cbo block cbos.Zero) ne plain stays (inr zeroed) = absurd (both_ways zeroed.loan.area (plain zeroed.id zeroed.loan zeroed.lent) zeroed.area)
-queued_aside w h m went g pool s owner (entries.Reg chan off width value) ne plain stays is = tt
-queued_aside w h m went g pool s owner (entries.Mail buf to) ne plain stays is = tt
-queued_aside w h m went g pool s owner (entries.Lend label first count) ne plain stays is = tt
-queued_aside w h m went g pool s owner (entries.Mark pred succ) ne plain stays is = tt
+queued_aside w h m went g pool s owner (entries.Cbo block cbos.Zero) ne stays (inl beside) = inl beside
+queued_aside w h m went g pool s owner (entries.Cbo block cbos.Zero) ne stays (inr is) =
+    let other : is.id.hart.0 ≢ h.0 = λ own. ne (sym is.own ∙ own) in
+    inr (record {
+      id = is.id;
+      loan = is.loan;
+      lent = loan_there w h m went is.id other ∙ is.lent;
+      own = is.own;
+      area = is.area;
+      ahead = ap (λ (rest : List Step). settling is.loan.lot rest) (rest_there w h m went is.id.hart.0 other) ∙ is.ahead;
+      owned = λ x here. stays x is.id (ap mapping_in (is.owned x here)) other ∙ is.owned x here;
+    })
+queued_aside w h m went g pool s owner (entries.Reg chan off width value) ne stays is = tt
+queued_aside w h m went g pool s owner (entries.Mail buf to) ne stays is = tt
+queued_aside w h m went g pool s owner (entries.Lend label first count) ne stays is = tt
+queued_aside w h m went g pool s owner (entries.Mark pred succ) ne stays is = tt
 
 piece_aside : (a c : Book) (f : List ℕ) (g : ℕ) (bytes : List ℕ) (o : Option Span) → ((k : MapId) → k.hart.0 ≡ g → c.loan k ≡ a.loan k) → LastIs a f g bytes o → LastIs c f g bytes o
 piece_aside a c f g bytes None same is = tt
@@ -239,80 +266,10 @@ last_aside w h m went f g bytes ne is =
     (piece_aside (book_of w) (book_of (gone w h m went)) f g bytes (rest_last ((book_of w).rest g)) (λ k own. loan_there w h m went k (λ e. ne (sym own ∙ e))) is)
 
 -- of its own, by what is left of its plan
-last_here : (w : WorldState) (h : HartNo) (m : MachineState) (went : Went) (f : List ℕ) → h.0 < length w.drivers → LastIs (book_of (gone w h m went)) f h.0 (hart_of m h.0).last (rest_last went.driver.rest)
+pub last_here : (w : WorldState) (h : HartNo) (m : MachineState) (went : Went) (f : List ℕ) → h.0 < length w.drivers → LastIs (book_of (gone w h m went)) f h.0 (hart_of m h.0).last (rest_last went.driver.rest)
     → LastIs (book_of (gone w h m went)) f h.0 (hart_of m h.0).last (rest_last ((book_of (gone w h m went)).rest h.0))
 last_here w h m went f lt is = subst (λ (rest : List Step). LastIs (book_of (gone w h m went)) f h.0 (hart_of m h.0).last (rest_last rest)) (sym (rest_hart w h m went h.0 lt refl)) is
 
 -- with no store to come
 pub last_none : (a : Book) (f : List ℕ) (g : ℕ) (bytes : List ℕ) (o : Option Span) → o ≡ None → LastIs a f g bytes o
 last_none a f g bytes o none = subst (λ (k : Option Span). LastIs a f g bytes k) (sym none) tt
-
--- ---- the whole
-
--- nobody holds a block of the pool
-pub free_pool : (sc : Scenario) (f : List ℕ) (w : WorldState) (x : ℕ) → BytesStand sc f w → covers w.machine.pool x ≡ true → covers (pool_of sc) x ≡ true → NotHeld w.machine x
-free_pool sc f w x s over pooled = elim (s.uncached x over) [
-  | inl free ↦ free
-  | inr may ↦ absurd (subst (λ (o : Owner). MayBeHeld (book_of w) o) (s.pooled x pooled) may)
-]
-
-drives_by : (sc : Scenario) (w : WorldState) (h : HartNo) (m : MachineState) (went : Went) → h.0 < length w.drivers → ((g : ℕ) → g < length sc.harts → Drives (driver_of w g)) → Drives went.driver → (g : ℕ) → g < length sc.harts → Drives (driver_of (gone w h m went) g)
-drives_by sc w h m went lt all now g there = elim (cases_eq g h.0) [
-  | inl own ↦ subst (λ (d : DriverState). Drives d) (sym (ap (λ (j : ℕ). driver_of (gone w h m went) j) own ∙ driver_here w h m went lt)) now
-  | inr ne ↦ subst (λ (d : DriverState). Drives d) (sym (driver_there w h m went g ne)) (all g there)
-]
-
--- a place that is the pool's, or a slot's, is of no entry
-outside : (lot : Lot) (x : ℕ) (span : Span) → ((i : ℕ) (e : Entry) → IsPlace lot i e x → covers span x ≡ false) → covers span x ≡ true → IsOff lot x
-outside lot x span beside over i e is = both_ways (covers span x) (beside i e is) over
-
-pub turn_bytes : (sc : Scenario) (f : List ℕ) (w : WorldState) (h : HartNo) (m : MachineState) (went : Went) (lot : Lot) (side : Side) → Flatness sc f w → h.0 < length w.drivers → HasNoArea (book_of w) → GoesBy w h m → Turns sc f w h m went lot side → BytesStand sc f (gone w h m went)
-turn_bytes sc f w h m went lot side flat lt plain by t =
-    let v = gone w h m went in
-    let s = flat.bytes in
-    let aside : (x : ℕ) → x < sc.ram → IsOff lot x → (k : MapId) → mapping_in (owner_of w x) ≡ Some k → StaysAside w h went (owner_of w x) k = λ x there beside k is own. t.others x k there beside is own in
-    record {
-      flat_size = s.flat_size;
-      drives = drives_by sc w h m went lt s.drives t.drives;
-      placed = λ x k there is. elim (somewhere lot x) [
-        | On i e place ↦ t.lies i e x k there place (sym (ap mapping_in (t.on i e x there place)) ∙ is)
-        | Off beside ↦
-            let was = sym (ap mapping_in (t.off x beside)) ∙ is in
-            subst (λ (o : Option Loan). LiesIn o x) (sym (loan_aside w h m went (owner_of w x) k lt (aside x there beside k was))) (s.placed x k there was)
-      ];
-      pooled = λ x over. t.off x (outside lot x (pool_of sc) (λ i e is. (t.beside i e x is).0) over) ∙ s.pooled x over;
-      slotted = λ x over. t.off x (outside lot x (slots_of sc) (λ i e is. (t.beside i e x is).1) over) ∙ s.slotted x over;
-      rows = λ x there unslotted. elim (somewhere lot x) [
-        | On i e place ↦ subst (λ (o : Owner). Row (book_of v) o (byte f x) m x) (sym (t.on i e x there place)) (t.row i e x (byte f x) there place (s.rows x there unslotted))
-        | Off beside ↦
-            subst (λ (o : Owner). Row (book_of v) o (byte f x) m x) (sym (t.off x beside))
-            (row_same (book_of w) (book_of v) (owner_of w x) (byte f x) m x (reads_aside w h m went (owner_of w x) x lt t.fixed t.silent (aside x there beside)) (t.passes x (byte f x) there unslotted beside (s.rows x there unslotted)))
-      ];
-      calm = t.calm;
-      queued = λ g. elim (cases_eq g h.0) [
-        | inl own ↦ subst (λ (j : ℕ). All (IsQueued (book_of v) (owner_of v) m.pool m.size j) (queue_of m j)) (sym own) t.queue
-        | inr ne ↦
-            subst (λ (q : List QueueEntry). All (IsQueued (book_of v) (owner_of v) m.pool m.size g) q) (sym (by.queues g ne))
-            (subst (λ (k : ℕ). All (IsQueued (book_of v) (owner_of v) m.pool k g) (queue_of w.machine g)) (sym by.size)
-            (subst (λ (p : Span). All (IsQueued (book_of v) (owner_of v) p w.machine.size g) (queue_of w.machine g)) (sym by.pool)
-            (all_to (IsQueued (book_of w) (owner_of w) w.machine.pool w.machine.size g) (IsQueued (book_of v) (owner_of v) w.machine.pool w.machine.size g) (queue_of w.machine g) (s.queued g)
-            (λ e is. queued_aside w h m went g w.machine.pool w.machine.size (owner_of v) e ne plain
-            (λ x k was other. elim (somewhere lot x) [
-              | On i d place ↦ absurd (other (t.mine i d x k place was))
-              | Off beside ↦ t.off x beside ∙ was
-            ]) is))))
-      ];
-      unfenced = λ g. elim (cases_eq g h.0) [
-        | inl own ↦ ap (λ (j : ℕ). list_any is_full (queue_of m j)) own ∙ by.unfenced
-        | inr ne ↦ ap (list_any is_full) (by.queues g ne) ∙ s.unfenced g
-      ];
-      uncached = λ x over.
-          let was = subst (λ (p : Span). covers p x ≡ true) by.pool over in
-          inl (by.free x was (free_pool sc f w x s was (subst (λ (p : Span). covers p x ≡ true) flat.world.of_scenario.pool was)));
-      lasts = λ g. elim (cases_eq g h.0) [
-        | inl own ↦ subst (λ (j : ℕ). LastIs (book_of v) f j (hart_of m j).last (rest_last ((book_of v).rest j))) (sym own) (last_here w h m went f lt t.lasting)
-        | inr ne ↦
-            subst (λ (bytes : List ℕ). LastIs (book_of v) f g bytes (rest_last ((book_of v).rest g))) (sym (by.lasts g ne))
-            (last_aside w h m went f g (hart_of w.machine g).last ne (s.lasts g))
-      ];
-    }

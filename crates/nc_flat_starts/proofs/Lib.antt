@@ -1,6 +1,7 @@
 pub mod BookRows
 pub mod Effects
 pub mod Frames
+pub mod TurnBytes
 pub mod Pieces
 pub mod PlanComes
 pub mod Sides

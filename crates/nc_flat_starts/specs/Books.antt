@@ -26,9 +26,5 @@ ReadsAlike a c (Returning n) x = (c.loan n ≡ a.loan n) × SameLoan a c n (a.lo
 ReadsAlike a c (Synced n) x = c.loan n ≡ a.loan n
 ReadsAlike a c Pool x = Unit {0}
 
--- no mapping is an area
-abbrev pub HasNoArea : Book → Type 0
-HasNoArea a = (n : MapId) (l : Loan) → a.loan n ≡ Some l → l.area ≡ false
-
 pub record BooksCarry : Type 0 where
   pub row : (a c : Book) (o : Owner) (v : ℕ) (m : MachineState) (x : ℕ) → ReadsAlike a c o x → Row a o v m x → Row c o v m x
