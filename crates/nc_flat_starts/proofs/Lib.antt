@@ -9,10 +9,13 @@ pub mod PlansGo
 pub mod Lots
 pub mod Blocks
 pub mod Bases
+pub mod Befores
 pub mod Opens
 pub mod OpenRows
+pub mod AreaRows
 pub mod Quiets
 pub mod Lendings
+pub mod AreaPlans
 pub mod Calls
 pub mod Starts
 pub mod Searches
