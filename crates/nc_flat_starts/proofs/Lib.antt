@@ -18,5 +18,9 @@ pub mod Lendings
 pub mod AreaPlans
 pub mod Calls
 pub mod Starts
+pub mod FreshAreas
+pub mod AllocStarts
+pub mod AreaStarts
+pub mod AllStarts
 pub mod Searches
 pub mod Events
