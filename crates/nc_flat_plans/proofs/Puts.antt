@@ -12,13 +12,14 @@ use Rattle.nc_scen.specs.Regions.{slots_of}
 use Rattle.nc_scen.specs.declared.scenario.Scenario.{Scenario}
 use Rattle.nc_sg.specs.declared.list.Entry.{Entry}
 use Rattle.nc_rules.specs.declared.lots.Lot.{Lot}
+use Rattle.nc_rules.specs.declared.lots.LotId.{LotId}
 use Rattle.nc_rules.specs.declared.lots.Side.TheVariants as sides
 use Rattle.nc_rules.specs.declared.steps.Step.{Step}
 use Rattle.nc_rules.specs.declared.steps.Turn.{Turn}
 use Rattle.nc_rules.specs.declared.steps.Turn.TheVariants as turns
 use Rattle.nc_rules.specs.Lots.{owner_of_side}
 use Rattle.nc_rules.specs.Machine.{MachineState, hart_of}
-use Rattle.nc_rules.specs.Turns.{lots_after}
+use Rattle.nc_rules.specs.Turns.{is_area}
 use Rattle.nc_rules.specs.Driver.{Went}
 use Rattle.nc_rules.specs.Watched.{owner_of}
 use Rattle.nc_rules.specs.World.{WorldState, driver_of}
@@ -30,17 +31,19 @@ use Rattle.nc_row_issues.proofs.PlacePushes.{calm_pushed}
 use Rattle.nc_row_issues.proofs.RowIssues.{rows_issue}
 use Rattle.nc_row_plans.specs.Laws.{PutsDevice}
 use Rattle.nc_flatness.specs.Books.{book_of}
-use Rattle.nc_flatness.specs.Plans.{PlanGoes}
+use Rattle.nc_flatness.specs.Plans.{HasEnd}
 use Rattle.nc_flatness.specs.Flatness.{IsUnseen, BytesStand}
 use Rattle.nc_flatness.proofs.Outcomes.{gone}
 use Rattle.nc_flat_starts.proofs.Frames.{IsPlace, IsOff, last_none}
 use Rattle.nc_flat_plans.proofs.OwnRows.{BackAs, lent_put, same_full}
 use Rattle.nc_flat_plans.proofs.Passes.{IsPlain, IsClear, passes_by}
 use Rattle.nc_flat_plans.proofs.Drivers.{IsNext, IsDone, coming_next}
-use Rattle.nc_flat_plans.proofs.Places.{IsUnder, not_still, its_id, its_place}
-use Rattle.nc_flat_plans.proofs.Shifts.{stay_shift}
-use Rattle.nc_flat_plans.proofs.StepFrames.{no_areas, step_bytes, enters_by, stays_dropped, queue_stays, queue_more, unseen_before, moved_seen}
-use Rattle.nc_flat_plans.proofs.OwnPlaces.{to_come, lent_as, back_as, row_byte, as_lent, as_back}
+use Rattle.nc_flat_plans.proofs.Places.{IsUnder, its_id, its_place}
+use Rattle.nc_flat_plans.proofs.Shifts.{sided, stay_shift}
+use Rattle.nc_flat_plans.proofs.StepFrames.{step_bytes, enters_by}
+use Rattle.nc_flat_plans.proofs.StepQueues.{stays_dropped, stays_zeroed, queue_stays, queue_more}
+use Rattle.nc_flat_plans.proofs.StepSeen.{unseen_before, moved_seen}
+use Rattle.nc_flat_plans.proofs.OwnPlaces.{to_come, lent_as, back_as, as_lent, as_back}
 
 -- ---- a step with no turn
 
@@ -48,14 +51,13 @@ pub record IsStaying (sc : Scenario) (f : List ℕ) (w : WorldState) (h : HartNo
   pub next : IsNext sc f w h o s rest
   pub under : IsUnder sc f w h lot
   pub stay : s.last ≡ turns.Stay
-  pub plain : ends lot.id s ≡ false
+  pub plain : (id : LotId) → ends id s ≡ false
+  pub mapping : is_area lot.kind ≡ false
+  pub later : HasEnd lot.id rest
 
 -- what it puts goes off in front of what is to come
 pub stay_comes : (sc : Scenario) (f : List ℕ) (w : WorldState) (h : HartNo) (o : Op) (s : Step) (rest : List Step) (lot : Lot) (i : ℕ) → IsStaying sc f w h o s rest lot → to_come h lot i (s ∷ rest) ≡ act_coming s.act ++ to_come h lot i rest
-stay_comes sc f w h o s rest lot i c =
-    let d = driver_of w h.0 in
-    let left : PlanGoes d.fixed d.lots rest = subst (λ (t : Turn). PlanGoes d.fixed (lots_after t d.lots) rest) c.stay c.next.left in
-    coming_next d.fixed d.lots lot (its_id h lot i) s rest left c.under.here (not_still sc f w h lot c.under) c.plain
+stay_comes sc f w h o s rest lot i c = coming_next lot (its_id h lot i) s rest c.later (c.plain lot.id)
 
 -- ---- an entry
 
@@ -82,10 +84,11 @@ put_row sc f w h o s rest k went e lot i d x c done by entry put p row =
     elim u.moves [
       | inl side ↦
           let puts = put.lends side i d x p in
-          as_lent sc f w h k went lot i d x (byte f x) rest u p side shift done.rest
-          (lent_put dir w.machine k e n (byte f x) x y (to_come h lot i rest) by puts.0 puts.1 (lent_as sc f w h w.machine lot i d x (byte f x) (bare e ∷ to_come h lot i rest) u p side comes row))
+          as_lent sc f w h k went lot i d x (byte f x) rest u c.mapping p side shift done.rest
+          (lent_put dir w.machine k e n (byte f x) x y (to_come h lot i rest) by puts.0 puts.1 (lent_as sc f w h w.machine lot i d x (byte f x) (bare e ∷ to_come h lot i rest) u c.mapping p side comes row))
       | inr side ↦
-          as_back sc f w h k went lot i d x (byte f x) rest u p side shift done.rest (put.backs side i d x p (back_as sc f w h w.machine lot i d x (byte f x) (bare e ∷ to_come h lot i rest) u p side comes row))
+          as_back sc f w h k went lot i d x (byte f x) rest u c.mapping p side shift done.rest
+          (put.backs side i d x p (back_as sc f w h w.machine lot i d x (byte f x) (bare e ∷ to_come h lot i rest) u c.mapping p side comes row))
     ]
 
 pub put_bytes : (sc : Scenario) (f : List ℕ) (w : WorldState) (h : HartNo) (o : Op) (s : Step) (rest : List Step) (k : MachineState) (went : Went) (e : QueueEntry) (lot : Lot) → IsStaying sc f w h o s rest lot → IsDone (driver_of w h.0) s rest went
