@@ -3,6 +3,7 @@ pub mod FlatBytes
 pub mod Outcomes
 pub mod Loans
 pub mod Owned
+pub mod Areas
 pub mod WholeBlocks
 pub mod Seen
 pub mod Rests
