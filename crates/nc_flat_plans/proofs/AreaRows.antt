@@ -36,6 +36,7 @@ use Rattle.nc_rows.specs.Places.{ThreadRow, PoolRow}
 use Rattle.nc_rows.specs.Rows.{Loan, gives_here, AllocatingRow, GivingRow, LentRow, BackRow, Row}
 use Rattle.nc_row_plans.proofs.PlanEnds.{rows_plan}
 use Rattle.nc_flatness.specs.Books.{book_of, IsPooled}
+use Rattle.nc_flatness.proofs.BookReads.{pool_unheld}
 use Rattle.nc_flatness.proofs.Outcomes.{gone}
 use Rattle.nc_flat_starts.proofs.Frames.{IsPlace, rest_hart}
 use Rattle.nc_flat_plans.proofs.OwnRows.{either_true, of_either_true, of_either_false}
@@ -117,28 +118,23 @@ area_is_pooled sc f w h k went lot i e x o area p loan = inr (record { id = its_
 
 -- ---- copies
 
--- no place of the area in hand is held, but while it is allocated
+-- a place of the area in hand is one of the machine's pool
+machine_pooled : (sc : Scenario) (f : List ℕ) (w : WorldState) (h : HartNo) (lot : Lot) (i : ℕ) (e : Entry) (x : ℕ) → IsUnder sc f w h lot → is_area lot.kind ≡ true → IsPlace lot i e x → covers w.machine.pool x ≡ true
+machine_pooled sc f w h lot i e x u area p = ap (λ (r : Span). covers r x) u.flat.world.of_scenario.pool ∙ pooled sc f w h lot i e x u area p
+
+-- it is not held, but while it is allocated
 pub unheld_lent : (sc : Scenario) (f : List ℕ) (w : WorldState) (h : HartNo) (lot : Lot) (i : ℕ) (e : Entry) (x : ℕ) → IsUnder sc f w h lot → is_area lot.kind ≡ true → IsPlace lot i e x → lot.side ≡ sides.Lending → settling lot.id (driver_of w h.0).rest ≡ false → NotHeld w.machine x
 unheld_lent sc f w h lot i e x u area p side settles =
     let a = book_of w in
     let n = its_id h lot i in
-    let over : covers w.machine.pool x ≡ true = ap (λ (r : Span). covers r x) u.flat.world.of_scenario.pool ∙ pooled sc f w h lot i e x u area p in
-    elim (u.flat.bytes.uncached x over) [
-      | inl free ↦ free
-      | inr may ↦
-          let lent : MayBeHeld a (Lending n) = subst (λ (o : Owner). MayBeHeld a o) (owned sc f w h lot i e x u p ∙ ap (owner_of_side n) side) may in
-          let is : IsAllocating a n (Some (its_loan w h lot i e)) = subst (λ (o : Option Loan). IsAllocating a n o) (known sc f w h lot i e u p.entry) lent in
-          absurd (both_ways (settling lot.id (driver_of w h.0).rest) settles is.1)
-    ]
+    pool_unheld sc f w x u.flat (machine_pooled sc f w h lot i e x u area p) (λ may.
+    let lent : MayBeHeld a (Lending n) = subst (λ (o : Owner). MayBeHeld a o) (owned sc f w h lot i e x u p ∙ ap (owner_of_side n) side) may in
+    let is : IsAllocating a n (Some (its_loan w h lot i e)) = subst (λ (o : Option Loan). IsAllocating a n o) (known sc f w h lot i e u p.entry) lent in
+    both_ways (settling lot.id (driver_of w h.0).rest) settles is.1)
 
 pub unheld_back : (sc : Scenario) (f : List ℕ) (w : WorldState) (h : HartNo) (lot : Lot) (i : ℕ) (e : Entry) (x : ℕ) → IsUnder sc f w h lot → is_area lot.kind ≡ true → IsPlace lot i e x → lot.side ≡ sides.Returning → NotHeld w.machine x
 unheld_back sc f w h lot i e x u area p side =
-    let n = its_id h lot i in
-    let over : covers w.machine.pool x ≡ true = ap (λ (r : Span). covers r x) u.flat.world.of_scenario.pool ∙ pooled sc f w h lot i e x u area p in
-    elim (u.flat.bytes.uncached x over) [
-      | inl free ↦ free
-      | inr may ↦ absurd (subst (λ (o : Owner). MayBeHeld (book_of w) o) (owned sc f w h lot i e x u p ∙ ap (owner_of_side n) side) may)
-    ]
+    pool_unheld sc f w x u.flat (machine_pooled sc f w h lot i e x u area p) (λ may. subst (λ (o : Owner). MayBeHeld (book_of w) o) (owned sc f w h lot i e x u p ∙ ap (owner_of_side (its_id h lot i)) side) may)
 
 -- ---- an area that is nobody's again
 

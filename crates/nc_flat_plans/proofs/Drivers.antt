@@ -2,7 +2,7 @@
 use Rattle.std.specs.Prelude.{Option, Some, None, All, ◌&&◌, ◌==◌, ◌||◌, not}
 use Rattle.std.specs.List.{list_any, find}
 use Rattle.std.proofs.Common.{◌≡◌, ℕ, Bool, true, false, List, [], ◌∷◌, ◌++◌, refl, sym, ap, ◌∙◌, inl, inr, subst}
-use Rattle.std.proofs.lemmas.Bool.{or_right, and_from, eq-eqb, cases_Bool, cond-true, cond-false}
+use Rattle.std.proofs.lemmas.Bool.{and_from, eq-eqb, cases_Bool, cond-true, cond-false}
 use Rattle.std.proofs.lemmas.List.Elements.{All-nil, All-cons, All-head, All-tail}
 use Rattle.nc_num.specs.declared.names.HartNo.{HartNo}
 use Rattle.nc_num.specs.declared.names.MapId.{MapId}
@@ -29,10 +29,10 @@ use Rattle.nc_holds.proofs.OwnerEnds.{left_all}
 use Rattle.nc_rows.specs.Ahead.{ends, posts, is_settling, settling, act_coming, coming, sending}
 use Rattle.nc_rows.proofs.Steps.{steps_ahead}
 use Rattle.nc_flatness.specs.Covered.{is_lending}
-use Rattle.nc_flatness.specs.Plans.{IsStill, StillDevice, StillSynced, StillOwn, StillSent, HasEnd, StepGoes, Loads, Stores, WritesBack, Drops, Gives, Fences, Ends, Zeroes, Flushes, Settles, GivesArea, TakesBack, Marks, Posts, PlanGoes, EndsOne}
+use Rattle.nc_flatness.specs.Plans.{IsStill, HasEnd, StepGoes, Loads, Stores, WritesBack, Drops, Gives, Fences, Ends, Zeroes, Flushes, Settles, GivesArea, TakesBack, Marks, Posts, PlanGoes, EndsOne}
 use Rattle.nc_flatness.specs.Flatness.{IsMapping, PlanLeft, PlanIs, PlanOf, Drives}
 use Rattle.nc_flatness.specs.Steps.{IsNow}
-use Rattle.nc_flatness.proofs.Rests.{ends_later}
+use Rattle.nc_flatness.proofs.Rests.{ends_later, back_moves, ends_one_next}
 
 -- ---- the plan in hand
 
@@ -169,10 +169,6 @@ went_rest : (d : DriverState) (lots : List Lot) (saw : Seen) (rest : List Step) 
 went_rest d lots saw [] = refl
 went_rest d lots saw (s ∷ rest) = refl
 
--- what is left behind a step ends no more than what was left before it
-less_ends : (s : Step) (rest : List Step) → EndsOne (s ∷ rest) → EndsOne rest
-less_ends s rest one a b ends_a ends_b = one a b (or_right (ends a s) (list_any (ends a) rest) ends_a) (or_right (ends b s) (list_any (ends b) rest) ends_b)
-
 worked_so : (d : DriverState) (o : Op) (saw : Seen) (s : Step) (rest : List Step) → in_hand d ≡ Some o → is_lending o ≡ true → All (IsMapping d.fixed) d.lots → s.first ≡ turns.Stay → PlanGoes d.fixed (lots_after s.last d.lots) rest
     → (d.fixed.light ≡ true → EndsOne rest) → IsDone d s rest (worked d o saw (s ∷ rest))
 unfolding turned_by
@@ -195,7 +191,7 @@ done_so sc f w h o s rest saw k free =
     let same : done_of d saw (in_hand d) ≡ worked d o (kept d.saw saw) (s ∷ rest) =
     ap (done_of d saw) k.hand ∙ ap (done_unless d o saw) free ∙ ap (done_in d o (kept d.saw saw)) k.phase ∙ ap (worked d o (kept d.saw saw)) k.rest_is in
     let drives = k.now.flat.bytes.drives h.0 k.now.there in
-    subst (λ (went : Went). IsDone d s rest went) (sym same) (worked_so d o (kept d.saw saw) s rest k.hand k.lends drives.lots k.first k.left (λ light. less_ends s rest (k.one light)))
+    subst (λ (went : Went). IsDone d s rest went) (sym same) (worked_so d o (kept d.saw saw) s rest k.hand k.lends drives.lots k.first k.left (λ light. ends_one_next s rest (k.one light)))
 
 -- ---- no message is to come
 
@@ -224,12 +220,6 @@ plan_silent f lots rest b left = steps_ahead.send_none b rest (plan_posts f lots
 
 -- ---- what is to come of the lot in hand
 
-returning_moves : (f : Fixed) (lot : Lot) → lot.side ≡ sides.Returning → IsStill f lot → ⊥
-returning_moves f lot side (StillDevice is) = let both : sides.Returning ≡ sides.Device = sym side ∙ is in cc
-returning_moves f lot side (StillSynced is kind) = let both : sides.Returning ≡ sides.Synced = sym side ∙ is in cc
-returning_moves f lot side (StillOwn is kind) = let both : sides.Returning ≡ sides.Own = sym side ∙ is in cc
-returning_moves f lot side (StillSent is light) = let both : sides.Returning ≡ sides.Lending = sym side ∙ is in cc
-
 -- a step with no turn goes off in front
 pub coming_next : (lot : Lot) (n : MapId) (s : Step) (rest : List Step) → HasEnd lot.id rest → ends lot.id s ≡ false → coming n lot.id (s ∷ rest) ≡ act_coming s.act ++ coming n lot.id rest
 coming_next lot n s rest later plain = steps_ahead.next n lot.id s rest plain later
@@ -238,7 +228,7 @@ coming_next lot n s rest later plain = steps_ahead.next n lot.id s rest plain la
 pub returns_later : (sc : Scenario) (f : List ℕ) (w : WorldState) (h : HartNo) (o : Op) (s : Step) (rest : List Step) (lot : Lot) → IsNext sc f w h o s rest → In lot (driver_of w h.0).lots → lot.side ≡ sides.Returning → s.last ≡ turns.Stay → HasEnd lot.id rest
 returns_later sc f w h o s rest lot next here side stay =
     let d = driver_of w h.0 in
-    ends_later d.fixed d.lots rest lot (subst (λ (t : Turn). PlanGoes d.fixed (lots_after t d.lots) rest) stay next.left) here (λ still. returning_moves d.fixed lot side still)
+    ends_later d.fixed d.lots rest lot (subst (λ (t : Turn). PlanGoes d.fixed (lots_after t d.lots) rest) stay next.left) here (λ still. back_moves d.fixed lot side still)
 
 -- whether what is to come settles an area stays so
 pub settling_next : (id : LotId) (s : Step) (rest : List Step) → ends id s ≡ false → settling id (s ∷ rest) ≡ settling id rest

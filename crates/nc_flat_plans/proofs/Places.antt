@@ -22,16 +22,17 @@ use Rattle.nc_rules.specs.World.{WorldState, driver_of}
 use Rattle.nc_scripts.proofs.LotLaws.{named_so}
 use Rattle.nc_holds.specs.Held.{IsEntryOf}
 use Rattle.nc_holds.proofs.ListsA.{all_at}
-use Rattle.nc_holds.proofs.OwnerLots.{area_direct}
 use Rattle.nc_rows.specs.Rows.{Loan, device_place}
 use Rattle.nc_flatness.specs.Books.{book_of, mapping_in}
 use Rattle.nc_flatness.specs.Plans.{IsStill, StillDevice, StillSynced, StillOwn, StillSent}
 use Rattle.nc_flatness.specs.Flatness.{Flatness}
-use Rattle.nc_flatness.proofs.Loans.{IsLoan, lot_in, entry_loan, one_lot, lot_of, lot_first}
+use Rattle.nc_flatness.proofs.Areas.{entry_pooled, entry_unpooled}
+use Rattle.nc_flatness.proofs.Loans.{IsLoan, entry_loan, one_lot, lot_of, lot_first, area_direct}
+use Rattle.nc_flatness.proofs.Rests.{back_moves, lend_moves}
 use Rattle.nc_flatness.proofs.Owned.{mapped, entry_owned, entry_ram, of_buffer}
 use Rattle.nc_flatness.proofs.Seen.{seen, place_ways, mapped_unslotted, seen_lent}
 use Rattle.nc_flat_starts.proofs.Frames.{IsPlace, IsOff, IsRestful}
-use Rattle.nc_flat_plans.proofs.PoolPlaces.{entry_unpooled, entry_pooled, slot_unpooled}
+use Rattle.nc_flat_plans.proofs.PoolPlaces.{slot_unpooled}
 
 -- ---- the lot in hand
 
@@ -43,22 +44,15 @@ pub record IsUnder (sc : Scenario) (f : List ℕ) (w : WorldState) (h : HartNo) 
   pub others : All (λ other. is_lot lot.id other ≡ false → IsStill (driver_of w h.0).fixed other) (driver_of w h.0).lots
   pub moves : (lot.side ≡ sides.Lending) ⊎ (lot.side ≡ sides.Returning)
 
-moving : (f : Fixed) (lot : Lot) → f.light ≡ false → (lot.side ≡ sides.Lending) ⊎ (lot.side ≡ sides.Returning) → IsStill f lot → ⊥
-moving f lot full (inl a) (StillDevice b) = let both : sides.Lending ≡ sides.Device = sym a ∙ b in cc
-moving f lot full (inl a) (StillSynced b k) = let both : sides.Lending ≡ sides.Synced = sym a ∙ b in cc
-moving f lot full (inl a) (StillOwn b k) = let both : sides.Lending ≡ sides.Own = sym a ∙ b in cc
-moving f lot full (inl a) (StillSent b light) = let both : true ≡ false = sym light ∙ full in cc
-moving f lot full (inr a) (StillDevice b) = let both : sides.Returning ≡ sides.Device = sym a ∙ b in cc
-moving f lot full (inr a) (StillSynced b k) = let both : sides.Returning ≡ sides.Synced = sym a ∙ b in cc
-moving f lot full (inr a) (StillOwn b k) = let both : sides.Returning ≡ sides.Own = sym a ∙ b in cc
-moving f lot full (inr a) (StillSent b light) = let both : sides.Returning ≡ sides.Lending = sym a ∙ b in cc
-
 -- fences are full
 pub full_fences : (sc : Scenario) (f : List ℕ) (w : WorldState) (h : HartNo) (lot : Lot) → IsUnder sc f w h lot → (driver_of w h.0).fixed.light ≡ false
 full_fences sc f w h lot u = (lot_of sc f w h.0 lot u.flat u.here).full
 
 pub not_still : (sc : Scenario) (f : List ℕ) (w : WorldState) (h : HartNo) (lot : Lot) → IsUnder sc f w h lot → IsStill (driver_of w h.0).fixed lot → ⊥
-not_still sc f w h lot u still = moving (driver_of w h.0).fixed lot (full_fences sc f w h lot u) u.moves still
+not_still sc f w h lot u still = elim u.moves [
+  | inl lends ↦ lend_moves (driver_of w h.0).fixed lot lends (full_fences sc f w h lot u) still
+  | inr back ↦ back_moves (driver_of w h.0).fixed lot back still
+]
 
 pub lent_side : (lot : Lot) → (lot.side ≡ sides.Lending) ⊎ (lot.side ≡ sides.Returning) → is_wanted lot.side ≡ false
 lent_side lot (inl is) = ap is_wanted is
@@ -147,7 +141,7 @@ device_unpooled sc f w h lot i e x u plain p = elim (ways sc f w h lot i e x u p
 pub area_place : (sc : Scenario) (f : List ℕ) (w : WorldState) (h : HartNo) (lot : Lot) (i : ℕ) (e : Entry) (x : ℕ) → IsUnder sc f w h lot → is_area lot.kind ≡ true → IsPlace lot i e x → its_place w h lot i e x ≡ x
 area_place sc f w h lot i e x u area p = elim (ways sc f w h lot i e x u p) [
   | inl direct ↦ direct.0
-  | inr slot ↦ absurd (both_ways e.bounced (area_direct (length w.machine.cache.ram) (driver_of w h.0).fixed lot i e (lot_in sc f w h.0 lot u.flat u.here) area p.entry) slot.1)
+  | inr slot ↦ absurd (both_ways e.bounced (area_direct sc f w h.0 lot i e u.flat (its_entry sc f w h lot i e u p.entry) area) slot.1)
 ]
 
 -- ---- the places beside

@@ -1,57 +1,47 @@
 -- A step of a plan: what stands in its hart's queue is as its book wants it.
-use Rattle.std.specs.Prelude.{Option, Some, All, ◌/◌, true, false, slice_get}
+use Rattle.std.specs.Prelude.{Option, Some, All, ◌/◌, true, false}
 use Rattle.std.specs.List.{list_any}
-use Rattle.std.proofs.Common.{◌≡◌, ◌≢◌, ◌⊎◌, ℕ, zero, suc, ◌<◌, List, [], ◌∷◌, length, refl, sym, ap, ◌∙◌, inl, inr, subst, arith}
-use Rattle.std.proofs.lemmas.Bool.{cases_Bool, both_ways, or_parts}
+use Rattle.std.proofs.Common.{◌≡◌, ◌⊎◌, ℕ, List, [], ◌∷◌, refl, sym, ap, ◌∙◌, inl, inr, subst}
+use Rattle.std.proofs.lemmas.Bool.{or_parts}
 use Rattle.std.proofs.lemmas.List.Elements.{All-nil, All-cons, All-append}
-use Rattle.nc_num.specs.Memory.{byte}
-use Rattle.nc_num.specs.Places.{block_at, covers}
 use Rattle.nc_num.specs.declared.names.HartNo.{HartNo}
 use Rattle.nc_num.specs.declared.names.MapId.{MapId}
-use Rattle.nc_num.specs.declared.names.MemType.{MemType}
 use Rattle.nc_num.specs.declared.places.Span.{Span}
 use Rattle.nc_plan.specs.Parts.{comes_back}
 use Rattle.nc_queue.specs.Entries.{is_w}
 use Rattle.nc_queue.specs.declared.entry.Entry.{Entry as QueueEntry}
 use Rattle.nc_queue.specs.declared.entry.Entry.TheVariants as entries
 use Rattle.nc_model.specs.declared.owners.Owner.{Owner}
-use Rattle.nc_model.specs.declared.owners.Owner.TheVariants.{Thread, Passing, Lending, Device, Returning, Synced, Pool}
-use Rattle.nc_ops.specs.declared.ops.Op.{Op}
-use Rattle.nc_scen.specs.Regions.{slots_of}
+use Rattle.nc_model.specs.declared.owners.Owner.TheVariants.{Thread, Lending, Device, Returning, Synced}
 use Rattle.nc_scen.specs.declared.scenario.Scenario.{Scenario}
-use Rattle.nc_sg.specs.Lists as sg
 use Rattle.nc_sg.specs.declared.list.Entry.{Entry}
 use Rattle.nc_rules.specs.declared.lots.Lot.{Lot}
+use Rattle.nc_rules.specs.declared.lots.LotId.{LotId}
 use Rattle.nc_rules.specs.declared.lots.Side.{Side}
 use Rattle.nc_rules.specs.declared.lots.Side.TheVariants as sides
 use Rattle.nc_rules.specs.declared.steps.Step.{Step}
-use Rattle.nc_rules.specs.Lots.{owner_of_side}
-use Rattle.nc_rules.specs.Machine.{MachineState, hart_of, queue_of}
+use Rattle.nc_rules.specs.declared.steps.Turn.TheVariants as turns
+use Rattle.nc_rules.specs.Lots.{Fixed, owner_of_side}
+use Rattle.nc_rules.specs.Machine.{MachineState, queue_of}
 use Rattle.nc_rules.specs.Driver.{Went}
 use Rattle.nc_rules.specs.Watched.{owner_of}
 use Rattle.nc_rules.specs.World.{WorldState, driver_of}
-use Rattle.nc_calls.specs.MachineLaws.{SameShape}
-use Rattle.nc_calls.specs.PlaceLaws.{Loads}
 use Rattle.nc_scripts.proofs.Lists.{all_to}
-use Rattle.nc_rows.specs.Ahead.{is_full, coming, sending}
-use Rattle.nc_rows.specs.Laws.{place_of, seen_at}
-use Rattle.nc_rows.specs.Places.{PoolRow, CalmRow}
-use Rattle.nc_rows.specs.Rows.{Loan, Book, device_place, Row}
-use Rattle.nc_rows.specs.Parts.{IsDropped, IsQueued, rest_last, LastIs}
+use Rattle.nc_rows.specs.Ahead.{ends, is_full, settling, coming}
+use Rattle.nc_rows.specs.Rows.{Loan, Book, device_place}
+use Rattle.nc_rows.specs.Parts.{IsDropped, IsZeroed, IsQueued}
 use Rattle.nc_row_issues.specs.Laws.{Enters}
-use Rattle.nc_flatness.specs.Books.{book_of, mapping_in, LiesIn}
-use Rattle.nc_flatness.specs.Plans.{IsStill}
-use Rattle.nc_flatness.specs.Flatness.{IsUnseen, BytesStand, Flatness}
+use Rattle.nc_flatness.specs.Books.{loan_of, book_of, mapping_in}
+use Rattle.nc_flatness.specs.Flatness.{Flatness}
+use Rattle.nc_flatness.specs.Plans.{IsStill, StillDevice, StillSynced, StillOwn, StillSent}
 use Rattle.nc_flatness.proofs.Outcomes.{gone}
-use Rattle.nc_flatness.proofs.Loans.{loan_is}
 use Rattle.nc_flatness.proofs.Owned.{owned_ram}
-use Rattle.nc_flatness.proofs.Seen.{seen, device_covers, device_place_of}
-use Rattle.nc_flatness.proofs.BookReads.{entry_to, none_zeroed}
-use Rattle.nc_flat_starts.specs.Books.{HasNoArea}
-use Rattle.nc_flat_starts.proofs.Frames.{IsPlace, IsOff, On, Off, somewhere, GoesBy, Turns, loan_hart, loan_aside, rest_hart, turn_bytes}
-use Rattle.nc_flat_plans.proofs.Drivers.{IsNext, IsDone, plan_silent}
-use Rattle.nc_flat_plans.proofs.Places.{IsUnder, its_id, its_loan, its_place, known, owned, seen_its, unslotted, unpooled, restful, beside, far_label}
-use Rattle.nc_flat_plans.proofs.Shifts.{IsShift}
+use Rattle.nc_flatness.proofs.BookReads.{entry_to}
+use Rattle.nc_flat_starts.proofs.Frames.{IsPlace, On, Off, somewhere, loan_hart, rest_hart}
+use Rattle.nc_flat_plans.proofs.Drivers.{IsDone, settling_next}
+use Rattle.nc_flat_plans.proofs.Places.{IsUnder, its_id, its_loan, its_place, known, owned, beside}
+use Rattle.nc_flat_plans.proofs.Shifts.{sided, seen_mapped, IsShift, stay_owner, stay_loans}
+use Rattle.nc_flat_plans.proofs.StepFrames.{driven, known_now}
 
 -- ---- the queue of the hart
 
