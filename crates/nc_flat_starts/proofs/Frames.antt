@@ -21,7 +21,7 @@ use Rattle.nc_scen.specs.Regions.{pool_of, slots_of}
 use Rattle.nc_scen.specs.declared.scenario.Scenario.{Scenario}
 use Rattle.nc_sg.specs.declared.list.Entry.{Entry}
 use Rattle.nc_rules.specs.declared.lots.Lot.{Lot}
-use Rattle.nc_rules.specs.declared.lots.Side.{Side}
+use Rattle.nc_rules.specs.declared.lots.LotId.{LotId}
 use Rattle.nc_rules.specs.declared.steps.Step.{Step}
 use Rattle.nc_rules.specs.Lots.{Fixed, map_id, owner_of_side}
 use Rattle.nc_rules.specs.Machine.{MachineState, hart_of, queue_of}
@@ -106,6 +106,15 @@ IsRestful (Device n) = Unit {0}
 IsRestful (Synced n) = Unit {0}
 IsRestful Pool = Unit {0}
 
+-- the same is to come of a lot by both rests
+pub record SameRest (k : MapId) (id : LotId) (before behind : List Step) : Type 0 where
+  pub comes : coming k id behind ≡ coming k id before
+  pub settles : settling id behind ≡ settling id before
+
+-- a mapping of this owner has nothing to come, or what it had
+abbrev pub IsAside : WorldState → HartNo → Went → Owner → MapId → Type 0
+IsAside w h went o k = IsRestful o ⊎ ((l : Loan) → loan_of (driver_of w h.0) k ≡ Some l → SameRest k l.lot (driver_of w h.0).rest went.driver.rest)
+
 -- flat memory goes on from f to g, and no place beside the lot has another byte
 pub record Rewrites (sc : Scenario) (f g : List ℕ) (w : WorldState) (h : HartNo) (lot : Lot) : Type 0 where
   pub size : length g ≡ length f
@@ -115,19 +124,19 @@ pub record Rewrites (sc : Scenario) (f g : List ℕ) (w : WorldState) (h : HartN
 pub rewrites_none : (sc : Scenario) (f : List ℕ) (w : WorldState) (h : HartNo) (lot : Lot) → Rewrites sc f f w h lot
 rewrites_none sc f w h lot = record { size = refl; beside = λ x there off. refl; pieces = λ j ne is. is }
 
--- hart h's driver and the owners before and behind: each entry of the lot has this side behind, and nothing else changes
-pub record Turns (sc : Scenario) (f g : List ℕ) (w : WorldState) (h : HartNo) (m : MachineState) (went : Went) (lot : Lot) (side : Side) : Type 0 where
-  pub on : (i : ℕ) (e : Entry) (x : ℕ) → x < sc.ram → IsPlace lot i e x → owner_in (owners_moved w.owners went.moves.transfers) x ≡ owner_of_side (map_id h lot.id i) side
+-- hart h's driver and the owners before and behind: each entry of the lot has this owner behind, and nothing else changes
+pub record Turns (sc : Scenario) (f g : List ℕ) (w : WorldState) (h : HartNo) (m : MachineState) (went : Went) (lot : Lot) (to : MapId → Owner) : Type 0 where
+  pub on : (i : ℕ) (e : Entry) (x : ℕ) → x < sc.ram → IsPlace lot i e x → owner_in (owners_moved w.owners went.moves.transfers) x ≡ to (map_id h lot.id i)
   pub off : (x : ℕ) → IsOff lot x → owner_in (owners_moved w.owners went.moves.transfers) x ≡ owner_of w x
   pub unslotted : (i : ℕ) (e : Entry) (x : ℕ) → IsPlace lot i e x → covers (slots_of sc) x ≡ false
   pub mine : (i : ℕ) (e : Entry) (x : ℕ) (k : MapId) → IsPlace lot i e x → mapping_in (owner_of w x) ≡ Some k → k.hart.0 ≡ h.0
-  -- the hart's other mappings stay, and none of them is being lent or taken back
-  pub others : (x : ℕ) (k : MapId) → x < sc.ram → IsOff lot x → mapping_in (owner_of w x) ≡ Some k → k.hart.0 ≡ h.0 → (loan_of went.driver k ≡ loan_of (driver_of w h.0) k) × IsRestful (owner_of w x)
+  -- the hart's other mappings stay, and what is to come of them does
+  pub others : (x : ℕ) (k : MapId) → x < sc.ram → IsOff lot x → mapping_in (owner_of w x) ≡ Some k → k.hart.0 ≡ h.0 → (loan_of went.driver k ≡ loan_of (driver_of w h.0) k) × IsAside w h went (owner_of w x) k
   -- so do its other areas
   pub areas : (x : ℕ) (k : MapId) (l : Loan) → IsOff lot x → k.hart.0 ≡ h.0 → (book_of w).loan k ≡ Some l → l.area ≡ true → covers l.grant.buffer x ≡ true → loan_of went.driver k ≡ Some l
   -- a place of the lot that is one of the coherent pool
-  pub pooled : (i : ℕ) (e : Entry) (x : ℕ) → IsPlace lot i e x → covers (pool_of sc) x ≡ true → IsPooled (book_of (gone w h m went)) (owner_of_side (map_id h lot.id i) side) x
-  pub free : (i : ℕ) (e : Entry) (x : ℕ) → IsPlace lot i e x → covers (pool_of sc) x ≡ true → NotHeld m x ⊎ MayBeHeld (book_of (gone w h m went)) (owner_of_side (map_id h lot.id i) side)
+  pub pooled : (i : ℕ) (e : Entry) (x : ℕ) → IsPlace lot i e x → covers (pool_of sc) x ≡ true → IsPooled (book_of (gone w h m went)) (to (map_id h lot.id i)) x
+  pub free : (i : ℕ) (e : Entry) (x : ℕ) → IsPlace lot i e x → covers (pool_of sc) x ≡ true → NotHeld m x ⊎ MayBeHeld (book_of (gone w h m went)) (to (map_id h lot.id i))
   -- no message is begun or gone
   pub silent : (b : ℕ) → sending b went.driver.rest ≡ sending b (driver_of w h.0).rest
   pub fixed : went.driver.fixed ≡ (driver_of w h.0).fixed
@@ -136,8 +145,8 @@ pub record Turns (sc : Scenario) (f g : List ℕ) (w : WorldState) (h : HartNo) 
   pub queue : All (IsQueued (book_of (gone w h m went)) (owner_of (gone w h m went)) m.pool m.size h.0) (queue_of m h.0)
   pub tokens : went.driver.fixed.light ≡ true → All (TokenStands went.driver.rest (queue_of m h.0)) went.driver.lots
   pub passes : (x v : ℕ) → x < sc.ram → covers (slots_of sc) x ≡ false → IsOff lot x → Row (book_of w) (owner_of w x) v w.machine x → Row (book_of w) (owner_of w x) v m x
-  pub lies : (i : ℕ) (e : Entry) (x : ℕ) (k : MapId) → x < sc.ram → IsPlace lot i e x → mapping_in (owner_of_side (map_id h lot.id i) side) ≡ Some k → LiesIn ((book_of (gone w h m went)).loan k) x
-  pub row : (i : ℕ) (e : Entry) (x : ℕ) → x < sc.ram → IsPlace lot i e x → Row (book_of w) (owner_of w x) (byte f x) w.machine x → Row (book_of (gone w h m went)) (owner_of_side (map_id h lot.id i) side) (byte g x) m x
+  pub lies : (i : ℕ) (e : Entry) (x : ℕ) (k : MapId) → x < sc.ram → IsPlace lot i e x → mapping_in (to (map_id h lot.id i)) ≡ Some k → LiesIn ((book_of (gone w h m went)).loan k) x
+  pub row : (i : ℕ) (e : Entry) (x : ℕ) → x < sc.ram → IsPlace lot i e x → Row (book_of w) (owner_of w x) (byte f x) w.machine x → Row (book_of (gone w h m went)) (to (map_id h lot.id i)) (byte g x) m x
   pub calm : (z : ℕ) → covers (slots_of sc) z ≡ true → IsUnseen (book_of (gone w h m went)) (owner_of (gone w h m went)) (slots_of sc) z → CalmRow m z
 
 -- ---- the drivers behind
@@ -177,9 +186,9 @@ loan_alike w h m went k (Some l) ne =
     let same = rest_there w h m went k.hart.0 ne in
     record { ahead = ap (λ (rest : List Step). coming k l.lot rest) same; settles = ap (λ (rest : List Step). settling l.lot rest) same }
 
--- the mapping is of another hart, or it stays and has nothing to come
+-- the mapping is of another hart, or it stays and so does what is to come of it
 abbrev pub StaysAside : WorldState → HartNo → Went → Owner → MapId → Type 0
-StaysAside w h went o k = k.hart.0 ≡ h.0 → (loan_of went.driver k ≡ loan_of (driver_of w h.0) k) × IsRestful o
+StaysAside w h went o k = k.hart.0 ≡ h.0 → (loan_of went.driver k ≡ loan_of (driver_of w h.0) k) × IsAside w h went o k
 
 pub loan_aside : (w : WorldState) (h : HartNo) (m : MachineState) (went : Went) (o : Owner) (k : MapId) → h.0 < length w.drivers → StaysAside w h went o k → (book_of (gone w h m went)).loan k ≡ (book_of w).loan k
 loan_aside w h m went o k lt aside = elim (cases_eq k.hart.0 h.0) [
@@ -187,9 +196,24 @@ loan_aside w h m went o k lt aside = elim (cases_eq k.hart.0 h.0) [
   | inr ne ↦ loan_there w h m went k ne
 ]
 
-busy_alike : (w : WorldState) (h : HartNo) (m : MachineState) (went : Went) (o : Owner) (k : MapId) → (IsRestful o → ⊥) → StaysAside w h went o k → SameLoan (book_of w) (book_of (gone w h m went)) k ((book_of w).loan k)
-busy_alike w h m went o k busy aside = elim (cases_eq k.hart.0 h.0) [
-  | inl own ↦ absurd (busy (aside own).1)
+rest_same : (w : WorldState) (h : HartNo) (m : MachineState) (went : Went) (k : MapId) (o : Option Loan) → h.0 < length w.drivers → k.hart.0 ≡ h.0 → ((l : Loan) → o ≡ Some l → SameRest k l.lot (driver_of w h.0).rest went.driver.rest)
+    → SameLoan (book_of w) (book_of (gone w h m went)) k o
+rest_same w h m went k None lt own same = tt
+rest_same w h m went k (Some l) lt own same =
+    let is = same l refl in
+    let now = rest_hart w h m went k.hart.0 lt own in
+    let was : (driver_of w h.0).rest ≡ (driver_of w k.hart.0).rest = ap (λ (g : ℕ). (driver_of w g).rest) (sym own) in
+    record {
+      ahead = ap (λ (rest : List Step). coming k l.lot rest) now ∙ is.comes ∙ ap (λ (rest : List Step). coming k l.lot rest) was;
+      settles = ap (λ (rest : List Step). settling l.lot rest) now ∙ is.settles ∙ ap (λ (rest : List Step). settling l.lot rest) was;
+    }
+
+pub busy_alike : (w : WorldState) (h : HartNo) (m : MachineState) (went : Went) (o : Owner) (k : MapId) → h.0 < length w.drivers → (IsRestful o → ⊥) → StaysAside w h went o k → SameLoan (book_of w) (book_of (gone w h m went)) k ((book_of w).loan k)
+busy_alike w h m went o k lt busy aside = elim (cases_eq k.hart.0 h.0) [
+  | inl own ↦ elim (aside own).1 [
+    | inl restful ↦ absurd (busy restful)
+    | inr same ↦ rest_same w h m went k ((book_of w).loan k) lt own (λ l is. same l (ap (λ (g : ℕ). loan_of (driver_of w g) k) (sym own) ∙ is))
+  ]
   | inr ne ↦ loan_alike w h m went k ((book_of w).loan k) ne
 ]
 
@@ -203,9 +227,9 @@ reads_aside w h m went (Passing j g) x lt fixed silent aside =
       | inr ne ↦ ap (λ (rest : List Step). sending b rest) (rest_there w h m went j.0 ne)
     ] in
     (buffer_same w h m went x lt fixed, same)
-reads_aside w h m went (Lending k) x lt fixed silent aside = (loan_aside w h m went (Lending k) k lt (aside k refl), busy_alike w h m went (Lending k) k (λ none. none) (aside k refl))
+reads_aside w h m went (Lending k) x lt fixed silent aside = (loan_aside w h m went (Lending k) k lt (aside k refl), busy_alike w h m went (Lending k) k lt (λ none. none) (aside k refl))
 reads_aside w h m went (Device k) x lt fixed silent aside = loan_aside w h m went (Device k) k lt (aside k refl)
-reads_aside w h m went (Returning k) x lt fixed silent aside = (loan_aside w h m went (Returning k) k lt (aside k refl), busy_alike w h m went (Returning k) k (λ none. none) (aside k refl))
+reads_aside w h m went (Returning k) x lt fixed silent aside = (loan_aside w h m went (Returning k) k lt (aside k refl), busy_alike w h m went (Returning k) k lt (λ none. none) (aside k refl))
 reads_aside w h m went (Synced k) x lt fixed silent aside = loan_aside w h m went (Synced k) k lt (aside k refl)
 reads_aside w h m went Pool x lt fixed silent aside = tt
 

@@ -87,7 +87,7 @@ pub record IsPlan (id : LotId) (plan : List Step) : Type 0 where
 
 -- ---- the operations
 
-same_id : (id : LotId) → (id.label.0 == id.label.0 && id.first == id.first) ≡ true
+pub same_id : (id : LotId) → (id.label.0 == id.label.0 && id.first == id.first) ≡ true
 same_id id = and_from (id.label.0 == id.label.0) (id.first == id.first) (eq-eqb id.label.0 id.label.0 refl) (eq-eqb id.first id.first refl)
 
 -- the copies of one entry
@@ -233,16 +233,16 @@ writings_give s x (o ∷ ops) all =
 
 -- ---- write-backs go
 
-writes_go : (f : Fixed) (lots : List Lot) (lot : Lot) (ops : List HartOp) (rest : List Step) → IsInHand lots lot sides.Lending → All IsWriting ops → LoadsFirst rest → PlanGoes f lots rest → PlanGoes f lots (op_steps ops ++ rest)
-writes_go f lots lot [] rest hand all first go = go
-writes_go f lots lot (o ∷ ops) rest hand all first go =
+writes_go : (f : Fixed) (lots : List Lot) (lot : Lot) (ops : List HartOp) (rest : List Step) → IsInHand f lots lot false sides.Lending → All IsWriting ops → list_any (ends lot.id) rest ≡ true → LoadsFirst rest → PlanGoes f lots rest → PlanGoes f lots (op_steps ops ++ rest)
+writes_go f lots lot [] rest hand all ended first go = go
+writes_go f lots lot (o ∷ ops) rest hand all ended first go =
     let w = All-head IsWriting o ops all in
     let more = All-tail IsWriting o ops all in
-    (WritesBackGoes (record { lot = lot; hand = hand; op = w.op; block = w.block; step = ap hart_step w.is; writes = w.writes; next = writes_first ops rest more first }), writes_go f lots lot ops rest hand more first go)
+    (WritesBackGoes (record { lot = lot; hand = hand; op = w.op; block = w.block; step = ap hart_step w.is; writes = w.writes; later = ends_behind lot.id ops rest ended; next = writes_first ops rest more first }), writes_go f lots lot ops rest hand more ended first go)
 
 -- ---- drops go
 
-drops_go : (f : Fixed) (lots : List Lot) (lot : Lot) (ops : List HartOp) (rest : List Step) → IsInHand lots lot sides.Returning → All (IsDropping f lot) ops → list_any (ends lot.id) rest ≡ true → HasFull lot.id rest true → LoadsFirst rest → PlanGoes f lots rest
+drops_go : (f : Fixed) (lots : List Lot) (lot : Lot) (ops : List HartOp) (rest : List Step) → IsInHand f lots lot false sides.Returning → All (IsDropping f lot) ops → list_any (ends lot.id) rest ≡ true → HasFull lot.id rest true → LoadsFirst rest → PlanGoes f lots rest
     → PlanGoes f lots (op_steps ops ++ rest)
 drops_go f lots lot [] rest hand all ended fenced first go = go
 drops_go f lots lot (o ∷ ops) rest hand all ended fenced first go =
@@ -272,7 +272,7 @@ drops_go f lots lot (o ∷ ops) rest hand all ended fenced first go =
 
 -- which way an entry is copied, whatever of the plan is before
 abbrev Ways : Fixed → List Lot → Lot → (Entry → Span × Span) → List Step → Type 0
-Ways f lots lot cut rest = (e : Entry) (ops : List HartOp) → Are is_plain ops → GoesIn f lots lot e (cut e).0 (cut e).1 ⊎ ComesOut f lots lot e (op_steps ops ++ rest) (cut e).0 (cut e).1
+Ways f lots lot cut rest = (e : Entry) (ops : List HartOp) → Are is_plain ops → GoesIn f lots lot e (op_steps ops ++ rest) (cut e).0 (cut e).1 ⊎ ComesOut f lots lot e (op_steps ops ++ rest) (cut e).0 (cut e).1
 
 copies_first : (cut : Entry → Span × Span) (ms : List Move) (rest : List Step) → LoadsFirst rest → LoadsFirst (op_steps (flat_map (ops_of cut) ms) ++ rest)
 copies_first cut [] rest first = first
@@ -353,7 +353,7 @@ pub record Lends (f : Fixed) (lots : List Lot) (lot : Lot) (steps : List Step) :
   pub plan : IsPlan lot.id steps
   pub stores : (i : ℕ) (e : Entry) (y : ℕ) → slice_get lot.list.entries i ≡ Some e → e.bounced ≡ true → covers (device_of f e) y ≡ true → HasByte f lot.id steps y true
 
-pub lend_so : (f : Fixed) (lots : List Lot) (lot : Lot) → IsInHand lots lot sides.Lending → IsPlanned f lot → WritesBack f.effects → Lends f lots lot (lend_steps f lot)
+pub lend_so : (f : Fixed) (lots : List Lot) (lot : Lot) → IsInHand f lots lot false sides.Lending → IsPlanned f lot → WritesBack f.effects → Lends f lots lot (lend_steps f lot)
 lend_so f lots lot hand is writes =
     let es = lot.list.entries in
     let cut = in_cut f in
@@ -365,16 +365,16 @@ lend_so f lots lot hand is writes =
     let tail = op_steps backs ++ end in
     let plain = writing_are_plain backs all in
     let ended = ends_behind lot.id backs end (give_ends lot.id) in
-    let given : PlanGoes f lots end = (Gives (record { lot = lot; hand = hand; step = refl; over = refl }), given_still lot.id lots hand.others) in
+    let given : PlanGoes f lots end = (Gives (record { lot = lot; hand = hand; step = refl; over = refl }), given_still f lot.id lots hand.others) in
     let whole : lend_steps f lot ≡ op_steps copied ++ tail =
     ap (λ (ss : List Step). op_steps (carried f.effects f.size (parts f lot)) ++ ss) (cond-false f.light (token_steps lot) end is.light)
     ∙ ap (λ (ops : List HartOp). op_steps (ops ++ backs) ++ end) (ins_are f lot.list.dir es is.off) ∙ ap (λ (ss : List Step). ss ++ end) (steps_append copied backs) ∙ append_steps (op_steps copied) (op_steps backs) end in
     subst (λ (ss : List Step). Lends f lots lot ss) (sym whole) (record {
-      goes = copies_go f lots lot cut ms tail hand.here (λ e ops plain. inl (record { hand = hand; from_is = refl; to_is = refl })) (moves_are cut es) (moves_apart cut es (in_even f) (pairs_apart cut es is.slots)) ended (writes_first backs end all refl)
+      goes = copies_go f lots lot cut ms tail hand.here (λ e ops all_plain. inl (record { hand = hand; later = ends_behind lot.id ops tail ended; from_is = refl; to_is = refl })) (moves_are cut es) (moves_apart cut es (in_even f) (pairs_apart cut es is.slots)) ended (writes_first backs end all refl)
           (λ m x there on n.
           comes_ops (gives_at f.size x) n lot.id backs end plain (give_ends lot.id)
           ∙ or_from (list_any (gives_at f.size x) (flat_map op_coming backs)) (list_any (gives_at f.size x) (coming n lot.id end)) (writings_give f.size x backs all) (give_byte f lot.id x n))
-          (writes_go f lots lot backs end hand all refl given);
+          (writes_go f lots lot backs end hand all (give_ends lot.id) refl given);
       plan = record {
         ended = ends_behind lot.id copied tail ended;
         silent = λ b. silent_ops b copied tail (copies_are cut ms) (silent_ops b backs end plain refl);
@@ -415,9 +415,9 @@ straight_so : (f : Fixed) (lot : Lot) (t : Bool) → comes_back lot.list.dir ≡
 straight_so f lot true back is none comes = none_bounces f lot.list.entries is.some none
 straight_so f lot false back is none comes = absurd (both_ways (comes_back lot.list.dir) back comes)
 
-direct_end : (f : Fixed) (lots : List Lot) (lot : Lot) (turn : Turn) → IsInHand lots lot sides.Returning → IsBack lot.id turn → IsSingly lot.id turn lots → (comes_back lot.list.dir ≡ true → All (λ e. e.bounced ≡ false) lot.list.entries) → PlanGoes f lots (turning turn (hart_step full) ∷ [])
+direct_end : (f : Fixed) (lots : List Lot) (lot : Lot) (turn : Turn) → IsInHand f lots lot false sides.Returning → IsBack lot.id turn → IsSingly lot.id turn lots → (comes_back lot.list.dir ≡ true → All (λ e. e.bounced ≡ false) lot.list.entries) → PlanGoes f lots (turning turn (hart_step full) ∷ [])
 direct_end f lots lot turn hand back single straight =
-    (Ends (record { lot = lot; hand = hand; turn = turn; is_back = back; step = refl; over = refl; straight = straight }), back_still lot.id turn lots back single hand.others)
+    (Ends (record { lot = lot; hand = hand; turn = turn; is_back = back; step = refl; over = refl; straight = straight }), back_still f lot.id turn lots back single hand.others)
 
 -- ---- the last copy
 
@@ -433,7 +433,7 @@ last_comes cut n id turn m back =
     next n id (hart_step (hart.Load m.piece Pma)) (turning turn (hart_step (hart.Store (stored cut m) Pma Last)) ∷ []) refl (or_left (ends id (turning turn (hart_step (hart.Store (stored cut m) Pma Last)))) false (turn_ends id turn (hart.Store (stored cut m) Pma Last) [] back))
     ∙ turn_comes n id turn (hart.Store (stored cut m) Pma Last) back
 
-last_goes : (f : Fixed) (lots : List Lot) (lot : Lot) (turn : Turn) (m : Move) → IsInHand lots lot sides.Returning → comes_back lot.list.dir ≡ true → IsBack lot.id turn → IsSingly lot.id turn lots → IsMove (out_cut f) lot.list.entries m → PlanGoes f lots (last_copy (out_cut f) turn m)
+last_goes : (f : Fixed) (lots : List Lot) (lot : Lot) (turn : Turn) (m : Move) → IsInHand f lots lot false sides.Returning → comes_back lot.list.dir ≡ true → IsBack lot.id turn → IsSingly lot.id turn lots → IsMove (out_cut f) lot.list.entries m → PlanGoes f lots (last_copy (out_cut f) turn m)
 last_goes f lots lot turn m hand comes back single is =
     let from = device_of f m.entry in
     let to = m.entry.span in (
@@ -466,7 +466,7 @@ last_goes f lots lot turn m hand comes back single is =
           next = refl;
           last = inr (back, hand.side_is, refl);
         }),
-        back_still lot.id turn lots back single hand.others,
+        back_still f lot.id turn lots back single hand.others,
       ),
     )
 
@@ -516,7 +516,7 @@ outs_steps cut turn init m before =
     shift (o ∷ a) b load store = ap (λ (k : List HartOp). o ∷ k) (shift a b load store)
 
 -- what comes out, behind a fence that makes no turn
-outs_go : (f : Fixed) (lots : List Lot) (lot : Lot) (turn : Turn) (init : List Move) (m : Move) → IsInHand lots lot sides.Returning → IsPlanned f lot → comes_back lot.list.dir ≡ true → IsBack lot.id turn → IsSingly lot.id turn lots → moves_of (out_cut f) lot.list.entries ≡ init ++ m ∷ []
+outs_go : (f : Fixed) (lots : List Lot) (lot : Lot) (turn : Turn) (init : List Move) (m : Move) → IsInHand f lots lot false sides.Returning → IsPlanned f lot → comes_back lot.list.dir ≡ true → IsBack lot.id turn → IsSingly lot.id turn lots → moves_of (out_cut f) lot.list.entries ≡ init ++ m ∷ []
     → PlanGoes f lots (hart_step full ∷ (op_steps (flat_map (ops_of (out_cut f)) init) ++ last_copy (out_cut f) turn m))
 outs_go f lots lot turn init m hand is comes back single ms =
     let es = lot.list.entries in
@@ -570,7 +570,7 @@ pub record Returns (f : Fixed) (lots : List Lot) (lot : Lot) (steps : List Step)
   pub goes : PlanGoes f lots steps
   pub plan : IsPlan lot.id steps
 
-return_by : (f : Fixed) (lots : List Lot) (lot : Lot) (turn : Turn) (ms : List Move) → IsInHand lots lot sides.Returning → IsPlanned f lot → All (IsDropping f lot) (flat_map (dropped f.effects f.size) (parts f lot)) → IsBack lot.id turn → IsSingly lot.id turn lots
+return_by : (f : Fixed) (lots : List Lot) (lot : Lot) (turn : Turn) (ms : List Move) → IsInHand f lots lot false sides.Returning → IsPlanned f lot → All (IsDropping f lot) (flat_map (dropped f.effects f.size) (parts f lot)) → IsBack lot.id turn → IsSingly lot.id turn lots
     → outs_of f (comes_back lot.list.dir) lot.list.entries ≡ ms → IsSplit ms → flat_map copied_back (parts f lot) ≡ flat_map (ops_of (out_cut f)) ms → Returns f lots lot (ending turn (return_steps f lot))
 unfolding returning
 return_by f lots lot turn ms hand is all back single from (NoMove none) outs =
@@ -604,7 +604,7 @@ return_by f lots lot turn ms hand is all back single from (Before init m sp) out
       };
     })
 
-pub return_so : (f : Fixed) (lots : List Lot) (lot : Lot) (turn : Turn) → IsInHand lots lot sides.Returning → IsPlanned f lot → DropsBlocks f.effects → IsBack lot.id turn → IsSingly lot.id turn lots → Returns f lots lot (ending turn (return_steps f lot))
+pub return_so : (f : Fixed) (lots : List Lot) (lot : Lot) (turn : Turn) → IsInHand f lots lot false sides.Returning → IsPlanned f lot → DropsBlocks f.effects → IsBack lot.id turn → IsSingly lot.id turn lots → Returns f lots lot (ending turn (return_steps f lot))
 return_so f lots lot turn hand is drops back single =
     let ms = outs_of f (comes_back lot.list.dir) lot.list.entries in
     return_by f lots lot turn ms hand is (dropped_are f lot is.size drops) back single refl (split ms) (outs_are f lot.list.dir lot.list.entries (comes_back lot.list.dir) refl is.off)

@@ -20,7 +20,6 @@ use Rattle.nc_scen.specs.Regions.{pool_of, slots_of}
 use Rattle.nc_scen.specs.declared.scenario.Scenario.{Scenario}
 use Rattle.nc_sg.specs.declared.list.Entry.{Entry}
 use Rattle.nc_rules.specs.declared.lots.Lot.{Lot}
-use Rattle.nc_rules.specs.declared.lots.Side.{Side}
 use Rattle.nc_rules.specs.declared.steps.Step.{Step}
 use Rattle.nc_rules.specs.Lots.{Fixed, map_id, owner_of_side}
 use Rattle.nc_rules.specs.Machine.{MachineState, hart_of, queue_of}
@@ -37,9 +36,9 @@ use Rattle.nc_flatness.specs.Books.{loan_of, number_in, book_of, mapping_in, Lie
 use Rattle.nc_flatness.specs.Flatness.{Drives, IsUnseen, BytesStand, Flatness}
 use Rattle.nc_flatness.specs.Tokens.{TokenStands}
 use Rattle.nc_flatness.proofs.Outcomes.{gone}
-use Rattle.nc_flat_starts.specs.Books.{SameLoan, ReadsAlike}
+use Rattle.nc_flat_starts.specs.Books.{SameLoan}
 use Rattle.nc_flat_starts.proofs.BookRows.{row_same}
-use Rattle.nc_flat_starts.proofs.Frames.{IsPlace, IsOff, On, Off, somewhere, Rewrites, GoesBy, Turns, StaysAside, driver_there, driver_here, loan_there, loan_hart, rest_there, loan_aside, reads_aside, queued_aside, last_aside, last_here}
+use Rattle.nc_flat_starts.proofs.Frames.{IsPlace, IsOff, On, Off, somewhere, Rewrites, GoesBy, Turns, StaysAside, driver_there, driver_here, loan_there, loan_hart, rest_there, loan_aside, busy_alike, reads_aside, queued_aside, last_aside, last_here}
 
 -- a place of the coherent pool is one of RAM
 pub pool_ram : (sc : Scenario) (f : List ℕ) (w : WorldState) (x : ℕ) → Flatness sc f w → covers (pool_of sc) x ≡ true → x < sc.ram
@@ -50,25 +49,22 @@ pool_ram sc f w x flat over =
     let high = covers-high (driver_of w 0).fixed.pool x (subst (λ (s : Span). covers s x ≡ true) (sym pool) over) in
     omega (arith, d.driver.fixed.pool_end, flat.world.of_scenario.ram, high)
 
-allocating_same : (a c : Book) (n : MapId) (o : Option Loan) → c.rest n.hart.0 ≡ a.rest n.hart.0 → IsAllocating a n o → IsAllocating c n o
-allocating_same a c n None same is = is
-allocating_same a c n (Some l) same is = (is.0, ap (λ (rest : List Step). settling l.lot rest) same ∙ is.1)
-
 -- an area beside that is allocated is so behind
-may_aside : (w : WorldState) (h : HartNo) (m : MachineState) (went : Went) (o : Owner) → ((k : MapId) → mapping_in o ≡ Some k → StaysAside w h went o k) → MayBeHeld (book_of w) o → MayBeHeld (book_of (gone w h m went)) o
-may_aside w h m went (Lending n) aside may = elim (cases_eq n.hart.0 h.0) [
-  | inl own ↦ absurd (aside n refl own).1
-  | inr ne ↦
-      let a = book_of w in
-      let c = book_of (gone w h m went) in
-      subst (λ (o : Option Loan). IsAllocating c n o) (sym (loan_there w h m went n ne)) (allocating_same a c n (a.loan n) (rest_there w h m went n.hart.0 ne) may)
-]
-may_aside w h m went (Thread j) aside may = may
-may_aside w h m went (Passing j g) aside may = may
-may_aside w h m went (Device n) aside may = may
-may_aside w h m went (Returning n) aside may = may
-may_aside w h m went (Synced n) aside may = may
-may_aside w h m went Pool aside may = may
+allocating_same : (a c : Book) (n : MapId) (o : Option Loan) → SameLoan a c n o → IsAllocating a n o → IsAllocating c n o
+allocating_same a c n None same is = is
+allocating_same a c n (Some l) same is = (is.0, same.settles ∙ is.1)
+
+may_aside : (w : WorldState) (h : HartNo) (m : MachineState) (went : Went) (o : Owner) → h.0 < length w.drivers → ((k : MapId) → mapping_in o ≡ Some k → StaysAside w h went o k) → MayBeHeld (book_of w) o → MayBeHeld (book_of (gone w h m went)) o
+may_aside w h m went (Lending n) lt aside may =
+    let a = book_of w in
+    let c = book_of (gone w h m went) in
+    subst (λ (o : Option Loan). IsAllocating c n o) (sym (loan_aside w h m went (Lending n) n lt (aside n refl))) (allocating_same a c n (a.loan n) (busy_alike w h m went (Lending n) n lt (λ none. none) (aside n refl)) may)
+may_aside w h m went (Thread j) lt aside may = may
+may_aside w h m went (Passing j g) lt aside may = may
+may_aside w h m went (Device n) lt aside may = may
+may_aside w h m went (Returning n) lt aside may = may
+may_aside w h m went (Synced n) lt aside may = may
+may_aside w h m went Pool lt aside may = may
 
 drives_by : (sc : Scenario) (w : WorldState) (h : HartNo) (m : MachineState) (went : Went) → h.0 < length w.drivers → ((g : ℕ) → g < length sc.harts → Drives (driver_of w g)) → Drives went.driver → (g : ℕ) → g < length sc.harts → Drives (driver_of (gone w h m went) g)
 drives_by sc w h m went lt all now g there = elim (cases_eq g h.0) [
@@ -80,9 +76,9 @@ drives_by sc w h m went lt all now g there = elim (cases_eq g h.0) [
 outside : (lot : Lot) (x : ℕ) (span : Span) → ((i : ℕ) (e : Entry) → IsPlace lot i e x → covers span x ≡ false) → covers span x ≡ true → IsOff lot x
 outside lot x span beside over i e is = both_ways (covers span x) (beside i e is) over
 
-tokens_by : (sc : Scenario) (f g : List ℕ) (w : WorldState) (h : HartNo) (m : MachineState) (went : Went) (lot : Lot) (side : Side) → Flatness sc f w → h.0 < length w.drivers → GoesBy w h m → Turns sc f g w h m went lot side → (j : ℕ) → j < length sc.harts
+tokens_by : (sc : Scenario) (f g : List ℕ) (w : WorldState) (h : HartNo) (m : MachineState) (went : Went) (lot : Lot) (to : MapId → Owner) → Flatness sc f w → h.0 < length w.drivers → GoesBy w h m → Turns sc f g w h m went lot to → (j : ℕ) → j < length sc.harts
     → (driver_of (gone w h m went) j).fixed.light ≡ true → All (TokenStands (driver_of (gone w h m went) j).rest (queue_of m j)) (driver_of (gone w h m went) j).lots
-tokens_by sc f g w h m went lot side flat lt by t j there = elim (cases_eq j h.0) [
+tokens_by sc f g w h m went lot to flat lt by t j there = elim (cases_eq j h.0) [
   | inl own ↦
       subst (λ (d : DriverState). d.fixed.light ≡ true → All (TokenStands d.rest (queue_of m j)) d.lots) (sym (ap (λ (k : ℕ). driver_of (gone w h m went) k) own ∙ driver_here w h m went lt))
       (subst (λ (k : ℕ). went.driver.fixed.light ≡ true → All (TokenStands went.driver.rest (queue_of m k)) went.driver.lots) (sym own) t.tokens)
@@ -91,9 +87,9 @@ tokens_by sc f g w h m went lot side flat lt by t j there = elim (cases_eq j h.0
       (subst (λ (q : List QueueEntry). (driver_of w j).fixed.light ≡ true → All (TokenStands (driver_of w j).rest q) (driver_of w j).lots) (sym (by.queues j ne)) (flat.bytes.tokens j there))
 ]
 
-pub turn_bytes : (sc : Scenario) (f g : List ℕ) (w : WorldState) (h : HartNo) (m : MachineState) (went : Went) (lot : Lot) (side : Side) → Flatness sc f w → h.0 < length w.drivers → Rewrites sc f g w h lot → GoesBy w h m → Turns sc f g w h m went lot side
+pub turn_bytes : (sc : Scenario) (f g : List ℕ) (w : WorldState) (h : HartNo) (m : MachineState) (went : Went) (lot : Lot) (to : MapId → Owner) → Flatness sc f w → h.0 < length w.drivers → Rewrites sc f g w h lot → GoesBy w h m → Turns sc f g w h m went lot to
     → BytesStand sc g (gone w h m went)
-turn_bytes sc f g w h m went lot side flat lt writes by t =
+turn_bytes sc f g w h m went lot to flat lt writes by t =
     let v = gone w h m went in
     let s = flat.bytes in
     let aside : (x : ℕ) → x < sc.ram → IsOff lot x → (k : MapId) → mapping_in (owner_of w x) ≡ Some k → StaysAside w h went (owner_of w x) k = λ x there beside k is own. t.others x k there beside is own in
@@ -152,7 +148,7 @@ turn_bytes sc f g w h m went lot side flat lt writes by t =
             | On i e place ↦ subst (λ (o : Owner). NotHeld m x ⊎ MayBeHeld (book_of v) o) (sym (t.on i e x there place)) (t.free i e x place pooled)
             | Off beside ↦ elim (s.uncached x was) [
               | inl free ↦ inl (by.free x was free)
-              | inr may ↦ inr (subst (λ (o : Owner). MayBeHeld (book_of v) o) (sym (t.off x beside)) (may_aside w h m went (owner_of w x) (aside x there beside) may))
+              | inr may ↦ inr (subst (λ (o : Owner). MayBeHeld (book_of v) o) (sym (t.off x beside)) (may_aside w h m went (owner_of w x) lt (aside x there beside) may))
             ]
           ];
       lasts = λ j. elim (cases_eq j h.0) [
@@ -161,5 +157,5 @@ turn_bytes sc f g w h m went lot side flat lt writes by t =
             subst (λ (bytes : List ℕ). LastIs (book_of v) g j bytes (rest_last ((book_of v).rest j))) (sym (by.lasts j ne))
             (last_aside w h m went g j (hart_of w.machine j).last ne (writes.pieces j ne (s.lasts j)))
       ];
-      tokens = λ j there light. tokens_by sc f g w h m went lot side flat lt by t j there light;
+      tokens = λ j there light. tokens_by sc f g w h m went lot to flat lt by t j there light;
     }
