@@ -1,43 +1,38 @@
 -- The full fence of an area's plan: the area is its hart's, or its channel's, or nobody's.
-use Rattle.std.specs.Prelude.{Option, Some, true, false, Bool}
+use Rattle.std.specs.Prelude.{Option, Some, true, false}
 use Rattle.std.proofs.Common.{◌≡◌, ◌⊎◌, ℕ, ◌<◌, List, [], ◌∷◌, refl, sym, ap, ◌∙◌, inl, inr, subst}
 use Rattle.std.proofs.lemmas.Bool.{or_left, cond-true}
 use Rattle.nc_num.specs.Memory.{byte}
-use Rattle.nc_num.specs.Places.{covers}
 use Rattle.nc_num.specs.declared.names.HartNo.{HartNo}
 use Rattle.nc_num.specs.declared.names.MapId.{MapId}
 use Rattle.nc_num.specs.declared.places.Span.{Span}
 use Rattle.nc_plan.specs.Plans.{full}
-use Rattle.nc_queue.specs.declared.entry.Entry.{Entry as QueueEntry}
 use Rattle.nc_queue.specs.declared.entry.Entry.TheVariants as entries
 use Rattle.nc_model.specs.declared.owners.Owner.{Owner}
 use Rattle.nc_model.specs.declared.owners.Owner.TheVariants.{Thread, Pool}
 use Rattle.nc_ops.specs.declared.ops.Op.{Op}
-use Rattle.nc_scen.specs.Regions.{pool_of}
 use Rattle.nc_scen.specs.declared.events.Event.TheVariants as events
 use Rattle.nc_scen.specs.declared.scenario.Scenario.{Scenario}
 use Rattle.nc_sg.specs.declared.list.Entry.{Entry}
 use Rattle.nc_rules.specs.declared.lots.Lot.{Lot}
-use Rattle.nc_rules.specs.declared.lots.LotId.{LotId}
 use Rattle.nc_rules.specs.declared.lots.Side.{Side}
 use Rattle.nc_rules.specs.declared.lots.Side.TheVariants as sides
 use Rattle.nc_rules.specs.declared.steps.Step.{Step}
 use Rattle.nc_rules.specs.declared.steps.Turn.{Turn}
 use Rattle.nc_rules.specs.declared.steps.Turn.TheVariants as turns
 use Rattle.nc_rules.specs.Lots.{is_wanted, owner_of_side}
-use Rattle.nc_rules.specs.Turns.{is_area, last_owner, to_side, set_side, lots_after, transfers_of}
-use Rattle.nc_rules.specs.Machine.{MachineState, hart_of, queue_of}
+use Rattle.nc_rules.specs.Turns.{is_area, last_owner, set_side, lots_after, transfers_of}
+use Rattle.nc_rules.specs.Machine.{hart_of, queue_of}
 use Rattle.nc_rules.specs.Driver.{Went}
 use Rattle.nc_rules.specs.Watched.{owner_of}
 use Rattle.nc_rules.specs.World.{WorldState, driver_of}
 use Rattle.nc_calls.specs.PlaceLaws.{NotHeld}
-use Rattle.nc_rows.specs.Ahead.{ends, turns_lot, gives_lot, settles_lot, settling, act_coming, token}
+use Rattle.nc_rows.specs.Ahead.{turns_lot, gives_lot, settles_lot, settling, act_coming, token}
 use Rattle.nc_rows.specs.Parts.{rest_last}
-use Rattle.nc_rows.specs.Places.{ThreadRow, PoolRow}
+use Rattle.nc_rows.specs.Places.{ThreadRow}
 use Rattle.nc_rows.specs.Rows.{Loan, DeviceRow, Row}
 use Rattle.nc_row_plans.proofs.PlanEnds.{rows_plan}
-use Rattle.nc_flatness.specs.Books.{loan_of, book_of, IsPooled}
-use Rattle.nc_flatness.specs.Flatness.{BytesStand}
+use Rattle.nc_flatness.specs.Books.{book_of, IsPooled}
 use Rattle.nc_flatness.specs.Plans.{IsSettle, IsAreaGive, IsTakeBack}
 use Rattle.nc_flatness.specs.Steps.{Goes}
 use Rattle.nc_flatness.proofs.Outcomes.{gone}
@@ -45,8 +40,8 @@ use Rattle.nc_flat_starts.proofs.Frames.{IsPlace, rewrites_none, goes_still, loa
 use Rattle.nc_flat_plans.proofs.OwnRows.{either_true}
 use Rattle.nc_flat_plans.proofs.Drivers.{IsNext, IsDone, done_so, same_id}
 use Rattle.nc_flat_plans.proofs.Places.{IsUnder, its_id, its_loan, known, in_ram, unslotted}
-use Rattle.nc_flat_plans.proofs.Shifts.{sided, seen_mapped, IsShift, side_loans, side_shift, end_shift}
-use Rattle.nc_flat_plans.proofs.StepFrames.{driven, known_now, behind_bytes}
+use Rattle.nc_flat_plans.proofs.Shifts.{sided, IsShift, side_loans, side_shift, end_shift}
+use Rattle.nc_flat_plans.proofs.StepFrames.{driven, behind_bytes}
 use Rattle.nc_flat_plans.proofs.StepQueues.{queue_clear}
 use Rattle.nc_flat_plans.proofs.StepSeen.{area_unseen}
 use Rattle.nc_flat_plans.proofs.OwnPlaces.{to_come}

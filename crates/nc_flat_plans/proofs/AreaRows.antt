@@ -1,9 +1,8 @@
 -- The rows of the area in hand, by what is still to come of its plan, before a step and behind it.
-use Rattle.std.specs.Prelude.{Option, Some, None, true, false}
+use Rattle.std.specs.Prelude.{Option, Some, true, false}
 use Rattle.std.specs.List.{list_any, find}
 use Rattle.std.proofs.Common.{◌≡◌, ◌⊎◌, ℕ, ◌<◌, List, [], ◌∷◌, ◌++◌, refl, sym, ap, ◌∙◌, inl, inr, subst}
 use Rattle.std.proofs.lemmas.Bool.{both_ways, cond-true}
-use Rattle.nc_num.specs.Memory.{byte}
 use Rattle.nc_num.specs.Places.{covers}
 use Rattle.nc_num.specs.declared.names.HartNo.{HartNo}
 use Rattle.nc_num.specs.declared.names.MapId.{MapId}
@@ -15,7 +14,6 @@ use Rattle.nc_queue.proofs.FenceLaws.{covered-none}
 use Rattle.nc_lines.specs.Lines.{line, gives_at}
 use Rattle.nc_model.specs.declared.owners.Owner.{Owner}
 use Rattle.nc_model.specs.declared.owners.Owner.TheVariants.{Lending, Returning}
-use Rattle.nc_scen.specs.Regions.{pool_of}
 use Rattle.nc_scen.specs.declared.scenario.Scenario.{Scenario}
 use Rattle.nc_sg.specs.declared.list.Entry.{Entry}
 use Rattle.nc_rules.specs.declared.lots.Lot.{Lot}
@@ -30,7 +28,7 @@ use Rattle.nc_rules.specs.Driver.{Went}
 use Rattle.nc_rules.specs.Watched.{owner_of}
 use Rattle.nc_rules.specs.World.{WorldState, driver_of}
 use Rattle.nc_calls.specs.PlaceLaws.{NotHeld}
-use Rattle.nc_rows.specs.Ahead.{ends, turns_lot, settles_lot, is_settling, settling, names}
+use Rattle.nc_rows.specs.Ahead.{ends, settles_lot, is_settling, settling, names}
 use Rattle.nc_rows.specs.Parts.{IsAllocating, MayBeHeld}
 use Rattle.nc_rows.specs.Places.{ThreadRow, PoolRow}
 use Rattle.nc_rows.specs.Rows.{Loan, gives_here, AllocatingRow, GivingRow, LentRow, BackRow, Row}

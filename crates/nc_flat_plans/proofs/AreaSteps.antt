@@ -1,15 +1,13 @@
 -- A block of an area that is allocated is zeroed, or flushed.
 use Rattle.std.specs.Prelude.{Option, Some, None, unwrap_or, ◌/◌, ◌==◌, true, false, if◌then◌else◌}
 use Rattle.std.specs.List.{list_any}
-use Rattle.std.proofs.Common.{◌≡◌, ◌≢◌, ℕ, ◌+◌, ◌*◌, ◌<◌, List, [], ◌∷◌, ◌++◌, length, replicate, refl, sym, ap, ◌∙◌, inl, inr, subst, arith}
+use Rattle.std.proofs.Common.{◌≡◌, ◌≢◌, ℕ, ◌+◌, ◌*◌, ◌<◌, ◌≤◌, List, [], ◌∷◌, ◌++◌, length, replicate, refl, sym, ap, ◌∙◌, inl, inr, subst, arith}
 use Rattle.std.proofs.lemmas.Bool.{cases_Bool, cases_eq, both_ways, cond-false, eqb-true, false_from_ne_true, ne_eqb}
 use Rattle.nc_num.specs.Memory.{byte}
 use Rattle.nc_num.specs.Places.{covers}
 use Rattle.nc_num.specs.declared.names.HartNo.{HartNo}
 use Rattle.nc_num.specs.declared.names.MapId.{MapId}
 use Rattle.nc_num.specs.declared.places.Block.{Block}
-use Rattle.nc_num.specs.declared.places.Span.{Span}
-use Rattle.nc_num.proofs.Blocks.{inside}
 use Rattle.nc_env.specs.declared.CboOp.TheVariants as cbos
 use Rattle.nc_plan.specs.declared.ops.HartOp.TheVariants as hart_ops
 use Rattle.nc_queue.specs.Entries.{entry_gives, has_op, is_zero}
@@ -18,7 +16,6 @@ use Rattle.nc_queue.specs.declared.entry.Entry.TheVariants as entries
 use Rattle.nc_lines.specs.Lines.{bare}
 use Rattle.nc_model.specs.Flat.{named, written}
 use Rattle.nc_model.proofs.FlatLaws.{length-written}
-use Rattle.nc_model.specs.declared.owners.Owner.{Owner}
 use Rattle.nc_model.specs.declared.owners.Owner.TheVariants.{Lending}
 use Rattle.nc_ops.specs.declared.ops.Op.{Op}
 use Rattle.nc_scen.specs.Regions.{pool_of, slots_of}
@@ -27,7 +24,6 @@ use Rattle.nc_scen.specs.declared.scenario.Scenario.{Scenario}
 use Rattle.nc_sg.specs.declared.list.Entry.{Entry}
 use Rattle.nc_rules.specs.declared.lots.Lot.{Lot}
 use Rattle.nc_rules.specs.declared.lots.LotId.{LotId}
-use Rattle.nc_rules.specs.declared.lots.Side.{Side}
 use Rattle.nc_rules.specs.declared.lots.Side.TheVariants as sides
 use Rattle.nc_rules.specs.declared.steps.Step.{Step}
 use Rattle.nc_rules.specs.declared.steps.Turn.TheVariants as turns
@@ -40,7 +36,7 @@ use Rattle.nc_rules.specs.Watched.{owner_of}
 use Rattle.nc_rules.specs.World.{WorldState, driver_of}
 use Rattle.nc_rows.specs.Ahead.{ends, is_full, settling, act_coming}
 use Rattle.nc_rows.specs.Parts.{IsQueued, IsZeroed, rest_last}
-use Rattle.nc_rows.specs.Rows.{zeroes, AllocatingRow, Row}
+use Rattle.nc_rows.specs.Rows.{AllocatingRow, Row}
 use Rattle.nc_row_issues.specs.Laws.{Enters, NoByte, NoBlock}
 use Rattle.nc_row_issues.proofs.PlacePushes.{calm_pushed}
 use Rattle.nc_row_issues.proofs.RowIssues.{rows_issue}
@@ -48,7 +44,7 @@ use Rattle.nc_row_plans.specs.Laws.{Zeroes}
 use Rattle.nc_row_plans.proofs.PlanEnds.{rows_plan}
 use Rattle.nc_flatness.specs.Books.{book_of, mapping_in}
 use Rattle.nc_flatness.specs.Flatness.{BytesStand}
-use Rattle.nc_flatness.specs.Plans.{HasEnd, IsZero, IsFlush}
+use Rattle.nc_flatness.specs.Plans.{IsZero, IsFlush}
 use Rattle.nc_flatness.specs.Steps.{Goes}
 use Rattle.nc_flatness.proofs.FlatBytes.{byte_zeroed}
 use Rattle.nc_flatness.proofs.Lasts.{last_stays}
@@ -58,10 +54,10 @@ use Rattle.nc_flatness.proofs.Rests.{settling_ends}
 use Rattle.nc_flatness.proofs.Seen.{seen, seen_ways, slotted_in, seen_lent}
 use Rattle.nc_flat_starts.proofs.Frames.{IsPlace, IsOff, Rewrites, rest_hart, last_none}
 use Rattle.nc_flat_plans.proofs.OwnRows.{same_full}
-use Rattle.nc_flat_plans.proofs.Passes.{IsPlain, IsClear, passes_by, op_plain, op_byte, op_block, writes_whole}
+use Rattle.nc_flat_plans.proofs.Passes.{IsPlain, IsClear, passes_by, op_plain, writes_whole}
 use Rattle.nc_flat_plans.proofs.Drivers.{IsNext, IsDone, done_so, coming_next, settling_next}
-use Rattle.nc_flat_plans.proofs.PoolPlaces.{pool_apart, slot_unpooled}
-use Rattle.nc_flat_plans.proofs.Places.{IsUnder, its_id, its_loan, mapping_of, in_ram, pooled}
+use Rattle.nc_flat_plans.proofs.PoolPlaces.{slot_unpooled}
+use Rattle.nc_flat_plans.proofs.Places.{IsUnder, its_id, its_loan, mapping_of, pooled}
 use Rattle.nc_flat_plans.proofs.Shifts.{sided, seen_mapped, held, stay_shift}
 use Rattle.nc_flat_plans.proofs.StepFrames.{driven, known_now, enters_by, behind_bytes}
 use Rattle.nc_flat_plans.proofs.StepQueues.{stays_dropped, stays_zeroed, queue_stays, queue_more}

@@ -29,7 +29,7 @@ use Rattle.nc_holds.proofs.OwnerEnds.{left_all}
 use Rattle.nc_rows.specs.Ahead.{ends, posts, is_settling, settling, act_coming, coming, sending}
 use Rattle.nc_rows.proofs.Steps.{steps_ahead}
 use Rattle.nc_flatness.specs.Covered.{is_lending}
-use Rattle.nc_flatness.specs.Plans.{IsStill, HasEnd, StepGoes, Loads, Stores, WritesBack, Drops, Gives, Fences, Ends, Zeroes, Flushes, Settles, GivesArea, TakesBack, Marks, Posts, PlanGoes, EndsOne}
+use Rattle.nc_flatness.specs.Plans.{HasEnd, StepGoes, Loads, Stores, WritesBack, Drops, Gives, Fences, Ends, Zeroes, Flushes, Settles, GivesArea, TakesBack, Marks, Posts, PlanGoes, EndsOne}
 use Rattle.nc_flatness.specs.Flatness.{IsMapping, PlanLeft, PlanIs, PlanOf, Drives}
 use Rattle.nc_flatness.specs.Steps.{IsNow}
 use Rattle.nc_flatness.proofs.Rests.{ends_later, back_moves, ends_one_next}

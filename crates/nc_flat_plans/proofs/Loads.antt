@@ -2,11 +2,9 @@
 use Rattle.std.specs.Prelude.{Option, Some, None, All, ◌/◌, ◌-◌, ◌%◌, true, false, slice_get}
 use Rattle.std.specs.List.{list_any}
 use Rattle.std.proofs.Common.{◌≡◌, ◌≢◌, ◌⊎◌, ℕ, ◌+◌, ◌<◌, ◌≤◌, List, [], ◌++◌, length, refl, sym, ap, ◌∙◌, inl, inr, subst, arith}
-use Rattle.std.proofs.lemmas.Bool.{both_ways}
 use Rattle.nc_num.specs.Memory.{byte}
 use Rattle.nc_num.specs.Memory as memory
 use Rattle.nc_num.specs.Places.{block_at, covers, IsPieceLen}
-use Rattle.nc_num.specs.Sizes.{IsBlockSize}
 use Rattle.nc_num.proofs.MemoryLaws.{byte-span, length-span, same_bytes}
 use Rattle.nc_num.specs.declared.names.HartNo.{HartNo}
 use Rattle.nc_num.specs.declared.names.MapId.{MapId}
@@ -44,7 +42,7 @@ use Rattle.nc_calls.proofs.StartPlaces.{loads_show}
 use Rattle.nc_rows.specs.Ahead.{ends, is_full, act_coming}
 use Rattle.nc_rows.specs.Laws.{area_of, is_lent_area}
 use Rattle.nc_rows.specs.Parts.{IsQueued, IsPiece, LastIs, rest_last}
-use Rattle.nc_rows.specs.Rows.{Loan, Book, Either, DeviceTo, DroppingRow, ComingRow, Row}
+use Rattle.nc_rows.specs.Rows.{Loan, Either, DeviceTo, DroppingRow, ComingRow, Row}
 use Rattle.nc_row_issues.proofs.RowIssues.{rows_issue}
 use Rattle.nc_row_plans.proofs.PlanBegins.{rows_begin}
 use Rattle.nc_flatness.specs.Books.{book_of}

@@ -1,5 +1,5 @@
 -- The places of the lot in hand: what their mappings are, and where the channel sees them; and the places beside.
-use Rattle.std.specs.Prelude.{Some, None, All, true, false, slice_get}
+use Rattle.std.specs.Prelude.{Some, All, true, false, slice_get}
 use Rattle.std.proofs.Common.{◌≡◌, ◌⊎◌, ℕ, ◌<◌, List, length, sym, ap, ◌∙◌, inl, inr, subst, arith}
 use Rattle.std.proofs.lemmas.Bool.{cases_Bool, both_ways}
 use Rattle.nc_num.specs.Places.{covers}

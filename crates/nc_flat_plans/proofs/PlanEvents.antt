@@ -43,8 +43,8 @@ step_by sc f w h o s rest k (Flushes is) = flushed_goes sc f w h o s rest k is
 step_by sc f w h o s rest k (Settles is) = settled_goes sc f w h o s rest k is
 step_by sc f w h o s rest k (GivesArea is) = area_given_goes sc f w h o s rest k is
 step_by sc f w h o s rest k (TakesBack is) = taken_goes sc f w h o s rest k is
-step_by sc f w h o s rest k (Marks is) = absurd (light_off sc f w h o s rest k is.lot is.hand.here is.light)
-step_by sc f w h o s rest k (Posts is) = absurd (light_off sc f w h o s rest k is.lot is.hand.here is.light)
+step_by sc f w h o s rest k (Marks is) = absurd (light_off sc f w h o s rest is.lot k is.hand.here is.light)
+step_by sc f w h o s rest k (Posts is) = absurd (light_off sc f w h o s rest is.lot k is.hand.here is.light)
 
 -- a rest is left
 rest_by : (sc : Scenario) (f : List ℕ) (w : WorldState) (h : HartNo) (o : Op) (rest : List Step) → IsNow sc f w (events.Issue h) → in_hand (driver_of w h.0) ≡ Some o → is_lending o ≡ true → (driver_of w h.0).phase ≡ Work → (driver_of w h.0).rest ≡ rest

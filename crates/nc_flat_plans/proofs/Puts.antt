@@ -1,7 +1,7 @@
 -- A step of a plan with no turn that puts an entry in its hart's queue.
 use Rattle.std.specs.Prelude.{None, true, false}
 use Rattle.std.specs.List.{list_any}
-use Rattle.std.proofs.Common.{◌≡◌, ℕ, ◌<◌, List, [], ◌∷◌, ◌++◌, sym, ap, ◌∙◌, inl, inr, subst}
+use Rattle.std.proofs.Common.{◌≡◌, ℕ, ◌<◌, List, [], ◌∷◌, ◌++◌, sym, ap, ◌∙◌, inl, inr}
 use Rattle.nc_num.specs.Memory.{byte}
 use Rattle.nc_num.specs.Places.{covers}
 use Rattle.nc_num.specs.declared.names.HartNo.{HartNo}
@@ -15,7 +15,6 @@ use Rattle.nc_rules.specs.declared.lots.Lot.{Lot}
 use Rattle.nc_rules.specs.declared.lots.LotId.{LotId}
 use Rattle.nc_rules.specs.declared.lots.Side.TheVariants as sides
 use Rattle.nc_rules.specs.declared.steps.Step.{Step}
-use Rattle.nc_rules.specs.declared.steps.Turn.{Turn}
 use Rattle.nc_rules.specs.declared.steps.Turn.TheVariants as turns
 use Rattle.nc_rules.specs.Lots.{owner_of_side}
 use Rattle.nc_rules.specs.Machine.{MachineState, hart_of}
@@ -102,14 +101,12 @@ put_bytes sc f w h o s rest k went e lot c done by entry put queued last =
     let shift = stay_shift sc f w h went lot s rest u done c.stay in
     let full : (i : ℕ) → list_any is_full (to_come h lot i (s ∷ rest)) ≡ list_any is_full (to_come h lot i rest) =
     λ i. ap (list_any is_full) (stay_comes sc f w h o s rest lot i c ∙ ap (λ (es : List QueueEntry). es ++ to_come h lot i rest) entry) ∙ same_full e (to_come h lot i rest) put.plain.full in
-    step_bytes sc f w h o s rest k went lot lot.side c.next done u shift (enters_by sc f w h k e flat by put.plain.fence) (record {
-      passes = λ x v there off beyond row. rows_issue.passed (book_of w) (owner_of w x) v m k h.0 e x by (passes_by (book_of w) (owner_of w x) m h.0 e x put.plain (no_areas sc f w flat) (put.clear x there off beyond)) row;
-      row = λ i d x v p row.
-          let same = row_byte sc f w h lot i d x v u p row in
-          subst (λ (b : ℕ). Row (book_of (gone w h k went)) (owner_of_side (its_id h lot i) lot.side) b k x) (sym same)
-          (put_row sc f w h o s rest k went e lot i d x c done by entry put p (subst (λ (b : ℕ). Row (book_of w) (owner_of w x) b m x) same row));
+    step_bytes sc f w h o s rest k went lot (sided lot.side) c.next done u c.mapping shift (enters_by sc f w h k e flat by put.plain.fence) (record {
+      passes = λ x b there off beyond row. rows_issue.passed (book_of w) (owner_of w x) b m k h.0 e x by (passes_by (book_of w) (owner_of w x) m h.0 e x put.plain (put.clear x there off beyond)) row;
+      row = λ i d x p row. put_row sc f w h o s rest k went e lot i d x c done by entry put p row;
       queue = queue_more (book_of v) (owner_of v) m k h.0 e by queued
-          (queue_stays sc f w h k went flat (λ b is. stays_dropped sc f w h k went lot s rest b u c.next.rest_is done.rest shift (λ i was. sym (full i) ∙ was) is));
+          (queue_stays sc f w h k went flat (λ b is. stays_dropped sc f w h k went lot s rest b u c.next.rest_is done.rest shift (λ i was. sym (full i) ∙ was) is)
+          (λ b is. stays_zeroed sc f w h k went lot s rest b u c.next.rest_is done c.stay c.plain is));
       lasting = last_none (book_of v) f h.0 (hart_of k h.0).last (rest_last went.driver.rest) (ap rest_last done.rest ∙ last);
       calm = λ z slot unseen.
           let before = unseen_before sc f w h k went lot lot.side z u shift (moved_seen lot u.moves) unseen in

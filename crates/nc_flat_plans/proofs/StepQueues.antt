@@ -1,5 +1,5 @@
 -- A step of a plan: what stands in its hart's queue is as its book wants it.
-use Rattle.std.specs.Prelude.{Option, Some, All, ◌/◌, true, false}
+use Rattle.std.specs.Prelude.{Some, All, ◌/◌, true, false}
 use Rattle.std.specs.List.{list_any}
 use Rattle.std.proofs.Common.{◌≡◌, ◌⊎◌, ℕ, List, [], ◌∷◌, refl, sym, ap, ◌∙◌, inl, inr, subst}
 use Rattle.std.proofs.lemmas.Bool.{or_parts}

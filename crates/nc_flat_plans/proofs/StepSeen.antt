@@ -1,5 +1,5 @@
 -- A step of a plan: where the channels see places behind it, and so which bytes of slots nobody sees.
-use Rattle.std.specs.Prelude.{Option, Some, None, true, false, slice_get}
+use Rattle.std.specs.Prelude.{Option, Some, true, false, slice_get}
 use Rattle.std.proofs.Common.{◌≡◌, ◌⊎◌, ℕ, zero, suc, List, [], ◌∷◌, refl, sym, ap, ◌∙◌, inl, inr, subst}
 use Rattle.std.proofs.lemmas.Bool.{cases_Bool, both_ways}
 use Rattle.nc_num.specs.Memory.{byte}

@@ -38,7 +38,7 @@ use Rattle.nc_rules.specs.World.{WorldState, driver_of}
 use Rattle.nc_calls.proofs.CallProofs.{issues_by_place}
 use Rattle.nc_rows.specs.Ahead.{ends, turns_lot, stores_io, tokens_lot, settling, is_full, act_coming}
 use Rattle.nc_rows.specs.Parts.{StoreIsQueued, IsPiece, LastIs, act_last, rest_last}
-use Rattle.nc_rows.specs.Rows.{gives_here, Row}
+use Rattle.nc_rows.specs.Rows.{gives_here}
 use Rattle.nc_row_issues.proofs.PlacePushes.{calm_pushed}
 use Rattle.nc_row_issues.proofs.RowIssues.{rows_issue}
 use Rattle.nc_row_plans.specs.Laws.{Puts}
