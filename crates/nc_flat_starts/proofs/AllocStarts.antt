@@ -1,7 +1,7 @@
 -- The start of an allocation: a new area is lent with its plan in hand, over free pages.
 use Rattle.std.specs.Prelude.{Option, Some, None, All, Result, Ok, Err, ◌==◌, not, true, false, if◌then◌else◌, option_map, slice_get}
 use Rattle.std.proofs.Common.{◌≡◌, ℕ, ◌<◌, List, [], ◌∷◌, ◌++◌, length, refl, sym, ap, ◌∙◌, inl, inr, subst}
-use Rattle.std.proofs.lemmas.Bool.{both_ways, and_from, eq-eqb, eqb-true, and_parts, cond-false}
+use Rattle.std.proofs.lemmas.Bool.{cases_Bool, both_ways, and_from, eq-eqb, eqb-true, and_parts, cond-true, cond-false}
 use Rattle.std.proofs.lemmas.List.Folds.{list_any_none}
 use Rattle.std.proofs.lemmas.List.Elements.{All-nil, All-cons, All-append}
 use Rattle.nc_num.specs.Places.{covers}
@@ -15,7 +15,7 @@ use Rattle.nc_model.specs.declared.owners.Owner.TheVariants.{Pool}
 use Rattle.nc_plan.specs.Effects.{both}
 use Rattle.nc_plan.specs.Effects as effects
 use Rattle.nc_plan.specs.Plans.{In}
-use Rattle.nc_plan.proofs.PlanLaws.{in_left, in_right}
+use Rattle.nc_plan.proofs.PlanLaws.{in_left, in_right, in_map}
 use Rattle.nc_coherent.specs.Pages.{PageMap, lowest_span}
 use Rattle.nc_sg.specs.declared.list.Entry.{Entry}
 use Rattle.nc_ops.specs.declared.ops.Op.{Op}
@@ -28,6 +28,7 @@ use Rattle.nc_rules.specs.declared.answers.Refusal.TheVariants as refusals
 use Rattle.nc_rules.specs.declared.lots.Kind.TheVariants as kinds
 use Rattle.nc_rules.specs.declared.lots.Lot.{Lot}
 use Rattle.nc_rules.specs.declared.lots.LotId.{LotId}
+use Rattle.nc_rules.specs.declared.lots.Side.{Side}
 use Rattle.nc_rules.specs.declared.lots.Side.TheVariants as sides
 use Rattle.nc_rules.specs.declared.steps.Step.{Step}
 use Rattle.nc_rules.specs.declared.steps.Turn.TheVariants as turns
@@ -39,7 +40,7 @@ use Rattle.nc_rules.specs.Mappings.{with_lot}
 use Rattle.nc_rules.specs.Operations.{meaning, begin, opening, plan_of}
 use Rattle.nc_rules.specs.Refusals.{◌>>=◌, wanted, some_or, unused, planned}
 use Rattle.nc_rules.specs.Start.{hart_spec}
-use Rattle.nc_rules.specs.Turns.{is_area, set_side, of_those, to_side}
+use Rattle.nc_rules.specs.Turns.{is_area, with_side, set_side, of_those, to_side}
 use Rattle.nc_rules.specs.Driver.{DriverState, Went, stays, searches, with_lots, went_to, opened, placed, begun}
 use Rattle.nc_rules.specs.World.{WorldState, driver_of}
 use Rattle.nc_scripts.specs.Drivers.{IsSettled, IsLotIn}
@@ -48,13 +49,14 @@ use Rattle.nc_scripts.proofs.EveryDriver.{in_hand_is}
 use Rattle.nc_scripts.proofs.Lists.{all_in, all_to, found}
 use Rattle.nc_scripts.proofs.LotLaws.{its_name, named_so}
 use Rattle.nc_scripts.proofs.NewLots.{area_is, AreNew, new_is}
+use Rattle.nc_holds.specs.Held.{EntriesAreApart}
 use Rattle.nc_holds.specs.Changes.{MayMake}
 use Rattle.nc_holds.specs.Holds.{held_of}
 use Rattle.nc_holds.proofs.EventFrom.{everyone_from}
 use Rattle.nc_holds.proofs.ListsA.{of_append, all_at}
-use Rattle.nc_holds.proofs.OwnerAreas.{IsNewArea, new_area, area_apart}
+use Rattle.nc_holds.proofs.OwnerAreas.{new_area, area_mine}
 use Rattle.nc_holds.proofs.OwnerFacts.{IsMaking}
-use Rattle.nc_holds.proofs.OwnerLots.{area_only}
+use Rattle.nc_holds.proofs.OwnerLots.{area_only, SameSpans, apart_from, same_spans}
 use Rattle.nc_holds.proofs.OwnerPages.{area_entry}
 use Rattle.nc_rows.specs.Ahead.{settling, coming}
 use Rattle.nc_rows.specs.Rows.{Loan, ahead_of, AllocatingRow, GivingRow, LentRow}
@@ -113,26 +115,42 @@ added_new sc f w h o lot a =
     let k = holds_here sc f w h s.flat s.lt in
     new_is ram harts d.fixed d.lots (lot ∷ []) w.owners w.pages o k.driver.fixed s.settled k.driver.apart k.setting.pages (in_hand_is ram harts d o k.driver.fixed s.hand).fits a.begins
 
+added_making : (sc : Scenario) (f : List ℕ) (w : WorldState) (h : HartNo) (o : Op) (lot : Lot) → IsAdded sc f w h o lot → IsMaking (length w.machine.cache.ram) (driver_of w h.0).fixed (held_of w h.0) (lot ∷ [])
+added_making sc f w h o lot a = record { may = record { op = o; begins = a.begins; settled = a.start.settled }; op = o; each = added_new sc f w h o lot a }
+
 added_fresh : (sc : Scenario) (f : List ℕ) (w : WorldState) (h : HartNo) (o : Op) (lot : Lot) → IsAdded sc f w h o lot → IsFresh sc f w h lot
 added_fresh sc f w h o lot a =
-    let d = driver_of w h.0 in
     let s = a.start in
-    let ram = length w.machine.cache.ram in
-    let harts = length w.machine.harts in
     let every = everyone_from w h.0 s.flat.world.holds (short sc f w h s.flat s.lt) in
     record {
       flat = s.flat;
       lt = s.lt;
-      new = new_area ram harts d.fixed (held_of w h.0) lot every.knows (record { may = record { op = o; begins = a.begins; settled = s.settled }; op = o; each = added_new sc f w h o lot a }) (ap is_area a.kind);
+      new = new_area (length w.machine.cache.ram) (length w.machine.harts) (driver_of w h.0).fixed (held_of w h.0) lot every.knows (added_making sc f w h o lot a) (ap is_area a.kind);
     }
+
+-- a side changes no range of a lot
+side_spans : (side : Side) (id : LotId) (lot : Lot) → SameSpans (with_side side id lot) lot
+side_spans side id lot = elim (cases_Bool (is_lot id lot)) [
+  | inl is ↦ subst (λ (l : Lot). SameSpans l lot) (sym (cond-true (is_lot id lot) (turned_lot side lot) lot is)) (same_spans (turned_lot side lot) lot refl refl refl)
+  | inr off ↦ subst (λ (l : Lot). SameSpans l lot) (sym (cond-false (is_lot id lot) (turned_lot side lot) lot off)) (same_spans lot lot refl refl refl)
+]
+
+-- so its entries are apart from the others before it is lent, as they are then
+added_apart : (sc : Scenario) (f : List ℕ) (w : WorldState) (h : HartNo) (o : Op) (lot : Lot) → IsAdded sc f w h o lot → EntriesAreApart ((driver_of w h.0).lots ++ lot ∷ [])
+added_apart sc f w h o lot a =
+    let d = driver_of w h.0 in
+    let s = a.start in
+    let lots = d.lots ++ lot ∷ [] in
+    let every = everyone_from w h.0 s.flat.world.holds (short sc f w h s.flat s.lt) in
+    let lent = area_mine (length w.machine.cache.ram) (length w.machine.harts) d.fixed (held_of w h.0) lot every.knows every.mine (added_making sc f w h o lot a) (ap is_area a.kind) in
+    apart_from (set_side sides.Lending lot.id lots) lots
+    (λ now there. record { lot = with_side sides.Lending lot.id now; here = in_map (with_side sides.Lending lot.id) now lots there; same = side_spans sides.Lending lot.id now }) lent.apart
 
 added_before : (sc : Scenario) (f : List ℕ) (w : WorldState) (h : HartNo) (o : Op) (lot : Lot) → IsAdded sc f w h o lot → IsBefore sc f w h ((driver_of w h.0).lots ++ lot ∷ []) lot
 added_before sc f w h o lot a =
     let d = driver_of w h.0 in
     let fx = d.fixed in
     let s = a.start in
-    let ram = length w.machine.cache.ram in
-    let harts = length w.machine.harts in
     let every = everyone_from w h.0 s.flat.world.holds (short sc f w h s.flat s.lt) in
     let new = (added_fresh sc f w h o lot a).new in
     let lots = d.lots ++ lot ∷ [] in
@@ -147,7 +165,7 @@ added_before sc f w h o lot a =
       me = me_of w h every.me;
       there = new.knows.lots;
       names = new.knows.names;
-      apart = area_apart ram harts fx (held_of w h.0) lot every.knows every.mine new;
+      apart = added_apart sc f w h o lot a;
       theirs = λ other i e x off here on. every.mine.owners other i e x (record { lot_in = old other here.lot_in off; entry = here.entry }) on;
       mappings = All-append (IsMapping fx) d.lots (lot ∷ []) (s.flat.bytes.drives h.0 s.lt).lots (All-cons (IsMapping fx) lot [] (record { kind = ap is_mapping a.kind; full = s.full }) (All-nil (IsMapping fx)));
       here = in_right lot d.lots (lot ∷ []) (inl refl);

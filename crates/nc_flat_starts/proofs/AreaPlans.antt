@@ -196,9 +196,9 @@ calloc_is : (f : Fixed) (lot : Lot) (bs : List ℕ) → blocks f.size (only_entr
 unfolding allocating
 calloc_is f lot bs same is =
     let turn = turns.Settle lot.id in
-    ap (λ (cs : List ℕ). ending turn (op_steps (map (cbo (result_unwrap_or f.effects.zero Zero)) cs ++ (map (cbo (result_unwrap_or f.effects.flush Flush)) cs ++ full ∷ [])))) same
-    ∙ ap (λ (op : CboOp). ending turn (op_steps (map (cbo op) bs ++ (map (cbo (result_unwrap_or f.effects.flush Flush)) bs ++ full ∷ [])))) is.zeroes
-    ∙ ap (λ (op : CboOp). ending turn (op_steps (zeros bs ++ (map (cbo op) bs ++ full ∷ [])))) is.flushes ∙ ap (λ (ops : List HartOp). ending turn (op_steps ops)) (sym (append_assoc (zeros bs) (flushings bs) (full ∷ [])))
+    ap (λ (cs : List ℕ). ending turn (op_steps ((map (cbo (result_unwrap_or f.effects.zero Zero)) cs ++ map (cbo (result_unwrap_or f.effects.flush Flush)) cs) ++ full ∷ []))) same
+    ∙ ap (λ (op : CboOp). ending turn (op_steps ((map (cbo op) bs ++ map (cbo (result_unwrap_or f.effects.flush Flush)) bs) ++ full ∷ []))) is.zeroes
+    ∙ ap (λ (op : CboOp). ending turn (op_steps ((zeros bs ++ map (cbo op) bs) ++ full ∷ []))) is.flushes
     ∙ ending_last (zeros bs ++ flushings bs) full turn ∙ ap (λ (ss : List Step). ss ++ fenced turn) (steps_append (zeros bs) (flushings bs)) ∙ append_steps (op_steps (zeros bs)) (op_steps (flushings bs)) (fenced turn)
 
 pub record Allocates (f : Fixed) (lots : List Lot) (lot : Lot) (steps : List Step) : Type 0 where
