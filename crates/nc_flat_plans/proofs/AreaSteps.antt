@@ -1,5 +1,5 @@
 -- A block of an area that is allocated is zeroed, or flushed.
-use Rattle.std.specs.Prelude.{Option, Some, None, unwrap_or, ◌/◌, ◌==◌, true, false, if◌then◌else◌}
+use Rattle.std.specs.Prelude.{Option, Some, None, unwrap_or, ◌/◌, ◌==◌, true, false}
 use Rattle.std.specs.List.{list_any}
 use Rattle.std.proofs.Common.{◌≡◌, ◌≢◌, ℕ, ◌+◌, ◌*◌, ◌<◌, ◌≤◌, List, [], ◌∷◌, ◌++◌, length, replicate, refl, sym, ap, ◌∙◌, inl, inr, subst, arith}
 use Rattle.std.proofs.lemmas.Bool.{cases_Bool, cases_eq, both_ways, cond-false, eqb-true, false_from_ne_true, ne_eqb}

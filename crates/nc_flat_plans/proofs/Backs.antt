@@ -1,6 +1,6 @@
 -- The last step of a plan that takes back: the lot is its hart's again, synced or not mapped any more.
 use Rattle.std.specs.Prelude.{Some, None, All, if◌then◌else◌, Bool, true, false}
-use Rattle.std.proofs.Common.{◌≡◌, ◌⊎◌, ℕ, ◌<◌, List, [], ◌∷◌, ◌++◌, refl, ap, ◌∙◌, inl, inr, subst}
+use Rattle.std.proofs.Common.{◌≡◌, ℕ, ◌<◌, List, [], ◌∷◌, ◌++◌, refl, ap, ◌∙◌, inl, inr, subst}
 use Rattle.std.proofs.lemmas.Bool.{cases_Bool, or_left, cond-true, cond-false}
 use Rattle.nc_num.specs.Memory.{byte}
 use Rattle.nc_num.specs.Places.{covers}

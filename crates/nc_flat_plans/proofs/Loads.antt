@@ -1,5 +1,5 @@
 -- A piece of a copy is loaded: no row is changed by it, and its bytes are flat memory's.
-use Rattle.std.specs.Prelude.{Option, Some, None, All, ◌/◌, ◌-◌, ◌%◌, true, false, slice_get}
+use Rattle.std.specs.Prelude.{Option, Some, None, All, ◌/◌, ◌-◌, true, false, slice_get}
 use Rattle.std.specs.List.{list_any}
 use Rattle.std.proofs.Common.{◌≡◌, ◌≢◌, ◌⊎◌, ℕ, ◌+◌, ◌<◌, ◌≤◌, List, [], ◌++◌, length, refl, sym, ap, ◌∙◌, inl, inr, subst, arith}
 use Rattle.nc_num.specs.Memory.{byte}

@@ -1,6 +1,6 @@
 -- The row of a place of the lot in hand, by what is still to come of its plan, before a step and behind it.
 use Rattle.std.specs.Prelude.{Option, Some, Bool, true, false}
-use Rattle.std.proofs.Common.{◌≡◌, ◌⊎◌, ℕ, List, refl, sym, ap, ◌∙◌, inl, inr, subst}
+use Rattle.std.proofs.Common.{◌≡◌, ℕ, List, refl, sym, ap, ◌∙◌, inl, inr, subst}
 use Rattle.std.specs.List.{list_any}
 use Rattle.nc_num.specs.Memory.{byte}
 use Rattle.nc_num.specs.declared.names.Dir.{Dir}
