@@ -7,6 +7,9 @@ pub mod Areas
 pub mod WholeBlocks
 pub mod Seen
 pub mod Rests
+pub mod Tokens
+pub mod Lents
+pub mod Stands
 pub mod Lasts
 pub mod Worlds
 pub mod BookReads

@@ -33,7 +33,7 @@ use Rattle.nc_flatness.specs.Plans.{IsStill, StillDevice, StillSynced, StillOwn,
 
 -- ---- the end of a lot
 
-kept_in : (side : Side) (id : LotId) (lots : List Lot) (lot : Lot) → is_lot id lot ≡ false → In lot lots → In lot (set_side side id lots)
+pub kept_in : (side : Side) (id : LotId) (lots : List Lot) (lot : Lot) → is_lot id lot ≡ false → In lot lots → In lot (set_side side id lots)
 kept_in side id [] lot off k = elim k [ ]
 kept_in side id (l ∷ lots) lot off (inl e) = inl (ap (with_side side id) e ∙ (rw off refl))
 kept_in side id (l ∷ lots) lot off (inr k) = inr (kept_in side id lots lot off k)

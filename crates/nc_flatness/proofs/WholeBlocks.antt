@@ -91,13 +91,25 @@ entry_block sc f w h lot i e x y flat here direct back same over =
           in_blocks {s = w.machine.size} e.span x y flat.world.machine.block_size whole same over
     ]
 
--- the whole block of a mapping's place has the owner of its side
+-- a place of the same entry has the owner of its side
+same_entry : (sc : Scenario) (f : List ℕ) (w : WorldState) (n : MapId) (x y : ℕ) → Flatness sc f w → (is : IsMapped w n x) → covers is.is.entry.span y ≡ true → (covers is.loan.grant.buffer y ≡ true) × (owner_of w y ≡ owner_of w x)
+same_entry sc f w n x y flat is there =
+    let l = is.is in
+    let owned : owner_of w y ≡ owner_of_side n l.lot.side =
+    entry_owned sc f w n.hart.0 l.lot l.i l.entry y flat l.here there ∙ ap (λ (k : MapId). owner_of_side k l.lot.side) (sym l.name) in
+    (subst (λ (s : Span). covers s y ≡ true) (sym l.buffer) there, owned ∙ sym is.owner)
+
+-- so has the whole block of a mapping's place
 pub mapped_block : (sc : Scenario) (f : List ℕ) (w : WorldState) (n : MapId) (x y : ℕ) → Flatness sc f w → (is : IsMapped w n x) → is.is.entry.bounced ≡ false → comes_back is.loan.grant.dir ≡ true → y / w.machine.size ≡ x / w.machine.size
     → (covers is.loan.grant.buffer y ≡ true) × (owner_of w y ≡ owner_of w x)
 mapped_block sc f w n x y flat is direct back same =
     let l = is.is in
-    let here = of_buffer w n is.loan x l is.on in
-    let there = entry_block sc f w n.hart.0 l.lot l.i l.entry x y flat l.here direct (subst (λ (k : Dir). comes_back k ≡ true) l.dir back) same here in
-    let owned : owner_of w y ≡ owner_of_side n l.lot.side =
-    entry_owned sc f w n.hart.0 l.lot l.i l.entry y flat l.here there ∙ ap (λ (k : MapId). owner_of_side k l.lot.side) (sym l.name) in
-    (subst (λ (s : Span). covers s y ≡ true) (sym l.buffer) there, owned ∙ sym is.owner)
+    same_entry sc f w n x y flat is
+    (entry_block sc f w n.hart.0 l.lot l.i l.entry x y flat l.here direct (subst (λ (k : Dir). comes_back k ≡ true) l.dir back) same (of_buffer w n is.loan x l is.on))
+
+-- and that of an area's
+pub area_whole : (sc : Scenario) (f : List ℕ) (w : WorldState) (n : MapId) (x y : ℕ) → Flatness sc f w → (is : IsMapped w n x) → is.loan.area ≡ true → y / w.machine.size ≡ x / w.machine.size
+    → (covers is.loan.grant.buffer y ≡ true) × (owner_of w y ≡ owner_of w x)
+area_whole sc f w n x y flat is area same =
+    let l = is.is in
+    same_entry sc f w n x y flat is (area_block sc f w n.hart.0 l.lot l.i l.entry x y flat l.here (sym l.area ∙ area) same (of_buffer w n is.loan x l is.on))
