@@ -1,5 +1,5 @@
 -- The start of each operation that lends and takes back: flat memory's bytes stand behind it.
-use Rattle.std.specs.Prelude.{Option, Some, true}
+use Rattle.std.specs.Prelude.{Option, true}
 use Rattle.std.proofs.Common.{◌≡◌, ℕ, List, refl, sym, subst}
 use Rattle.std.proofs.lemmas.Bool.{cond-true}
 use Rattle.nc_num.specs.declared.names.HartNo.{HartNo}

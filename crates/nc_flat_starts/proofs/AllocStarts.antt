@@ -1,6 +1,6 @@
 -- The start of an allocation: a new area is lent with its plan in hand, over free pages.
-use Rattle.std.specs.Prelude.{Option, Some, None, All, Result, Ok, Err, ◌==◌, not, true, false, if◌then◌else◌, option_map, slice_get}
-use Rattle.std.proofs.Common.{◌≡◌, ℕ, ◌<◌, List, [], ◌∷◌, ◌++◌, length, refl, sym, ap, ◌∙◌, inl, inr, subst}
+use Rattle.std.specs.Prelude.{Option, Some, Result, Ok, Err, ◌==◌, not, true, false, option_map}
+use Rattle.std.proofs.Common.{◌≡◌, ℕ, List, [], ◌∷◌, ◌++◌, length, refl, sym, ap, ◌∙◌, inl, inr, subst}
 use Rattle.std.proofs.lemmas.Bool.{cases_Bool, both_ways, and_from, eq-eqb, eqb-true, and_parts, cond-true, cond-false}
 use Rattle.std.proofs.lemmas.List.Folds.{list_any_none}
 use Rattle.std.proofs.lemmas.List.Elements.{All-nil, All-cons, All-append}
@@ -8,7 +8,6 @@ use Rattle.nc_num.specs.Places.{covers}
 use Rattle.nc_num.specs.declared.names.ChanNo.{ChanNo}
 use Rattle.nc_num.specs.declared.names.HartNo.{HartNo}
 use Rattle.nc_num.specs.declared.names.Label.{Label}
-use Rattle.nc_num.specs.declared.names.MapId.{MapId}
 use Rattle.nc_num.specs.declared.places.Span.{Span}
 use Rattle.nc_queue.specs.declared.entry.Entry.{Entry as QueueEntry}
 use Rattle.nc_model.specs.declared.owners.Owner.TheVariants.{Pool}
@@ -21,7 +20,6 @@ use Rattle.nc_sg.specs.declared.list.Entry.{Entry}
 use Rattle.nc_ops.specs.declared.ops.Op.{Op}
 use Rattle.nc_ops.specs.declared.ops.Op.TheVariants as ops
 use Rattle.nc_model.specs.declared.owners.Owner.{Owner}
-use Rattle.nc_scen.specs.Regions.{slots_of}
 use Rattle.nc_scen.specs.declared.scenario.Scenario.{Scenario}
 use Rattle.nc_rules.specs.declared.answers.Refusal.{Refusal}
 use Rattle.nc_rules.specs.declared.answers.Refusal.TheVariants as refusals
@@ -35,22 +33,20 @@ use Rattle.nc_rules.specs.declared.steps.Turn.TheVariants as turns
 use Rattle.nc_rules.specs.Areas as areas
 use Rattle.nc_rules.specs.Areas.{calloc_begin, calloc_steps}
 use Rattle.nc_rules.specs.Lots.{Fixed, lot_id, lot_named, area_lot, only_entry, is_lot, is_named, is_labelled, same_kind, map_id, lot_waits, some_lot_waits}
-use Rattle.nc_rules.specs.Machine.{MachineState}
 use Rattle.nc_rules.specs.Mappings.{with_lot}
 use Rattle.nc_rules.specs.Operations.{meaning, begin, opening, plan_of}
 use Rattle.nc_rules.specs.Refusals.{◌>>=◌, wanted, some_or, unused, planned}
 use Rattle.nc_rules.specs.Start.{hart_spec}
 use Rattle.nc_rules.specs.Turns.{is_area, with_side, set_side, of_those, to_side}
-use Rattle.nc_rules.specs.Driver.{DriverState, Went, stays, searches, with_lots, went_to, opened, placed, begun}
+use Rattle.nc_rules.specs.Driver.{Went, stays, searches, with_lots, went_to, opened, placed, begun}
 use Rattle.nc_rules.specs.World.{WorldState, driver_of}
-use Rattle.nc_scripts.specs.Drivers.{IsSettled, IsLotIn}
+use Rattle.nc_scripts.specs.Drivers.{IsSettled}
 use Rattle.nc_scripts.proofs.DriverSteps.{passed}
 use Rattle.nc_scripts.proofs.EveryDriver.{in_hand_is}
-use Rattle.nc_scripts.proofs.Lists.{all_in, all_to, found}
+use Rattle.nc_scripts.proofs.Lists.{all_in, all_to}
 use Rattle.nc_scripts.proofs.LotLaws.{its_name, named_so}
 use Rattle.nc_scripts.proofs.NewLots.{area_is, AreNew, new_is}
 use Rattle.nc_holds.specs.Held.{EntriesAreApart}
-use Rattle.nc_holds.specs.Changes.{MayMake}
 use Rattle.nc_holds.specs.Holds.{held_of}
 use Rattle.nc_holds.proofs.EventFrom.{everyone_from}
 use Rattle.nc_holds.proofs.ListsA.{of_append, all_at}
@@ -61,13 +57,13 @@ use Rattle.nc_holds.proofs.OwnerPages.{area_entry}
 use Rattle.nc_rows.specs.Ahead.{settling, coming}
 use Rattle.nc_rows.specs.Rows.{Loan, ahead_of, AllocatingRow, GivingRow, LentRow}
 use Rattle.nc_row_plans.proofs.PlanBegins.{rows_begin}
-use Rattle.nc_flatness.specs.Books.{loan_by, mapping_in}
+use Rattle.nc_flatness.specs.Books.{loan_by}
 use Rattle.nc_flatness.specs.Flatness.{is_mapping, IsMapping, BytesStand}
 use Rattle.nc_flatness.specs.Plans.{IsStill}
 use Rattle.nc_flatness.proofs.Outcomes.{gone}
 use Rattle.nc_flat_starts.proofs.AreaPlans.{IsZeroing, Allocates, allocate_so}
 use Rattle.nc_flat_starts.proofs.AreaRows.{area_unslotted}
-use Rattle.nc_flat_starts.proofs.Bases.{me_of, fixed_is, area_placed}
+use Rattle.nc_flat_starts.proofs.Bases.{me_of, fixed_is}
 use Rattle.nc_flat_starts.proofs.Befores.{IsBefore, its_only}
 use Rattle.nc_flat_starts.proofs.Calls.{gives_bytes, opened_so}
 use Rattle.nc_flat_starts.proofs.Effects.{zeroing}

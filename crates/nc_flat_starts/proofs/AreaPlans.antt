@@ -1,16 +1,15 @@
 -- The plans of areas go through: an area that is allocated is zeroed block by block, then flushed block by block, and then
 -- all is fenced; one that is given or taken back is fenced.
-use Rattle.std.specs.Prelude.{Some, ◌||◌, ◌==◌, ◌&&◌, ◌-◌, ◌/◌, ◌%◌, Bool, true, false, if◌then◌else◌, All, map, flat_map, slice_get}
+use Rattle.std.specs.Prelude.{Some, ◌==◌, ◌-◌, ◌/◌, Bool, true, false, if◌then◌else◌, All, map, flat_map, slice_get}
 use Rattle.std.specs.List.{list_any, find, range_with_len}
 use Rattle.std.specs.Result.{result_unwrap_or}
-use Rattle.std.proofs.Common.{◌≡◌, ◌≢◌, ℕ, zero, suc, ◌+◌, ◌<◌, ◌≤◌, List, [], ◌∷◌, ◌++◌, refl, sym, ap, ◌∙◌, inl, inr, subst, arith, append_assoc}
+use Rattle.std.proofs.Common.{◌≡◌, ℕ, zero, suc, ◌+◌, ◌<◌, ◌≤◌, List, [], ◌∷◌, ◌++◌, refl, sym, ap, ◌∙◌, inl, inr, subst, arith, append_assoc}
 use Rattle.std.proofs.lemmas.Bool.{eq-eqb, eqb-true, or_left, or_right, or_from, false_from_ne_true, cond-true, cond-false}
 use Rattle.std.proofs.lemmas.List.Folds.{list_any-append}
 use Rattle.std.proofs.lemmas.List.Elements.{All-nil, All-cons, All-head, All-tail}
 use Rattle.nc_num.specs.Sizes.{IsBlockSize}
 use Rattle.nc_num.specs.Places.{covers}
 use Rattle.nc_num.specs.declared.names.MapId.{MapId}
-use Rattle.nc_num.specs.declared.places.Block.{Block}
 use Rattle.nc_num.specs.declared.places.Span.{Span}
 use Rattle.nc_env.specs.declared.CboOp.{CboOp}
 use Rattle.nc_env.specs.declared.CboOp.TheVariants.{Flush, Zero}
@@ -21,10 +20,9 @@ use Rattle.nc_queue.specs.declared.entry.Entry.{Entry as QueueEntry}
 use Rattle.nc_queue.specs.declared.entry.Entry.TheVariants as entries
 use Rattle.nc_queue.proofs.FenceLaws.{covered-none}
 use Rattle.nc_coherent.specs.Areas.{allocating}
-use Rattle.nc_plan.specs.Plans.{In, full, blocks, cbo, cbos}
+use Rattle.nc_plan.specs.Plans.{In, full, blocks, cbo}
 use Rattle.nc_plan.specs.declared.effects.Effects.{Effects}
 use Rattle.nc_plan.specs.declared.ops.HartOp.{HartOp}
-use Rattle.nc_plan.specs.declared.ops.HartOp.TheVariants as hart
 use Rattle.nc_plan.proofs.PlanLaws.{blocks_are_met}
 use Rattle.nc_sg.specs.declared.list.Entry.{Entry}
 use Rattle.nc_rules.specs.declared.lots.Lot.{Lot}
@@ -38,8 +36,7 @@ use Rattle.nc_rules.specs.Lots.{Fixed, only_entry}
 use Rattle.nc_rules.specs.Plans.{hart_step, op_steps, turning, ending, token_steps, lending_end}
 use Rattle.nc_holds.specs.Held.{IsEntryOf}
 use Rattle.nc_rules.specs.Machine.{MachineState}
-use Rattle.nc_rows.specs.Ahead.{turns_lot, gives_lot, settles_lot, is_settling, ends, posts, names, op_coming, token, settling, coming}
-use Rattle.nc_rows.specs.Parts.{rest_last}
+use Rattle.nc_rows.specs.Ahead.{turns_lot, gives_lot, settles_lot, is_settling, ends, names, op_coming, token, settling, coming}
 use Rattle.nc_rows.specs.Rows.{is_flush, flushes, gives_here, gives_block}
 use Rattle.nc_rows.proofs.Steps.{next, last}
 use Rattle.nc_row_plans.proofs.LendingPlans.{is_plain, Are, cbos_are, stands_some}
@@ -227,10 +224,10 @@ allocate_so f lots lot hand area is size there whole =
     let settles : settling id tail ≡ true = settling_ops id (flushings bs) end (cbos_plain Flush bs) ∙ end_settles in
     let unzeroed : (b : ℕ) → HasZero id tail b false =
     λ b n. comes_ops (has_op is_zero b) n id (flushings bs) end (cbos_plain Flush bs) end_ended
-        ∙ or_from (list_any (has_op is_zero b) fs) (list_any (has_op is_zero b) (coming n id end)) (flushings_lack b bs) (ap (list_any (has_op is_zero b)) (alone_comes n id turn (same_id id))) in
+    ∙ or_from (list_any (has_op is_zero b) fs) (list_any (has_op is_zero b) (coming n id end)) (flushings_lack b bs) (ap (list_any (has_op is_zero b)) (alone_comes n id turn (same_id id))) in
     let line : (n : MapId) → coming n id (op_steps (zeros bs) ++ tail) ≡ zs ++ (fs ++ last_mark) =
     λ n. coming_ops n id (zeros bs) tail (cbos_plain Zero bs) ended
-        ∙ ap (λ (es : List QueueEntry). zs ++ es) (coming_ops n id (flushings bs) end (cbos_plain Flush bs) end_ended ∙ ap (λ (es : List QueueEntry). fs ++ es) (alone_comes n id turn (same_id id))) in
+    ∙ ap (λ (es : List QueueEntry). zs ++ es) (coming_ops n id (flushings bs) end (cbos_plain Flush bs) end_ended ∙ ap (λ (es : List QueueEntry). fs ++ es) (alone_comes n id turn (same_id id))) in
     let some : (m : MachineState) (x : ℕ) → f.size ≡ m.size → covers span x ≡ true → list_any (flushes m x) fs ≡ true =
     λ m x same on. some_flush (x / m.size) bs (subst (λ (s : ℕ). In (x / s) bs) same (met.all x (covers-low span x on) (covers-high span x on))) in
     let stands : (n : MapId) (m : MachineState) (x : ℕ) → f.size ≡ m.size → covers span x ≡ true → Stands (flushes m x) (names n) (fs ++ last_mark) =

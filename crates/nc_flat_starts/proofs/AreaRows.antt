@@ -1,14 +1,12 @@
 -- The rows of an area at its opening turn: it is given to its channel, or taken back from it.
-use Rattle.std.specs.Prelude.{Option, Some, Bool, true, false, slice_get}
+use Rattle.std.specs.Prelude.{Option, Some, Bool, true, false}
 use Rattle.std.proofs.Common.{◌≡◌, ◌⊎◌, ℕ, ◌<◌, List, length, refl, sym, ap, ◌∙◌, inl, inr, subst}
 use Rattle.std.proofs.lemmas.Bool.{false_from_ne_true}
 use Rattle.nc_num.specs.Places.{covers}
 use Rattle.nc_num.specs.declared.names.HartNo.{HartNo}
-use Rattle.nc_num.specs.declared.names.MapId.{MapId}
 use Rattle.nc_num.specs.declared.places.Span.{Span}
 use Rattle.nc_queue.specs.declared.entry.Entry.{Entry as QueueEntry}
-use Rattle.nc_plan.specs.Plans.{In}
-use Rattle.nc_scen.specs.Regions.{pool_of, slots_of}
+use Rattle.nc_scen.specs.Regions.{slots_of}
 use Rattle.nc_scen.specs.declared.scenario.Scenario.{Scenario}
 use Rattle.nc_sg.specs.declared.list.Entry.{Entry}
 use Rattle.nc_ops.specs.declared.ops.Op.{Op}
@@ -21,8 +19,7 @@ use Rattle.nc_rules.specs.declared.lots.Side.TheVariants as sides
 use Rattle.nc_rules.specs.declared.steps.Step.{Step}
 use Rattle.nc_rules.specs.declared.steps.Turn.{Turn}
 use Rattle.nc_rules.specs.Areas.{fenced}
-use Rattle.nc_rules.specs.Lots.{Fixed, is_lot, map_id, owner_of_side}
-use Rattle.nc_rules.specs.Machine.{MachineState}
+use Rattle.nc_rules.specs.Lots.{Fixed, map_id, owner_of_side}
 use Rattle.nc_rules.specs.Plans.{lending_end}
 use Rattle.nc_rules.specs.Turns.{is_area, set_side, of_those, to_side}
 use Rattle.nc_rules.specs.Driver.{Went, in_hand, with_lots, went_to}
@@ -34,7 +31,7 @@ use Rattle.nc_holds.proofs.OwnerLots.{area_covers}
 use Rattle.nc_rows.specs.Ahead.{settling, coming}
 use Rattle.nc_rows.specs.Laws.{seen_at, place_of}
 use Rattle.nc_rows.specs.Places.{ThreadRow, PoolRow}
-use Rattle.nc_rows.specs.Rows.{Loan, Book, ahead_of, Either, AllocatingRow, GivingRow, device_place, LentRow, DeviceRow, BackRow, Row, ByDir}
+use Rattle.nc_rows.specs.Rows.{Loan, Book, ahead_of, Either, AllocatingRow, GivingRow, LentRow, DeviceRow, BackRow, Row}
 use Rattle.nc_row_plans.proofs.PlanBegins.{rows_begin}
 use Rattle.nc_flatness.specs.Books.{book_of}
 use Rattle.nc_flatness.specs.Covered.{is_lending}

@@ -35,7 +35,7 @@ use Rattle.nc_flatness.specs.Books.{loan_of, book_of, mapping_in}
 use Rattle.nc_flatness.specs.Flatness.{IsMapping, IsStillOrWanted, Flatness}
 use Rattle.nc_flatness.specs.Plans.{IsStill, StillDevice, StillSynced, StillOwn, StillSent}
 use Rattle.nc_flatness.specs.Tokens.{TokenStands}
-use Rattle.nc_flatness.proofs.Loans.{IsLoan, loan_is, lot_of}
+use Rattle.nc_flatness.proofs.Loans.{IsLoan, lot_of}
 use Rattle.nc_flatness.proofs.Owned.{mapped}
 use Rattle.nc_flat_starts.proofs.Bases.{IsBase, me_of, mapping_first, label_one}
 use Rattle.nc_flat_starts.proofs.Frames.{IsOff, IsRestful}

@@ -1,14 +1,13 @@
 -- A new area: its pages are free, so nobody has its bytes, no copy of them is there, and no queue has an entry for them.
 use Rattle.std.specs.Prelude.{Option, Some, None, ◌==◌, ◌-◌, ◌/◌, ◌%◌, true, false, All, is_some}
 use Rattle.std.specs.List.{list_any}
-use Rattle.std.proofs.Common.{◌≡◌, ℕ, ◌<◌, ◌≤◌, List, [], ◌∷◌, ◌++◌, length, refl, sym, ap, ◌∙◌, inl, inr, subst, arith}
+use Rattle.std.proofs.Common.{◌≡◌, ℕ, ◌<◌, ◌≤◌, List, [], ◌∷◌, length, refl, sym, ap, ◌∙◌, inl, inr, subst, arith}
 use Rattle.std.proofs.lemmas.Bool.{cases_Bool, both_ways, or_parts, or_from, eqb-true, false_from_ne_true, cond-true}
 use Rattle.std.proofs.lemmas.List.Elements.{All-head, All-tail}
 use Rattle.nc_num.specs.Memory.{byte}
 use Rattle.nc_num.specs.Places.{block_at, covers}
 use Rattle.nc_num.specs.Sizes.{IsBlockSize}
 use Rattle.nc_num.specs.declared.names.HartNo.{HartNo}
-use Rattle.nc_num.specs.declared.names.MapId.{MapId}
 use Rattle.nc_num.specs.declared.names.MemType.{MemType}
 use Rattle.nc_num.specs.declared.names.MemType.TheVariants.{Pma, Nc, Io}
 use Rattle.nc_num.specs.declared.places.Span.{Span}
@@ -21,15 +20,14 @@ use Rattle.nc_model.specs.declared.owners.Owner.{Owner}
 use Rattle.nc_model.specs.declared.owners.Owner.TheVariants.{Returning, Pool}
 use Rattle.nc_scen.specs.Regions.{pool_of, slots_of}
 use Rattle.nc_scen.specs.declared.scenario.Scenario.{Scenario}
-use Rattle.nc_sg.specs.declared.list.Entry.{Entry}
 use Rattle.nc_rules.specs.declared.lots.Lot.{Lot}
 use Rattle.nc_rules.specs.Lots.{Fixed, only_entry}
-use Rattle.nc_rules.specs.Machine.{MachineState, queue_of}
+use Rattle.nc_rules.specs.Machine.{queue_of}
 use Rattle.nc_rules.specs.Turns.{is_area}
 use Rattle.nc_rules.specs.Watched.{owner_of}
 use Rattle.nc_rules.specs.World.{WorldState, driver_of}
 use Rattle.nc_calls.specs.PlaceLaws.{NotHeld, parts}
-use Rattle.nc_scripts.specs.Drivers.{IsFixed, IsLotIn, IsInPool}
+use Rattle.nc_scripts.specs.Drivers.{IsFixed, IsLotIn}
 use Rattle.nc_holds.specs.Held.{FitsSide, IsTaken}
 use Rattle.nc_holds.specs.Holds.{held_of}
 use Rattle.nc_holds.proofs.ListsA.{all_at}
@@ -43,7 +41,7 @@ use Rattle.nc_row_plans.specs.Begins.{NoneQueued}
 use Rattle.nc_flatness.specs.Books.{book_of, mapping_in, IsOfArea}
 use Rattle.nc_flatness.specs.Flatness.{Flatness}
 use Rattle.nc_flatness.proofs.Loans.{loan_is}
-use Rattle.nc_flatness.proofs.Owned.{IsMapped, mapped, owned_ram}
+use Rattle.nc_flatness.proofs.Owned.{mapped, owned_ram}
 use Rattle.nc_flatness.proofs.Seen.{place_ways, slot_block}
 use Rattle.nc_flatness.proofs.WholeBlocks.{in_whole, whole_slots}
 use Rattle.nc_flat_starts.proofs.AreaRows.{area_unslotted}

@@ -1,6 +1,6 @@
 -- A call with which a plan neither begins nor is left: nothing changes its owner, or a lot that is synced ends.
 use Rattle.std.specs.Prelude.{Option, Some, None, All, true, false, slice_get, option_map}
-use Rattle.std.proofs.Common.{◌≡◌, ℕ, ◌<◌, List, [], length, refl, sym, ap, ◌∙◌, inl, inr, subst, arith}
+use Rattle.std.proofs.Common.{◌≡◌, ℕ, ◌<◌, List, [], length, refl, sym, ap, ◌∙◌, inl, subst, arith}
 use Rattle.std.proofs.lemmas.Bool.{both_ways, cond-false}
 use Rattle.nc_num.specs.Memory.{byte}
 use Rattle.nc_num.specs.Places.{covers}

@@ -1,5 +1,5 @@
 -- The start of an operation that maps, unmaps or syncs: flat memory's bytes stand behind it.
-use Rattle.std.specs.Prelude.{Option, Some, All, Result, Ok, Err, ◌==◌, true, false, if◌then◌else◌, option_map, flat_map}
+use Rattle.std.specs.Prelude.{Some, All, Result, Ok, Err, ◌==◌, true, false, if◌then◌else◌, option_map, flat_map}
 use Rattle.std.proofs.Common.{◌≡◌, ◌⊎◌, ℕ, ◌<◌, List, [], ◌∷◌, ◌++◌, length, refl, sym, ap, ◌∙◌, inl, inr, subst, arith}
 use Rattle.std.proofs.lemmas.Bool.{both_ways, cond-true, cond-false, and_parts}
 use Rattle.std.proofs.lemmas.List.{append-nil}
@@ -36,8 +36,8 @@ use Rattle.nc_rules.specs.Mappings as mappings
 use Rattle.nc_rules.specs.Mappings.{with_lot, needs_lot, unmap_turn, unmap_steps, to_cpu_turn, to_cpu_steps, to_dev_turn, to_dev_steps}
 use Rattle.nc_rules.specs.ScatterLists as lists
 use Rattle.nc_rules.specs.ScatterLists.{some_entries, unmap_sg_begin, unmap_sg_turn, unmap_sg_steps}
-use Rattle.nc_rules.specs.Operations.{meaning, has_start, begin, opening, plan_of, step_at}
-use Rattle.nc_rules.specs.Driver.{DriverState, Went, in_hand, stays, searches, with_lots, opened, placed, begun, started, started_of, refused_step, steps_done}
+use Rattle.nc_rules.specs.Operations.{meaning, begin, opening, plan_of}
+use Rattle.nc_rules.specs.Driver.{DriverState, Went, in_hand, stays, searches, with_lots, opened, placed, begun}
 use Rattle.nc_rules.specs.World.{WorldState, driver_of}
 use Rattle.nc_scripts.specs.Drivers.{IsSettled, AreMade, IsPhase}
 use Rattle.nc_scripts.proofs.DriverSteps.{passed}
@@ -61,7 +61,6 @@ use Rattle.nc_flatness.proofs.Loans.{entry_loan}
 use Rattle.nc_flatness.proofs.Outcomes.{gone}
 use Rattle.nc_flat_starts.proofs.Bases.{IsBase}
 use Rattle.nc_flat_starts.proofs.Calls.{wanted_side, IsCall, call_base, gives_bytes, opened_so, Makes, OneMap, ListMap, placed_bytes}
-use Rattle.nc_flat_starts.proofs.Lendings.{lending_starts}
 use Rattle.nc_flat_starts.proofs.Lots.{more_wanted}
 use Rattle.nc_flat_starts.proofs.OpenRows.{AreKnown, lend_opens, return_opens}
 use Rattle.nc_flat_starts.proofs.Opens.{opens_bytes}

@@ -1,5 +1,5 @@
 -- What a row is read with beside the machine, before and behind a driver's call, as statements.
-use Rattle.std.specs.Prelude.{ℕ, ◌≡◌, false, Option, Some, None}
+use Rattle.std.specs.Prelude.{ℕ, ◌≡◌, Option, Some, None}
 use Rattle.nc_num.specs.declared.names.MapId.{MapId}
 use Rattle.nc_model.specs.declared.owners.Owner.{Owner}
 use Rattle.nc_model.specs.declared.owners.Owner.TheVariants.{Thread, Passing, Lending, Device, Returning, Synced, Pool}
