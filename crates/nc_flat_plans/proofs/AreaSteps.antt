@@ -16,7 +16,6 @@ use Rattle.nc_queue.specs.declared.entry.Entry.TheVariants as entries
 use Rattle.nc_lines.specs.Lines.{bare}
 use Rattle.nc_model.specs.Flat.{named, written}
 use Rattle.nc_model.proofs.FlatLaws.{length-written}
-use Rattle.nc_model.specs.declared.owners.Owner.TheVariants.{Lending}
 use Rattle.nc_ops.specs.declared.ops.Op.{Op}
 use Rattle.nc_scen.specs.Regions.{pool_of, slots_of}
 use Rattle.nc_scen.specs.declared.events.Event.TheVariants as events
