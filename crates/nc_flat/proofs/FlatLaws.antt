@@ -1,10 +1,13 @@
 -- The laws of flat memory.
+use Rattle.std.proofs.Common.{◌≡◌, true, subst, sym}
+use Rattle.nc_num.specs.Places.{covers}
+use Rattle.nc_num.specs.declared.places.Span.{Span}
 use Rattle.nc_flatness.specs.Steps.{EachGoes}
 use Rattle.nc_flat_moves.proofs.MoveLaws.{moves_go_law}
 use Rattle.nc_flat_scripts.proofs.IssueEvents as scripts
 use Rattle.nc_flat_starts.proofs.Events as starts
 use Rattle.nc_flat_plans.proofs.PlanEvents as plans
-use Rattle.nc_flat.specs.Laws.{EachRunIsLatest, EachRunIsKept, EachEventIsFlat, EachRunIsFlat}
+use Rattle.nc_flat.specs.Laws.{EachRunIsLatest, EachRunIsKept, EachEventIsFlat, EachRunIsFlat, EachPoolIsUncached}
 use Rattle.nc_flat.proofs.Dispatch.{each_goes}
 use Rattle.nc_flat.proofs.Runs.{event_goes, latest_of, flat_of, kept_of}
 
@@ -22,3 +25,8 @@ flat_always = flat_of goes_always
 
 pub kept_always : EachRunIsKept
 kept_always = kept_of goes_always
+
+pub uncached_always : EachPoolIsUncached
+uncached_always sc es a c there none x on =
+    let flat = flat_always sc es a c there none in
+    flat.bytes.uncached x (subst (λ (pool : Span). covers pool x ≡ true) (sym flat.world.of_scenario.pool) on)

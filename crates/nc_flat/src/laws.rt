@@ -1,10 +1,10 @@
 //! The laws of flat memory, over the definitions alone.
 
-ghost use Rattle.nc_flat.specs.Laws.{EachRunIsLatest, EachRunIsKept, EachEventIsFlat, EachRunIsFlat};
+ghost use Rattle.nc_flat.specs.Laws.{EachRunIsLatest, EachRunIsKept, EachEventIsFlat, EachRunIsFlat, EachPoolIsUncached};
 
 /// Whatever events happen in whatever order, each load and each channel read before the first touch shows flat memory:
 /// the writes that the owners of its bytes made, in order. It is a law of the accepted scenarios that are covered
-/// (`IsCovered`: no script names a coherent area or a copy, nor, with light fences, a mapping or a scatter list), as the
+/// (`IsCovered`: no script names a copy, nor, with light fences, a mapping, a scatter list or a coherent area), as the
 /// others here.
 #[tactic(auto, using(crate::proofs::FlatLaws::latest_always))]
 pub fn latest_law()
@@ -30,4 +30,11 @@ pub fn events_keep_flat()
 #[tactic(auto, using(crate::proofs::FlatLaws::flat_always))]
 pub fn runs_keep_flat()
     ensures { EachRunIsFlat }
+{}
+
+/// After each run without a touch no cache has a copy of a page of the coherent pool, but while the area that has the page
+/// is being allocated.
+#[tactic(auto, using(crate::proofs::FlatLaws::uncached_always))]
+pub fn uncached_law()
+    ensures { EachPoolIsUncached }
 {}

@@ -2,7 +2,7 @@
 use Rattle.nc_rows.specs.Ahead.{is_full}
 use Rattle.std.specs.Prelude.{Option, Some, ◌-◌, map}
 use Rattle.std.specs.List.{range_with_len, list_any}
-use Rattle.std.proofs.Common.{◌≡◌, ◌⊎◌, ℕ, ◌+◌, ◌<◌, ◌≤◌, Bool, true, false, List, length, refl, sym, ap, ◌∙◌, inl, inr, subst, arith}
+use Rattle.std.proofs.Common.{◌≡◌, ◌⊎◌, ℕ, ◌+◌, ◌<◌, ◌≤◌, true, false, List, length, refl, sym, ap, ◌∙◌, inl, inr, subst, arith}
 use Rattle.std.proofs.lemmas.Bool.{cases_Bool, both_ways}
 use Rattle.nc_num.specs.Memory.{byte}
 use Rattle.nc_num.specs.Memory as memory
@@ -30,19 +30,20 @@ use Rattle.nc_rules.specs.World.{WorldState}
 use Rattle.nc_calls.specs.MachineLaws.{SameShape}
 use Rattle.nc_calls.specs.PlaceLaws.{NotHeld, Stays, WritesSpan}
 use Rattle.nc_rows.specs.Places.{CalmRow}
-use Rattle.nc_rows.specs.Rows.{Loan, Book, device_place, Either, ByDir, Row}
+use Rattle.nc_rows.specs.Rows.{Loan, Book, device_place, ByDir, Row}
 use Rattle.nc_rows.specs.Parts.{Queued, Uncached, Lasts}
 use Rattle.nc_rows.specs.Laws.{place_of}
 use Rattle.nc_row_channels.specs.Laws.{Beside, IsWritten, IsPlain}
 use Rattle.nc_row_channels.proofs.RowWrites.{rows_of_channels}
-use Rattle.nc_flatness.specs.Books.{book_of}
+use Rattle.nc_flatness.specs.Books.{book_of, mapping_in}
 use Rattle.nc_flatness.specs.Flatness.{IsUnseen, BytesStand, Flatness}
 use Rattle.nc_flatness.proofs.FlatBytes.{out_of}
 use Rattle.nc_flatness.proofs.Lasts.{last_stays}
-use Rattle.nc_flatness.proofs.Loans.{loan_is}
 use Rattle.nc_flatness.proofs.Outcomes.{ran}
-use Rattle.nc_flatness.proofs.Seen.{seen, seen_one}
-use Rattle.nc_flat_moves.proofs.LosesRows.{one_loan}
+use Rattle.nc_flatness.proofs.Owned.{mapped, owned_ram}
+use Rattle.nc_flatness.proofs.Seen.{seen, area_place, seen_one}
+use Rattle.nc_flat_moves.proofs.Pooled.{either_by, one_loan, device_unheld}
+use Rattle.nc_flat_moves.proofs.Tokens.{tokens_same}
 use Rattle.nc_flat_moves.proofs.Calm.{calm_of}
 use Rattle.nc_flat_moves.proofs.NamedBytes.{byte_kept, byte_there, shows_under}
 use Rattle.nc_flat_moves.proofs.Granted.{IsUsed, used_there, used_ways, seen_here}
@@ -75,12 +76,21 @@ stay_bytes sc f w k flat shape same =
       unfenced = λ h. ap (list_any is_full) (same.queues h) ∙ s.unfenced h;
       uncached = uncached_on a (owner_of w) m k shape (λ x none. (same.places x).line ∙ none) s.uncached;
       lasts = lasts_on a f m k same.harts s.lasts;
+      tokens = tokens_same sc f w k flat same.queues;
     }
 
 -- ---- what is read
 
-plain_by : (l : Loan) (x : ℕ) → l.area ≡ false → IsPlain (Some l) x
-plain_by l x single = subst (λ (b : Bool). Either b (device_place l x ≡ x) (Unit {0})) (sym single) tt
+plain_by : (l : Loan) (x : ℕ) → (l.area ≡ true → device_place l x ≡ x) → IsPlain (Some l) x
+plain_by l x same = either_by l.area (device_place l x ≡ x) (Unit {0}) same (λ single. tt)
+
+-- a place of an area is used where it is
+area_used : (sc : Scenario) (f : List ℕ) (w : WorldState) (c : ChanNo) (access : Access) (z : ℕ) → Flatness sc f w → (u : IsUsed w c access z) → u.loan.area ≡ true → device_place u.loan u.place ≡ u.place
+area_used sc f w c access z flat u area =
+    let mine = ap mapping_in u.owner in
+    let m = mapped sc f w u.id u.place flat (owned_ram sc f w u.place u.id flat mine) mine in
+    let same = one_loan ((book_of w).loan u.id) m.loan u.loan m.known u.known in
+    subst (λ (l : Loan). device_place l u.place ≡ u.place) same (area_place sc f w u.id m.loan u.place flat m.is (ap (λ (l : Loan). l.area) same ∙ area) m.on)
 
 seen_by : (o : Option Loan) (l : Loan) (x z : ℕ) → o ≡ Some l → device_place l x ≡ z → place_of o x ≡ z
 seen_by o l x z known here = ap (λ (k : Option Loan). place_of k x) known ∙ here
@@ -92,7 +102,7 @@ read_byte sc f w c z flat u =
     let m = w.machine in
     let there = used_there sc f w c Read z flat u in
     let row = subst (λ (o : Owner). Row a o (byte f u.place) m u.place) u.owner (flat.bytes.rows u.place there.low there.off) in
-    let plain : IsPlain (a.loan u.id) u.place = subst (λ (o : Option Loan). IsPlain o u.place) (sym u.known) (plain_by u.loan u.place (loan_is sc f w u.id u.loan flat u.known).area) in
+    let plain : IsPlain (a.loan u.id) u.place = subst (λ (o : Option Loan). IsPlain o u.place) (sym u.known) (plain_by u.loan u.place (area_used sc f w c Read z flat u)) in
     ap (byte m.cache.ram) (sym (seen_by (a.loan u.id) u.loan u.place z u.known u.here)) ∙ rows_of_channels.shows a u.id (byte f u.place) m u.place plain row ∙ ap (byte f) (sym u.name)
 
 pub read_shows : (sc : Scenario) (f : List ℕ) (w : WorldState) (c : ChanNo) (span : Span) (bytes : List ℕ) → Flatness sc f w → ((z : ℕ) → covers span z ≡ true → IsUsed w c Read z) → span.at + span.len ≤ length w.machine.cache.ram
@@ -160,9 +170,9 @@ written_dir ToDev p may way = absurd cc
 written_dir Both p may way = way
 written_dir FromDev p may way = way
 
-written_by : (l : Loan) (span : Span) (m : MachineState) (x : ℕ) → l.area ≡ false → device_may Write l.grant.dir ≡ true → (x ≡ device_place l x) ⊎ Beside span x → IsWritten (Some l) span m x
-written_by l span m x single may way =
-    subst (λ (b : Bool). Either b ((device_place l x ≡ x) × NotHeld m x) (ByDir l.grant.dir ⊥ ((x ≡ device_place l x) ⊎ Beside span x))) (sym single) (written_dir l.grant.dir ((x ≡ device_place l x) ⊎ Beside span x) may way)
+written_by : (l : Loan) (span : Span) (m : MachineState) (x : ℕ) → (l.area ≡ true → (device_place l x ≡ x) × NotHeld m x) → device_may Write l.grant.dir ≡ true → (x ≡ device_place l x) ⊎ Beside span x → IsWritten (Some l) span m x
+written_by l span m x area may way =
+    either_by l.area ((device_place l x ≡ x) × NotHeld m x) (ByDir l.grant.dir ⊥ ((x ≡ device_place l x) ⊎ Beside span x)) area (λ single. written_dir l.grant.dir ((x ≡ device_place l x) ⊎ Beside span x) may way)
 
 -- the row of a place that is written
 row_used : (sc : Scenario) (f : List ℕ) (w : WorldState) (k : MachineState) (c : ChanNo) (span : Span) (bytes : List ℕ) (z : ℕ) → (is : IsWrite sc f w k c span bytes) → covers span z ≡ true → (u : IsUsed w c Write z)
@@ -174,7 +184,8 @@ row_used sc f w k c span bytes z is on u =
     let at : place_of (a.loan u.id) u.place ≡ z = seen_by (a.loan u.id) u.loan u.place z u.known u.here in
     let row = subst (λ (o : Owner). Row a o (byte f u.place) m u.place) u.owner (is.flat.bytes.rows u.place there.low there.off) in
     let told_so : IsWritten (a.loan u.id) span m u.place =
-    subst (λ (o : Option Loan). IsWritten o span m u.place) (sym u.known) (written_by u.loan span m u.place (loan_is sc f w u.id u.loan is.flat u.known).area u.allows (place_apart sc f w k c span bytes z is u)) in
+    subst (λ (o : Option Loan). IsWritten o span m u.place) (sym u.known)
+    (written_by u.loan span m u.place (λ area. (area_used sc f w c Write z is.flat u area, device_unheld sc f w u.id u.loan u.place is.flat u.owner u.known area)) u.allows (place_apart sc f w k c span bytes z is u)) in
     let done = rows_of_channels.written a u.id (byte f u.place) m k span bytes u.place is.shape is.writes (rw at (covers-low span z on)) (rw at (covers-high span z on)) told_so row in
     let value : byte bytes (place_of (a.loan u.id) u.place - span.at) ≡ byte (told w c f span bytes) u.place = ap (λ (y : ℕ). byte bytes (y - span.at)) at ∙ sym (byte_used sc f w k c span bytes z is on u) in
     subst (λ (o : Owner). Row a o (byte (told w c f span bytes) u.place) k u.place) (sym u.owner) (subst (λ (v : ℕ). Row a (Device u.id) v k u.place) value done)
@@ -216,7 +227,7 @@ lasts_written : (sc : Scenario) (f : List ℕ) (w : WorldState) (k : MachineStat
 lasts_written sc f w k c span bytes is = λ h.
     last_stays sc f (told w c f span bytes) w (book_of w) k h is.flat (length-written f (named_from (channel_name w.grants c) span.at bytes) ∙ is.flat.bytes.flat_size) refl
     (ap (λ (hs : List HartState). (hart_of (record w.machine { harts = hs }) h).last) is.writes.harts) (λ n own. refl)
-    (λ x n lent. byte_beside sc f w k c span bytes x is (λ z on u same. not_device w n u.id x u.place lent u.owner same))
+    (λ x n own lent. byte_beside sc f w k c span bytes x is (λ z on u same. not_device w n u.id x u.place lent u.owner same))
 
 -- ---- the whole
 
@@ -239,4 +250,5 @@ write_bytes sc f w k c span bytes flat shape writes uses =
       unfenced = λ h. ap (list_any is_full) (writes.queues h) ∙ s.unfenced h;
       uncached = uncached_on a (owner_of w) m k shape writes.not_held s.uncached;
       lasts = lasts_written sc f w k c span bytes is;
+      tokens = tokens_same sc f w k flat writes.queues;
     }

@@ -21,6 +21,7 @@ use Rattle.nc_model.proofs.TouchLaws.{channel_passed, channel_uses}
 use Rattle.nc_scen.specs.Regions.{slots_of}
 use Rattle.nc_scen.specs.declared.scenario.Scenario.{Scenario}
 use Rattle.nc_rules.specs.Lots.{map_id, grant_of}
+use Rattle.nc_rules.specs.Turns.{is_area}
 use Rattle.nc_rules.specs.Watched.{owner_of}
 use Rattle.nc_rules.specs.World.{WorldState, driver_of, hart}
 use Rattle.nc_scripts.proofs.Lists.{found}
@@ -31,7 +32,7 @@ use Rattle.nc_flatness.specs.Flatness.{Flatness}
 use Rattle.nc_flatness.proofs.Loans.{entry_loan}
 use Rattle.nc_flatness.proofs.Owned.{me_is, mapped, owned_ram}
 use Rattle.nc_flatness.proofs.Seen.{seen, seen_lent, place_ways, mapped_unslotted}
-use Rattle.nc_flat_moves.proofs.LosesRows.{one_loan}
+use Rattle.nc_flat_moves.proofs.Pooled.{one_loan}
 
 -- ---- names
 
@@ -71,7 +72,7 @@ granted_by sc f w g flat held =
     let named : map_id d.fixed.me of.lot.id of.i ≡ map_id (hart h) of.lot.id of.i = ap (λ (k : HartNo). map_id k of.lot.id of.i) (me_is w h flat.world.holds held.hart) in
     let id : g.id ≡ map_id (hart h) of.lot.id of.i = ap (λ (k : Grant). k.id) of.is ∙ named in
     record {
-      loan = record { grant = grant_of d.fixed.slots_at of.lot (map_id (hart h) of.lot.id of.i) of.entry; lot = of.lot.id; area = false };
+      loan = record { grant = grant_of d.fixed.slots_at of.lot (map_id (hart h) of.lot.id of.i) of.entry; lot = of.lot.id; area = is_area of.lot.kind };
       known = ap (book_of w).loan id ∙ entry_loan sc f w h of.lot of.i of.entry flat of.here of.lent;
       grant = sym (of.is ∙ ap (λ (k : MapId). grant_of d.fixed.slots_at of.lot k of.entry) named);
     }

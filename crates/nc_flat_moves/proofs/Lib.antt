@@ -1,3 +1,8 @@
+pub mod Pooled
+pub mod Tokens
+pub mod SentLots
+pub mod GivenWorld
+pub mod TokenBytes
 pub mod LosesRows
 pub mod Calm
 pub mod NamedBytes

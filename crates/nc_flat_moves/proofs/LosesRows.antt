@@ -1,6 +1,6 @@
 -- An entry that drains loses no byte that a row tells: what it may lose is of a block that its own mapping drops.
 use Rattle.std.specs.Prelude.{Option, Some, None, ◌/◌}
-use Rattle.std.proofs.Common.{◌≡◌, ◌⊎◌, ℕ, ◌<◌, Bool, true, false, List, refl, sym, ap, ◌∙◌, inl, inr, subst}
+use Rattle.std.proofs.Common.{◌≡◌, ◌⊎◌, ℕ, ◌<◌, true, false, List, refl, sym, ap, ◌∙◌, inl, inr, subst}
 use Rattle.std.proofs.lemmas.Bool.{eqb-true, both_ways}
 use Rattle.nc_num.specs.Places.{covers}
 use Rattle.nc_num.specs.declared.names.Dir.{Dir}
@@ -11,28 +11,24 @@ use Rattle.nc_env.specs.declared.CboOp.TheVariants as cbos
 use Rattle.nc_queue.specs.declared.entry.Entry.{Entry}
 use Rattle.nc_queue.specs.declared.entry.Entry.TheVariants.{Store, Cbo, Reg, Mail, Lend, Mark}
 use Rattle.nc_plan.specs.Parts.{comes_back}
+use Rattle.nc_plan.specs.Plans.{In}
 use Rattle.nc_model.specs.declared.owners.Owner.{Owner}
 use Rattle.nc_model.specs.declared.owners.Owner.TheVariants.{Thread, Passing, Lending, Device, Returning, Synced, Pool}
 use Rattle.nc_scen.specs.Regions.{slots_of}
 use Rattle.nc_scen.specs.declared.scenario.Scenario.{Scenario}
-use Rattle.nc_rules.specs.Machine.{MachineState}
+use Rattle.nc_rules.specs.Machine.{MachineState, queue_of}
 use Rattle.nc_rules.specs.Watched.{owner_of}
 use Rattle.nc_rules.specs.World.{WorldState}
 use Rattle.nc_calls.specs.PlaceLaws.{LosesNone, parts}
-use Rattle.nc_rows.specs.Rows.{Loan, device_place, Either, ByDir}
+use Rattle.nc_rows.specs.Rows.{Loan, device_place, ByDir}
 use Rattle.nc_rows.specs.Parts.{IsDropped, IsQueued}
 use Rattle.nc_row_moves.specs.Laws.{LosesFrom, LosesLent, LosesDevice, LosesNoRow}
 use Rattle.nc_flatness.specs.Books.{book_of, mapping_in}
 use Rattle.nc_flatness.specs.Flatness.{Flatness}
-use Rattle.nc_flatness.proofs.BookReads.{pool_unheld}
-use Rattle.nc_flatness.proofs.Loans.{loan_is}
 use Rattle.nc_flatness.proofs.Owned.{mapped, owned_ram}
 use Rattle.nc_flatness.proofs.Seen.{seen, seen_lent, device_same, place_ways, slot_block, seen_whole}
 use Rattle.nc_flatness.proofs.WholeBlocks.{mapped_block}
-
--- what a mapping is, is one
-pub one_loan : (o : Option Loan) (k l : Loan) → o ≡ Some k → o ≡ Some l → k ≡ l
-one_loan o k l p q = let same = sym p ∙ q in cc
+use Rattle.nc_flat_moves.proofs.Pooled.{either_by, one_loan, loan_pooled, pool_loses}
 
 -- ---- what an entry loses
 
@@ -49,24 +45,20 @@ record LosesBlock (w : WorldState) (h : ℕ) (e : Entry) : Type 0 where
   dropped : DropsBlock w h block
   only : (x : ℕ) → parts w.machine.size e x ≡ true → x / w.machine.size ≡ block
 
-loses_where : (sc : Scenario) (f : List ℕ) (w : WorldState) (h : ℕ) (e : Entry) → Flatness sc f w → IsQueued (book_of w) (owner_of w) w.machine.pool w.machine.size h e → LosesNowhere w.machine e ⊎ LosesBlock w h e
-loses_where sc f w h (Store span bytes Pma) flat queued = inl (λ x over. absurd cc)
-loses_where sc f w h (Store span bytes Nc) flat queued = inl (λ x over. pool_unheld sc f w x flat (queued x over))
-loses_where sc f w h (Store span bytes Io) flat queued = absurd queued
-loses_where sc f w h (Cbo block cbos.Clean) flat queued = inl (λ x over. absurd cc)
-loses_where sc f w h (Cbo block cbos.Flush) flat queued = inl (λ x over. absurd cc)
-loses_where sc f w h (Cbo block cbos.Zero) flat queued = inl (λ x over. absurd cc)
-loses_where sc f w h (Cbo block cbos.Inval) flat queued = inr (record { block = block.0; dropped = queued; only = λ x over. eqb-true (x / w.machine.size) block.0 over })
-loses_where sc f w h (Reg chan off width value) flat queued = inl (λ x over. absurd cc)
-loses_where sc f w h (Mail buf to) flat queued = inl (λ x over. absurd cc)
-loses_where sc f w h (Lend label first count) flat queued = inl (λ x over. absurd cc)
-loses_where sc f w h (Mark pred succ) flat queued = inl (λ x over. absurd cc)
+loses_where : (sc : Scenario) (f : List ℕ) (w : WorldState) (h : ℕ) (e : Entry) → Flatness sc f w → In e (queue_of w.machine h) → IsQueued (book_of w) (owner_of w) w.machine.pool w.machine.size h e → LosesNowhere w.machine e ⊎ LosesBlock w h e
+loses_where sc f w h (Store span bytes Pma) flat here queued = inl (λ x over. absurd cc)
+loses_where sc f w h (Store span bytes Nc) flat here queued = inl (λ x over. pool_loses sc f w h (Store span bytes Nc) x flat here (queued x over) over)
+loses_where sc f w h (Store span bytes Io) flat here queued = absurd queued
+loses_where sc f w h (Cbo block cbos.Clean) flat here queued = inl (λ x over. absurd cc)
+loses_where sc f w h (Cbo block cbos.Flush) flat here queued = inl (λ x over. absurd cc)
+loses_where sc f w h (Cbo block cbos.Zero) flat here queued = inl (λ x over. absurd cc)
+loses_where sc f w h (Cbo block cbos.Inval) flat here queued = inr (record { block = block.0; dropped = queued; only = λ x over. eqb-true (x / w.machine.size) block.0 over })
+loses_where sc f w h (Reg chan off width value) flat here queued = inl (λ x over. absurd cc)
+loses_where sc f w h (Mail buf to) flat here queued = inl (λ x over. absurd cc)
+loses_where sc f w h (Lend label first count) flat here queued = inl (λ x over. absurd cc)
+loses_where sc f w h (Mark pred succ) flat here queued = inl (λ x over. absurd cc)
 
 -- ---- nothing is lost anywhere
-
-either_of : (b : Bool) (p q : Type 0) → p → q → Either b p q
-either_of true p q first second = first
-either_of false p q first second = second
 
 dir_of : (dir : Dir) (p q : Type 0) → p → q → ByDir dir p q
 dir_of ToDev p q first second = first
@@ -79,9 +71,9 @@ nowhere_lent (Some l) m e x none = (none x, none (device_place l x))
 
 nowhere_device : (o : Option Loan) (m : MachineState) (e : Entry) (x : ℕ) → LosesNowhere m e → LosesDevice o m e x
 nowhere_device None m e x none = tt
-nowhere_device (Some l) m e x none = either_of l.area _ _ (none x) (dir_of l.grant.dir _ _ (none x) (inr (none x)))
+nowhere_device (Some l) m e x none = either_by l.area _ _ (λ area. none x) (λ single. dir_of l.grant.dir _ _ (none x) (inr (none x)))
 
-nowhere : (w : WorldState) (o : Owner) (m : MachineState) (e : Entry) (x : ℕ) → LosesNowhere m e → LosesNoRow (book_of w) o m e x
+pub nowhere : (w : WorldState) (o : Owner) (m : MachineState) (e : Entry) (x : ℕ) → LosesNowhere m e → LosesNoRow (book_of w) o m e x
 nowhere w (Thread h) m e x none = none x
 nowhere w (Passing h g) m e x none = none x
 nowhere w (Lending n) m e x none = nowhere_lent ((book_of w).loan n) m e x none
@@ -140,12 +132,12 @@ by_dir Both p q first second = second
 by_dir FromDev p q first second = second
 
 -- a place of one that the device has, or that is taken back
-device_loses : (sc : Scenario) (f : List ℕ) (w : WorldState) (e : Entry) (x : ℕ) (n : MapId) (o : Option Loan) → Flatness sc f w → (book_of w).loan n ≡ o
+device_loses : (sc : Scenario) (f : List ℕ) (w : WorldState) (e : Entry) (x : ℕ) (n : MapId) (o : Option Loan) → Flatness sc f w → (book_of w).loan n ≡ o → ((loan : Loan) → o ≡ Some loan → loan.area ≡ true → LosesNone w.machine e x)
     → ((loan : Loan) → o ≡ Some loan → comes_back loan.grant.dir ≡ false → LosesNone w.machine e x) → ((loan : Loan) → o ≡ Some loan → LosesFrom w.machine e x (device_place loan x)) → LosesDevice o w.machine e x
-device_loses sc f w e x n None flat is to from = tt
-device_loses sc f w e x n (Some loan) flat is to from =
-    subst (λ (b : Bool). Either b (LosesNone w.machine e x) (ByDir loan.grant.dir (LosesNone w.machine e x) (LosesFrom w.machine e x (device_place loan x)))) (sym (loan_is sc f w n loan flat is).area)
-    (by_dir loan.grant.dir (LosesNone w.machine e x) (LosesFrom w.machine e x (device_place loan x)) (to loan refl) (from loan refl))
+device_loses sc f w e x n None flat is area to from = tt
+device_loses sc f w e x n (Some loan) flat is area to from =
+    either_by loan.area (LosesNone w.machine e x) (ByDir loan.grant.dir (LosesNone w.machine e x) (LosesFrom w.machine e x (device_place loan x))) (area loan refl)
+    (λ single. by_dir loan.grant.dir (LosesNone w.machine e x) (LosesFrom w.machine e x (device_place loan x)) (to loan refl) (from loan refl))
 
 -- a place that is taken back, where its device reads it only, and where it may write it
 back_to : (sc : Scenario) (f : List ℕ) (w : WorldState) (h : ℕ) (e : Entry) (x : ℕ) (n : MapId) (loan : Loan) → Flatness sc f w → x < sc.ram → covers (slots_of sc) x ≡ false → (l : LosesBlock w h e) → owner_of w x ≡ Returning n → (book_of w).loan n ≡ Some loan
@@ -170,22 +162,22 @@ back_from sc f w h e x n loan flat lt off l own is =
           absurd (both_ways (covers (slots_of sc) x) off (ap (covers (slots_of sc)) (sym back.here ∙ ap (λ (k : Loan). device_place k x) (sym one)) ∙ way.0)))
     ]
 
-block_loses : (sc : Scenario) (f : List ℕ) (w : WorldState) (h : ℕ) (e : Entry) (x : ℕ) (o : Owner) → Flatness sc f w → x < sc.ram → covers (slots_of sc) x ≡ false → LosesBlock w h e → owner_of w x ≡ o → LosesNoRow (book_of w) o w.machine e x
-block_loses sc f w h e x (Thread g) flat lt off l own = other_loses sc f w h e x flat lt off l (λ back. let no = sym own ∙ back in cc)
-block_loses sc f w h e x (Passing g k) flat lt off l own = other_loses sc f w h e x flat lt off l (λ back. let no = sym own ∙ back in cc)
-block_loses sc f w h e x (Synced n) flat lt off l own = other_loses sc f w h e x flat lt off l (λ back. let no = sym own ∙ back in cc)
-block_loses sc f w h e x Pool flat lt off l own = tt
-block_loses sc f w h e x (Lending n) flat lt off l own = lent_loses sc f w h e x n ((book_of w).loan n) flat lt off l own refl
-block_loses sc f w h e x (Device n) flat lt off l own =
+block_loses : (sc : Scenario) (f : List ℕ) (w : WorldState) (h : ℕ) (e : Entry) (x : ℕ) (o : Owner) → Flatness sc f w → In e (queue_of w.machine h) → x < sc.ram → covers (slots_of sc) x ≡ false → LosesBlock w h e → owner_of w x ≡ o → LosesNoRow (book_of w) o w.machine e x
+block_loses sc f w h e x (Thread g) flat here lt off l own = other_loses sc f w h e x flat lt off l (λ back. let no = sym own ∙ back in cc)
+block_loses sc f w h e x (Passing g k) flat here lt off l own = other_loses sc f w h e x flat lt off l (λ back. let no = sym own ∙ back in cc)
+block_loses sc f w h e x (Synced n) flat here lt off l own = other_loses sc f w h e x flat lt off l (λ back. let no = sym own ∙ back in cc)
+block_loses sc f w h e x Pool flat here lt off l own = tt
+block_loses sc f w h e x (Lending n) flat here lt off l own = lent_loses sc f w h e x n ((book_of w).loan n) flat lt off l own refl
+block_loses sc f w h e x (Device n) flat here lt off l own =
     let none = other_loses sc f w h e x flat lt off l (λ back. let no = sym own ∙ back in cc) in
-    device_loses sc f w e x n ((book_of w).loan n) flat refl (λ loan is to. none) (λ loan is. inr none)
-block_loses sc f w h e x (Returning n) flat lt off l own =
-    device_loses sc f w e x n ((book_of w).loan n) flat refl (λ loan is to. back_to sc f w h e x n loan flat lt off l own is to) (λ loan is. back_from sc f w h e x n loan flat lt off l own is)
+    device_loses sc f w e x n ((book_of w).loan n) flat refl (λ loan is area. none) (λ loan is to. none) (λ loan is. inr none)
+block_loses sc f w h e x (Returning n) flat here lt off l own =
+    device_loses sc f w e x n ((book_of w).loan n) flat refl (λ loan is area. pool_loses sc f w h e x flat here (loan_pooled sc f w n loan x flat (ap mapping_in own) is area)) (λ loan is to. back_to sc f w h e x n loan flat lt off l own is to) (λ loan is. back_from sc f w h e x n loan flat lt off l own is)
 
 -- so no row loses a byte
-pub loses_row : (sc : Scenario) (f : List ℕ) (w : WorldState) (h : ℕ) (e : Entry) (x : ℕ) → Flatness sc f w → x < sc.ram → covers (slots_of sc) x ≡ false → IsQueued (book_of w) (owner_of w) w.machine.pool w.machine.size h e
+pub loses_row : (sc : Scenario) (f : List ℕ) (w : WorldState) (h : ℕ) (e : Entry) (x : ℕ) → Flatness sc f w → x < sc.ram → covers (slots_of sc) x ≡ false → In e (queue_of w.machine h) → IsQueued (book_of w) (owner_of w) w.machine.pool w.machine.size h e
     → LosesNoRow (book_of w) (owner_of w x) w.machine e x
-loses_row sc f w h e x flat lt off queued = elim (loses_where sc f w h e flat queued) [
+loses_row sc f w h e x flat lt off here queued = elim (loses_where sc f w h e flat here queued) [
   | inl none ↦ nowhere w (owner_of w x) w.machine e x none
-  | inr l ↦ block_loses sc f w h e x (owner_of w x) flat lt off l refl
+  | inr l ↦ block_loses sc f w h e x (owner_of w x) flat here lt off l refl
 ]

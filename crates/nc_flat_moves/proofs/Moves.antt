@@ -2,8 +2,8 @@
 use Rattle.nc_calls.proofs.StepPlaces.{fill_is, evict_is}
 use Rattle.nc_rows.specs.Ahead.{is_full}
 use Rattle.std.specs.List.{list_any}
-use Rattle.std.specs.Prelude.{Option, Some, None}
-use Rattle.std.proofs.Common.{◌≡◌, ℕ, ◌+◌, ◌*◌, ◌<◌, ◌≤◌, false, List, length, refl, sym, ap, ◌∙◌, arith}
+use Rattle.std.specs.Prelude.{Option, Some, None, ◌/◌}
+use Rattle.std.proofs.Common.{◌≡◌, ℕ, ◌+◌, ◌*◌, ◌<◌, ◌≤◌, true, List, length, refl, ap, ◌∙◌, arith}
 use Rattle.std.proofs.lemmas.Bool.{false≢true}
 use Rattle.nc_num.specs.Memory.{byte}
 use Rattle.nc_num.specs.declared.names.HartNo.{HartNo}
@@ -13,7 +13,7 @@ use Rattle.nc_model.specs.declared.owners.Owner.{Owner}
 use Rattle.nc_model.specs.declared.owners.Owner.TheVariants.{Thread, Passing, Lending, Device, Returning, Synced, Pool}
 use Rattle.nc_scen.specs.declared.events.Event.TheVariants as events
 use Rattle.nc_scen.specs.declared.scenario.Scenario.{Scenario}
-use Rattle.nc_rules.specs.Calls.{fill_next, fill_answer, evict_next, evict_answer}
+use Rattle.nc_rules.specs.Calls.{is_pooled, fill_next, fill_answer, evict_next, evict_answer}
 use Rattle.nc_rules.specs.Outcomes.{outcome}
 use Rattle.nc_rules.specs.Records.{answer_records}
 use Rattle.nc_rules.specs.Watched.{owner_of}
@@ -23,29 +23,30 @@ use Rattle.nc_rows.specs.Rows.{Loan}
 use Rattle.nc_rows.specs.Laws.{area_of, is_lent_area}
 use Rattle.nc_row_moves.proofs.PartMoves.{parts_stay}
 use Rattle.nc_row_moves.proofs.RowMoves.{rows_move}
-use Rattle.nc_flatness.specs.Books.{book_of}
+use Rattle.nc_flatness.specs.Books.{book_of, mapping_in}
 use Rattle.nc_flatness.specs.Flatness.{BytesStand, Flatness}
 use Rattle.nc_flatness.specs.Steps.{IsNow, Goes}
-use Rattle.nc_flatness.proofs.Loans.{loan_is}
 use Rattle.nc_flatness.proofs.Marks.{answer_silent}
 use Rattle.nc_flatness.proofs.Outcomes.{ran, goes_silent, runs_go}
 use Rattle.nc_flat_moves.proofs.Calm.{calm_of}
+use Rattle.nc_flat_moves.proofs.Pooled.{loan_pooled}
+use Rattle.nc_flat_moves.proofs.Tokens.{tokens_same}
 use Rattle.nc_flat_moves.proofs.WorldNow.{whole_pool}
 
--- ---- no area is lent
+-- ---- an area that is lent is of the pool
 
-area_not : (sc : Scenario) (f : List ℕ) (w : WorldState) (n : MapId) (o : Option Loan) → Flatness sc f w → (book_of w).loan n ≡ o → area_of o ≡ false
-area_not sc f w n None flat is = refl
-area_not sc f w n (Some l) flat is = (loan_is sc f w n l flat is).area
+lent_pooled : (sc : Scenario) (f : List ℕ) (w : WorldState) (n : MapId) (x : ℕ) (o : Option Loan) → Flatness sc f w → owner_of w x ≡ Lending n → (book_of w).loan n ≡ o → area_of o ≡ true → is_pooled w.machine (x / w.machine.size) ≡ true
+lent_pooled sc f w n x None flat own known area = absurd (false≢true area)
+lent_pooled sc f w n x (Some l) flat own known area = (whole_pool sc f w flat).pooled x (loan_pooled sc f w n l x flat (ap mapping_in own) known area)
 
-no_area : (sc : Scenario) (f : List ℕ) (w : WorldState) (o : Owner) → Flatness sc f w → is_lent_area (book_of w) o ≡ false
-no_area sc f w (Lending n) flat = area_not sc f w n ((book_of w).loan n) flat refl
-no_area sc f w (Thread h) flat = refl
-no_area sc f w (Passing h g) flat = refl
-no_area sc f w (Device n) flat = refl
-no_area sc f w (Returning n) flat = refl
-no_area sc f w (Synced n) flat = refl
-no_area sc f w Pool flat = refl
+area_in_pool : (sc : Scenario) (f : List ℕ) (w : WorldState) (x : ℕ) (o : Owner) → Flatness sc f w → owner_of w x ≡ o → is_lent_area (book_of w) o ≡ true → is_pooled w.machine (x / w.machine.size) ≡ true
+area_in_pool sc f w x (Lending n) flat own area = lent_pooled sc f w n x ((book_of w).loan n) flat own refl area
+area_in_pool sc f w x (Thread h) flat own area = absurd (false≢true area)
+area_in_pool sc f w x (Passing h g) flat own area = absurd (false≢true area)
+area_in_pool sc f w x (Device n) flat own area = absurd (false≢true area)
+area_in_pool sc f w x (Returning n) flat own area = absurd (false≢true area)
+area_in_pool sc f w x (Synced n) flat own area = absurd (false≢true area)
+area_in_pool sc f w x Pool flat own area = absurd (false≢true area)
 
 -- ---- a fill
 
@@ -61,12 +62,13 @@ filled_bytes sc f w h b flat by =
       placed = s.placed;
       pooled = s.pooled;
       slotted = s.slotted;
-      rows = λ x lt off. rows_move.fill a (owner_of w x) (byte f x) m h b x sound by (λ area. absurd (false≢true (sym (no_area sc f w (owner_of w x) flat) ∙ area))) (s.rows x lt off);
+      rows = λ x lt off. rows_move.fill a (owner_of w x) (byte f x) m h b x sound by (area_in_pool sc f w x (owner_of w x) flat refl) (s.rows x lt off);
       calm = λ z on none. calm_of m (fill_next m h b) z (rows_move.fill a Pool (byte m.cache.ram z) m h b z sound by (λ area. absurd (false≢true area)) (s.calm z on none));
       queued = parts_stay.queued_fill a (owner_of w) m h b sound by s.queued;
       unfenced = λ g. ap (list_any is_full) ((fill_is m h b sound by.block).queues g) ∙ s.unfenced g;
       uncached = parts_stay.uncached_fill a (owner_of w) m h b sound by (whole_pool sc f w flat) s.uncached;
       lasts = parts_stay.lasts_fill a f m h b sound by s.lasts;
+      tokens = tokens_same sc f w (fill_next m h b) flat (fill_is m h b sound by.block).queues;
     }
 
 is_move : (sc : Scenario) (f : List ℕ) (w : WorldState) (h : HartNo) (b : Block) → Flatness sc f w → h.0 < length sc.harts → sc.block_size * b.0 + sc.block_size ≤ sc.ram → IsMove w.machine h.0 b.0
@@ -101,6 +103,7 @@ evicted_bytes sc f w h b flat by =
       unfenced = λ g. ap (list_any is_full) ((evict_is m h b sound by.block).queues g) ∙ s.unfenced g;
       uncached = parts_stay.uncached_evict a (owner_of w) m h b sound by s.uncached;
       lasts = parts_stay.lasts_evict a f m h b sound by s.lasts;
+      tokens = tokens_same sc f w (evict_next m h b) flat (evict_is m h b sound by.block).queues;
     }
 
 pub evict_goes : (sc : Scenario) (f : List ℕ) (w : WorldState) (h : HartNo) (b : Block) → IsNow sc f w (events.Evict h b) → Goes sc f w (events.Evict h b)

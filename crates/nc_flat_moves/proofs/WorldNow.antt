@@ -1,32 +1,21 @@
 -- What is known of a world with flat memory: what is to come of its drivers' plans, that no token is queued, and its pool.
 use Rattle.std.specs.Prelude.{Option, Some, None, ◌%◌}
-use Rattle.std.specs.List.{list_any}
-use Rattle.std.proofs.Common.{◌≡◌, ℕ, ◌<◌, List, [], ◌∷◌, length, refl, sym, ap, ◌∙◌, inl, arith}
-use Rattle.std.proofs.lemmas.Bool.{both_ways}
+use Rattle.std.proofs.Common.{◌≡◌, ℕ, List, length, refl, sym, ap, ◌∙◌, inl, arith}
 use Rattle.nc_num.specs.declared.names.MapId.{MapId}
 use Rattle.nc_num.specs.declared.places.Span.{Span}
 use Rattle.nc_num.proofs.Blocks.{page_whole}
-use Rattle.nc_queue.specs.declared.entry.Entry.{Entry}
-use Rattle.nc_plan.specs.Plans.{In}
 use Rattle.nc_model.specs.declared.owners.Owner.{Owner}
 use Rattle.nc_model.specs.declared.owners.Owner.TheVariants.{Thread, Passing, Lending, Device, Returning, Synced, Pool}
 use Rattle.nc_scen.specs.declared.scenario.Scenario.{Scenario}
-use Rattle.nc_rules.specs.declared.lots.Lot.{Lot}
-use Rattle.nc_rules.specs.declared.lots.LotId.{LotId}
-use Rattle.nc_rules.specs.declared.steps.Step.{Step}
-use Rattle.nc_rules.specs.Lots.{is_lot}
-use Rattle.nc_rules.specs.Machine.{queue_of}
 use Rattle.nc_rules.specs.World.{WorldState, driver_of}
 use Rattle.nc_scripts.specs.Scripts.{IsDriven}
 use Rattle.nc_holds.specs.Holds.{DriverHolds}
-use Rattle.nc_holds.specs.Tokens.{HasLent, TokenStays, token_of}
-use Rattle.nc_holds.proofs.ListsA.{all_at, none_of}
 use Rattle.nc_calls.proofs.StepPlaces.{pool_block}
 use Rattle.nc_rows.specs.Rows.{Loan, device_place}
 use Rattle.nc_row_moves.specs.Laws.{PiecesOf, HasPieces}
 use Rattle.nc_row_moves.specs.Parts.{WholePool}
 use Rattle.nc_flatness.specs.Books.{book_of}
-use Rattle.nc_flatness.specs.Flatness.{IsMapping, Flatness}
+use Rattle.nc_flatness.specs.Flatness.{Flatness}
 use Rattle.nc_flatness.proofs.Loans.{loan_is}
 use Rattle.nc_flatness.proofs.WholeBlocks.{in_whole}
 use Rattle.nc_flat_moves.proofs.Pieces.{comes_in_block}
@@ -52,30 +41,6 @@ has_pieces sc f w x (Device n) flat = tt
 has_pieces sc f w x (Returning n) flat = tt
 has_pieces sc f w x (Synced n) flat = tt
 has_pieces sc f w x Pool flat = tt
-
--- ---- tokens
-
-has_lent : (id : LotId) (lots : List Lot) (rest : List Step) → TokenStays id lots rest → HasLent lots id
-has_lent id lots [] stays = stays
-has_lent id lots (s ∷ rest) stays = stays.0
-
--- with full fences no token is queued
-token_by : (sc : Scenario) (f : List ℕ) (w : WorldState) (h : ℕ) (e : Entry) (id : LotId) → Flatness sc f w → h < length w.machine.harts → In e (queue_of w.machine h) → token_of e ≡ Some id → ⊥
-token_by sc f w h e id flat lt here is =
-    let d = driver_of w h in
-    let tokens = (flat.world.holds.each h lt).tokens in
-    let lent = has_lent id d.lots d.rest (tokens.queued e id here is) in
-    let drives = flat.bytes.drives h (omega (arith, flat.world.of_scenario.harts, lt)) in
-    both_ways (list_any (is_lot id) d.lots)
-    (none_of (is_lot id) d.lots (λ lot in_lots. absurd (both_ways d.fixed.light (all_at (IsMapping d.fixed) d.lots lot drives.lots in_lots).full (tokens.light e id here is))))
-    lent.there
-
-none_if : (sc : Scenario) (f : List ℕ) (w : WorldState) (h : ℕ) (e : Entry) (o : Option LotId) → Flatness sc f w → h < length w.machine.harts → In e (queue_of w.machine h) → token_of e ≡ o → o ≡ None
-none_if sc f w h e None flat lt here is = refl
-none_if sc f w h e (Some id) flat lt here is = absurd (token_by sc f w h e id flat lt here is)
-
-pub no_token : (sc : Scenario) (f : List ℕ) (w : WorldState) (h : ℕ) (e : Entry) → Flatness sc f w → h < length w.machine.harts → In e (queue_of w.machine h) → token_of e ≡ None
-no_token sc f w h e flat lt here = none_if sc f w h e (token_of e) flat lt here refl
 
 -- ---- the pool is whole blocks
 

@@ -1,31 +1,31 @@
 -- The last step of a plan that takes back: the lot is its hart's again, synced or not mapped any more.
-use Rattle.std.specs.Prelude.{All, if◌then◌else◌, Bool, true, false}
-use Rattle.std.proofs.Common.{◌≡◌, ◌⊎◌, ℕ, ◌<◌, List, [], ◌∷◌, ◌++◌, refl, ap, ◌∙◌, inl, inr}
-use Rattle.std.proofs.lemmas.Bool.{or_left}
+use Rattle.std.specs.Prelude.{Some, None, All, if◌then◌else◌, Bool, true, false}
+use Rattle.std.proofs.Common.{◌≡◌, ℕ, ◌<◌, List, [], ◌∷◌, ◌++◌, refl, ap, ◌∙◌, inl, inr, subst}
+use Rattle.std.proofs.lemmas.Bool.{cases_Bool, or_left, cond-true, cond-false}
 use Rattle.nc_num.specs.Memory.{byte}
 use Rattle.nc_num.specs.Places.{covers}
 use Rattle.nc_num.specs.declared.names.HartNo.{HartNo}
 use Rattle.nc_num.specs.declared.names.MapId.{MapId}
 use Rattle.nc_num.specs.declared.places.Span.{Span}
 use Rattle.nc_model.specs.declared.owners.Owner.{Owner}
+use Rattle.nc_model.specs.declared.owners.Owner.TheVariants.{Thread, Pool}
 use Rattle.nc_ops.specs.declared.ops.Op.{Op}
 use Rattle.nc_scen.specs.Regions.{slots_of}
 use Rattle.nc_scen.specs.declared.scenario.Scenario.{Scenario}
 use Rattle.nc_sg.specs.declared.list.Entry.{Entry}
 use Rattle.nc_rules.specs.declared.lots.Lot.{Lot}
 use Rattle.nc_rules.specs.declared.lots.LotId.{LotId}
-use Rattle.nc_rules.specs.declared.lots.Side.{Side}
 use Rattle.nc_rules.specs.declared.lots.Side.TheVariants as sides
 use Rattle.nc_rules.specs.declared.steps.Step.{Step}
 use Rattle.nc_rules.specs.declared.steps.Turn.{Turn}
-use Rattle.nc_rules.specs.Turns.{lots_after, transfers_of}
+use Rattle.nc_rules.specs.Turns.{is_area, lots_after, transfers_of}
 use Rattle.nc_rules.specs.Machine.{MachineState, hart_of, queue_of}
 use Rattle.nc_rules.specs.Driver.{Went}
 use Rattle.nc_rules.specs.Watched.{owner_of}
 use Rattle.nc_rules.specs.World.{WorldState, driver_of}
-use Rattle.nc_rows.specs.Ahead.{turns_lot, gives_lot, act_coming, token, coming}
+use Rattle.nc_rows.specs.Ahead.{ends, is_settling, settling, settles_lot, turns_lot, gives_lot, act_coming, token, coming}
 use Rattle.nc_rows.specs.Parts.{IsQueued, rest_last}
-use Rattle.nc_rows.specs.Places.{CalmRow}
+use Rattle.nc_rows.specs.Places.{CalmRow, ThreadRow, PoolRow}
 use Rattle.nc_rows.specs.Rows.{Row}
 use Rattle.nc_rows.proofs.Steps.{steps_ahead, append_nil}
 use Rattle.nc_flatness.specs.Books.{book_of}
@@ -37,32 +37,31 @@ use Rattle.nc_flat_plans.proofs.OwnRows.{BackAs, back_home}
 use Rattle.nc_flat_plans.proofs.Drivers.{IsNext, IsDone, same_id}
 use Rattle.nc_flat_plans.proofs.Places.{IsUnder, its_id, its_place, in_ram, unslotted}
 use Rattle.nc_flat_plans.proofs.Shifts.{IsShift, side_shift, end_shift}
-use Rattle.nc_flat_plans.proofs.StepFrames.{step_bytes, home_calm}
-use Rattle.nc_flat_plans.proofs.OwnPlaces.{as_home}
+use Rattle.nc_flat_plans.proofs.StepFrames.{step_bytes}
+use Rattle.nc_flat_plans.proofs.StepSeen.{home_calm}
+use Rattle.nc_flat_plans.proofs.OwnPlaces.{home_to, as_home}
 
 -- ---- its turn
 
 pub record IsHome (w : WorldState) (h : HartNo) (went : Went) (lot : Lot) : Type 0 where
-  pub to : Side
-  pub side : (to ≡ sides.Synced) ⊎ (to ≡ sides.Own)
-  pub shift : IsShift w h went lot to
+  pub synced : Bool
+  pub shift : IsShift w h went lot (home_to h synced)
 
-pub home_shift : (sc : Scenario) (f : List ℕ) (w : WorldState) (h : HartNo) (went : Went) (lot : Lot) (s : Step) (rest : List Step) → IsUnder sc f w h lot → IsDone (driver_of w h.0) s rest went → IsBack lot.id s.last → IsHome w h went lot
-home_shift sc f w h went lot s rest u done (inl sync) =
+pub home_shift : (sc : Scenario) (f : List ℕ) (w : WorldState) (h : HartNo) (went : Went) (lot : Lot) (s : Step) (rest : List Step) → IsUnder sc f w h lot → is_area lot.kind ≡ false → IsDone (driver_of w h.0) s rest went → IsBack lot.id s.last → IsHome w h went lot
+home_shift sc f w h went lot s rest u plain done (inl sync) =
     let d = driver_of w h.0 in
     record {
-      to = sides.Synced;
-      side = inl refl;
+      synced = true;
       shift = side_shift sc f w h went lot sides.Synced u refl done.fixed (done.lots ∙ ap (λ (t : Turn). lots_after t d.lots) sync)
           (done.transfers ∙ ap {B = List (Span × Owner)} (λ (t : Turn). transfers_of d.fixed.me d.lots t) sync);
     }
-home_shift sc f w h went lot s rest u done (inr end) =
+home_shift sc f w h went lot s rest u plain done (inr end) =
     let d = driver_of w h.0 in
     record {
-      to = sides.Own;
-      side = inr refl;
-      shift = end_shift sc f w h went lot u done.fixed (done.lots ∙ ap (λ (t : Turn). lots_after t d.lots) end)
-          (done.transfers ∙ ap {B = List (Span × Owner)} (λ (t : Turn). transfers_of d.fixed.me d.lots t) end);
+      synced = false;
+      shift = subst (λ (o : Owner). IsShift w h went lot (λ n. o)) (cond-false (is_area lot.kind) Pool (Thread h) plain)
+          (end_shift sc f w h went lot u done.fixed (done.lots ∙ ap (λ (t : Turn). lots_after t d.lots) end)
+          (done.transfers ∙ ap {B = List (Span × Owner)} (λ (t : Turn). transfers_of d.fixed.me d.lots t) end));
     }
 
 -- what it puts is all that is to come
@@ -74,33 +73,45 @@ ungiven : (id : LotId) (t : Turn) → IsBack id t → gives_lot id t ≡ false
 ungiven id t (inl sync) = ap (gives_lot id) sync
 ungiven id t (inr end) = ap (gives_lot id) end
 
+pub turn_comes : (n : MapId) (id : LotId) (s : Step) → turns_lot id s.last ≡ true → gives_lot id s.last ≡ false → coming n id (s ∷ []) ≡ act_coming s.act
+turn_comes n id s turns gives =
+    steps_ahead.last n id s [] (or_left (turns_lot id s.last) _ turns)
+    ∙ ap (λ (b : Bool). act_coming s.act ++ (if b then token n ∷ [] else [])) gives ∙ append_nil (act_coming s.act)
+
 pub last_comes : (n : MapId) (id : LotId) (s : Step) → IsBack id s.last → coming n id (s ∷ []) ≡ act_coming s.act
-last_comes n id s back =
-    steps_ahead.last n id s [] (or_left (turns_lot id s.last) _ (turned id s.last back))
-    ∙ ap (λ (b : Bool). act_coming s.act ++ (if b then token n ∷ [] else [])) (ungiven id s.last back) ∙ append_nil (act_coming s.act)
+last_comes n id s back = turn_comes n id s (turned id s.last back) (ungiven id s.last back)
+
+-- and no area is settled by it
+unsettles : (id lot : LotId) (t : Turn) → IsBack lot t → settles_lot id t ≡ false
+unsettles id lot t (inl sync) = ap (settles_lot id) sync
+unsettles id lot t (inr end) = ap (settles_lot id) end
+
+pub unsettled : (lot id : LotId) (s : Step) → IsBack lot s.last → settling id (s ∷ []) ≡ false
+unsettled lot id s back = elim (cases_Bool (ends id s)) [
+  | inl on ↦ ap (is_settling id) (cond-true (ends id s) (Some s) None on) ∙ unsettles id lot s.last back
+  | inr off ↦ ap (is_settling id) (cond-false (ends id s) (Some s) None off)
+]
 
 -- ---- the bytes behind it
 
 pub record ComesHome (sc : Scenario) (f : List ℕ) (w : WorldState) (h : HartNo) (k : MachineState) (went : Went) (lot : Lot) : Type 0 where
   pub passes : (x v : ℕ) → x < sc.ram → covers (slots_of sc) x ≡ false → IsOff lot x → Row (book_of w) (owner_of w x) v w.machine x → Row (book_of w) (owner_of w x) v k x
-  pub back : (i : ℕ) (e : Entry) (x v : ℕ) → IsPlace lot i e x → Row (book_of w) (owner_of w x) v w.machine x → BackAs lot.list.dir (its_id h lot i) v [] k x (its_place w h lot i e x)
+  pub back : (i : ℕ) (e : Entry) (x : ℕ) → IsPlace lot i e x → Row (book_of w) (owner_of w x) (byte f x) w.machine x → BackAs lot.list.dir (its_id h lot i) (byte f x) [] k x (its_place w h lot i e x)
   pub queue : All (IsQueued (book_of (gone w h k went)) (owner_of (gone w h k went)) k.pool k.size h.0) (queue_of k h.0)
   pub stays : (z : ℕ) → covers (slots_of sc) z ≡ true → CalmRow w.machine z → CalmRow k z
 
 pub home_bytes : (sc : Scenario) (f : List ℕ) (w : WorldState) (h : HartNo) (o : Op) (s : Step) (rest : List Step) (k : MachineState) (went : Went) (lot : Lot) → IsNext sc f w h o s rest → IsDone (driver_of w h.0) s rest went → IsUnder sc f w h lot
-    → IsBack lot.id s.last → rest ≡ [] → GoesBy w h k → ComesHome sc f w h k went lot → BytesStand sc f (gone w h k went)
-home_bytes sc f w h o s rest k went lot next done u back over by c =
+    → is_area lot.kind ≡ false → IsBack lot.id s.last → rest ≡ [] → GoesBy w h k → ComesHome sc f w h k went lot → BytesStand sc f (gone w h k went)
+home_bytes sc f w h o s rest k went lot next done u plain back over by c =
     let v = gone w h k went in
-    let home = home_shift sc f w h went lot s rest u done back in
-    step_bytes sc f w h o s rest k went lot home.to next done u home.shift by (record {
+    let home = home_shift sc f w h went lot s rest u plain done back in
+    let all : (i : ℕ) (e : Entry) (x : ℕ) → IsPlace lot i e x → Row (book_of w) (owner_of w x) (byte f x) w.machine x → ThreadRow h.0 (byte f x) k x × PoolRow (byte f x) k (its_place w h lot i e x) =
+    λ i e x p row. back_home lot.list.dir k (its_id h lot i) (byte f x) x (its_place w h lot i e x) (c.back i e x p row) in
+    step_bytes sc f w h o s rest k went lot (home_to h home.synced) next done u plain home.shift by (record {
       passes = c.passes;
-      row = λ i e x b p row. as_home sc f w h k went lot i e x b home.to u p home.shift home.side (back_home lot.list.dir k (its_id h lot i) b x (its_place w h lot i e x) (c.back i e x b p row)).0;
+      row = λ i e x p row. as_home sc f w h k went lot i e x (byte f x) home.synced u p home.shift (all i e x p row).0;
       queue = c.queue;
       lasting = last_none (book_of v) f h.0 (hart_of k h.0).last (rest_last went.driver.rest) (ap rest_last (done.rest ∙ over));
       calm = λ z slot unseen.
-          home_calm sc f w h k went lot home.to z u home.shift
-          (λ i e x p.
-          let flat = u.flat.bytes.rows x (in_ram sc f w h lot i e x u p) (unslotted sc f w h lot i e x u p) in
-          (back_home lot.list.dir k (its_id h lot i) (byte f x) x (its_place w h lot i e x) (c.back i e x (byte f x) p flat)).1)
-          (c.stays z slot) slot unseen;
+          home_calm sc f w h k went lot (home_to h home.synced) z u home.shift (λ i e x p. (all i e x p (u.flat.bytes.rows x (in_ram sc f w h lot i e x u p) (unslotted sc f w h lot i e x u p))).1) (c.stays z slot) slot unseen;
     })

@@ -1,7 +1,8 @@
 -- A cache operation of a plan: a block is written back before its lot is lent, or dropped before the full fence.
-use Rattle.std.specs.Prelude.{None, ◌/◌, true}
+use Rattle.std.specs.Prelude.{None, ◌/◌, true, false}
 use Rattle.std.specs.List.{list_any}
 use Rattle.std.proofs.Common.{◌≡◌, ℕ, List, refl, sym, ap, ◌∙◌, inl, inr}
+use Rattle.nc_num.specs.Places.{covers}
 use Rattle.nc_num.specs.declared.names.HartNo.{HartNo}
 use Rattle.nc_num.specs.declared.places.Block.{Block}
 use Rattle.nc_env.specs.declared.CboOp.{CboOp}
@@ -10,13 +11,14 @@ use Rattle.nc_plan.specs.declared.ops.HartOp.TheVariants as hart_ops
 use Rattle.nc_queue.specs.Entries.{writes_back}
 use Rattle.nc_queue.specs.declared.entry.Entry.TheVariants as entries
 use Rattle.nc_ops.specs.declared.ops.Op.{Op}
+use Rattle.nc_scen.specs.Regions.{pool_of}
 use Rattle.nc_scen.specs.declared.events.Event.TheVariants as events
 use Rattle.nc_scen.specs.declared.scenario.Scenario.{Scenario}
 use Rattle.nc_rules.specs.declared.lots.Lot.{Lot}
-use Rattle.nc_rules.specs.declared.lots.Side.TheVariants as sides
 use Rattle.nc_rules.specs.declared.steps.Step.{Step}
 use Rattle.nc_rules.specs.Lots.{owner_of_side}
 use Rattle.nc_rules.specs.Plans.{hart_step}
+use Rattle.nc_rules.specs.Turns.{is_area}
 use Rattle.nc_rules.specs.Calls.{issue_next}
 use Rattle.nc_rules.specs.Driver.{is_script}
 use Rattle.nc_rules.specs.Watched.{owner_of}
@@ -25,17 +27,18 @@ use Rattle.nc_calls.specs.PlaceLaws.{drops_copies}
 use Rattle.nc_rows.specs.Ahead.{ends, is_full, act_coming}
 use Rattle.nc_rows.specs.Parts.{IsDropped, OpIsQueued, rest_last}
 use Rattle.nc_flatness.specs.Books.{book_of}
-use Rattle.nc_flatness.specs.Plans.{IsWriteBack, IsDrop}
+use Rattle.nc_flatness.specs.Plans.{HasEnd, IsWriteBack, IsDrop}
 use Rattle.nc_flatness.specs.Steps.{Goes}
 use Rattle.nc_flatness.proofs.Outcomes.{gone}
 use Rattle.nc_flatness.proofs.Loans.{loan_is}
 use Rattle.nc_flatness.proofs.Seen.{device_place_of}
 use Rattle.nc_flat_starts.proofs.Frames.{IsPlace, rest_hart}
 use Rattle.nc_flat_plans.proofs.OwnRows.{back_op}
-use Rattle.nc_flat_plans.proofs.Passes.{is_kept_op, writes_kept, drops_kept, op_plain, op_byte, op_block}
-use Rattle.nc_flat_plans.proofs.Drivers.{IsNext, done_so}
-use Rattle.nc_flat_plans.proofs.Places.{IsUnder, its_id, its_loan, known}
-use Rattle.nc_flat_plans.proofs.Shifts.{held, stay_shift}
+use Rattle.nc_flat_plans.proofs.Passes.{is_kept_op, writes_kept, drops_kept, op_plain, op_byte, op_block, NoWhole, writes_whole, op_whole}
+use Rattle.nc_flat_plans.proofs.Drivers.{IsNext, done_so, returns_later}
+use Rattle.nc_flat_plans.proofs.PoolPlaces.{lent_pooled, pool_apart}
+use Rattle.nc_flat_plans.proofs.Places.{IsUnder, its_id, its_loan, its_place, known, device_unpooled}
+use Rattle.nc_flat_plans.proofs.Shifts.{sided, seen_mapped, held, stay_shift}
 use Rattle.nc_flat_plans.proofs.StepFrames.{driven, known_now}
 use Rattle.nc_flat_plans.proofs.Copies.{no_lender}
 use Rattle.nc_flat_plans.proofs.OwnPlaces.{to_come}
@@ -44,8 +47,8 @@ use Rattle.nc_flat_plans.proofs.Issues.{IsOpNext, op_enters, kept_silent, went_b
 
 -- no row is changed by it
 op_put : (sc : Scenario) (f : List ℕ) (w : WorldState) (h : HartNo) (o : Op) (op : CboOp) (block : Block) (s : Step) (rest : List Step) (lot : Lot) → IsOpNext sc f w h o (hart_ops.Cbo op block) s rest → IsUnder sc f w h lot → is_kept_op op ≡ true
-    → IsPut sc f w h (issue_next w.machine h.0 (hart_ops.Cbo op block)) (entries.Cbo block op) rest lot
-op_put sc f w h o op block s rest lot k u kept =
+    → ((x : ℕ) → covers (pool_of sc) x ≡ true → NoWhole w.machine (entries.Cbo block op) x) → IsPut sc f w h (issue_next w.machine h.0 (hart_ops.Cbo op block)) (entries.Cbo block op) rest lot
+op_put sc f w h o op block s rest lot k u kept whole =
     let m = w.machine in
     let n = issue_next m h.0 (hart_ops.Cbo op block) in
     let e = entries.Cbo block op in
@@ -55,7 +58,8 @@ op_put sc f w h o op block s rest lot k u kept =
       clear = λ x there off beyond. record {
         byte = op_byte m block op x kept;
         device = op_byte m block op _ kept;
-        block = λ j l lent known back. op_block m block op _ kept;
+        block = λ j l lent known area back. op_block m block op _ kept;
+        area = λ j l owner known area. whole x (lent_pooled sc f w j l x u.flat there owner known area);
         other = λ j owner own. no_lender sc f w h lot j x u there beyond owner own;
       };
       lends = λ side i d x p. (op_byte m block op x kept, inr (inl (op_byte m block op _ kept)));
@@ -65,17 +69,17 @@ op_put sc f w h o op block s rest lot k u kept =
 
 -- the event, with what is asked of the entry
 op_event : (sc : Scenario) (f : List ℕ) (w : WorldState) (h : HartNo) (o : Op) (op : CboOp) (block : Block) (s : Step) (rest : List Step) (lot : Lot) → IsOpNext sc f w h o (hart_ops.Cbo op block) s rest → IsUnder sc f w h lot → s ≡ hart_step (hart_ops.Cbo op block)
-    → is_kept_op op ≡ true → rest_last rest ≡ None
+    → is_kept_op op ≡ true → ((x : ℕ) → covers (pool_of sc) x ≡ true → NoWhole w.machine (entries.Cbo block op) x) → is_area lot.kind ≡ false → HasEnd lot.id rest → rest_last rest ≡ None
     → OpIsQueued (book_of (gone w h (issue_next w.machine h.0 (hart_ops.Cbo op block)) (went_by w h (hart_ops.Cbo op block)))) (owner_of (gone w h (issue_next w.machine h.0 (hart_ops.Cbo op block)) (went_by w h (hart_ops.Cbo op block)))) w.machine.pool w.machine.size h.0 op
     block.0
     → Goes sc f w (events.Issue h)
-op_event sc f w h o op block s rest lot k u step kept last queued =
+op_event sc f w h o op block s rest lot k u step kept whole mapping later last queued =
     let cbo = hart_ops.Cbo op block in
     let done = done_so sc f w h o s rest _ k.next refl in
-    let stays : IsStaying sc f w h o s rest lot = record { next = k.next; under = u; stay = ap (λ (t : Step). t.last) step; plain = ap (ends lot.id) step } in
+    let stays : IsStaying sc f w h o s rest lot = record { next = k.next; under = u; stay = ap (λ (t : Step). t.last) step; plain = λ id. ap (ends id) step; mapping = mapping; later = later } in
     op_goes sc f w h o cbo s rest k (kept_silent w h (is_script (driver_of w h.0).phase) op block kept)
     (put_bytes sc f w h o s rest (issue_next w.machine h.0 cbo) (went_by w h cbo) (entries.Cbo block op) lot stays done (op_enters sc f w h o cbo s rest (entries.Cbo block op) k refl) (ap act_coming k.act)
-    (op_put sc f w h o op block s rest lot k u kept) queued last)
+    (op_put sc f w h o op block s rest lot k u kept whole) queued last)
 
 -- ---- a block is written back
 
@@ -90,7 +94,7 @@ written_goes sc f w h o s rest next is =
     let cbo = hart_ops.Cbo is.op is.block in
     let k : IsOpNext sc f w h o cbo s rest = record { next = next; act = ap (λ (t : Step). t.act) is.step } in
     let u : IsUnder sc f w h is.lot = record { flat = next.now.flat; lt = next.now.there; here = is.hand.here; others = is.hand.others; moves = inl is.hand.side_is } in
-    op_event sc f w h o is.op is.block s rest is.lot k u is.step (writes_kept is.op is.writes) is.next
+    op_event sc f w h o is.op is.block s rest is.lot k u is.step (writes_kept is.op is.writes) (λ x over. writes_whole w.machine is.block is.op x is.writes) is.hand.area_is is.later is.next
     (written_queued w (gone w h (issue_next w.machine h.0 cbo) (went_by w h cbo)) h.0 is.op is.block.0 is.writes)
 
 -- ---- a block is dropped
@@ -122,7 +126,7 @@ dropped_goes sc f w h o s rest next is =
     let dropped : IsDropped (book_of v) (owner_of v) m.size h.0 is.block.0 = record {
       id = id;
       loan = l;
-      lent = known_now sc f w h n went lot lot.side is.i is.entry u shift (λ own. let both : sides.Returning ≡ sides.Own = sym is.hand.side_is ∙ own in absurd (cc)) is.here.entry;
+      lent = known_now sc f w h n went lot (sided lot.side) is.i is.entry u shift (seen_mapped id lot.side (inr (inr is.hand.side_is))) is.here.entry;
       own = refl;
       back = is.back;
       ahead = ap (λ (r : List Step). list_any is_full (to_come h lot is.i r)) (rest_hart w h n went h.0 (driven sc f w h lot u) refl ∙ done.rest) ∙ is.ahead id;
@@ -130,4 +134,6 @@ dropped_goes sc f w h o s rest next is =
       owned = shift.on is.i is.entry at.place p ∙ ap (owner_of_side id) is.hand.side_is;
       here = ap (λ (y : ℕ). y / m.size) at.here ∙ ap (λ (z : ℕ). is.place / z) (sym size) ∙ is.met;
     } in
-    op_event sc f w h o is.op is.block s rest lot k u is.step (drops_kept is.op is.drops) is.next (dropped_queued w v h.0 is.op is.block.0 is.drops dropped)
+    op_event sc f w h o is.op is.block s rest lot k u is.step (drops_kept is.op is.drops)
+    (λ x over. op_whole m is.block is.op x (drops_kept is.op is.drops) (λ met. pool_apart sc f w x (its_place w h lot is.i is.entry at.place) u.flat over (device_unpooled sc f w h lot is.i is.entry at.place u is.hand.area_is p) (dropped.here ∙ sym met))) is.hand.area_is
+    (returns_later sc f w h o s rest lot next u.here is.hand.side_is (ap (λ (t : Step). t.last) is.step)) is.next (dropped_queued w v h.0 is.op is.block.0 is.drops dropped)

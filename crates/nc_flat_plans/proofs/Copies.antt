@@ -16,7 +16,7 @@ use Rattle.nc_queue.specs.declared.entry.Entry.TheVariants as entries
 use Rattle.nc_model.proofs.Faults.{covers-low, covers-high}
 use Rattle.nc_model.specs.declared.owners.Owner.{Owner}
 use Rattle.nc_model.specs.declared.owners.Owner.TheVariants.{Lending}
-use Rattle.nc_scen.specs.Regions.{slots_of}
+use Rattle.nc_scen.specs.Regions.{pool_of, slots_of}
 use Rattle.nc_scen.specs.declared.scenario.Scenario.{Scenario}
 use Rattle.nc_sg.specs.declared.list.Entry.{Entry}
 use Rattle.nc_rules.specs.declared.lots.Lot.{Lot}
@@ -24,6 +24,7 @@ use Rattle.nc_rules.specs.declared.lots.Side.{Side}
 use Rattle.nc_rules.specs.declared.lots.Side.TheVariants as sides
 use Rattle.nc_rules.specs.Lots.{owner_of_side}
 use Rattle.nc_rules.specs.Machine.{MachineState}
+use Rattle.nc_rules.specs.Turns.{is_area}
 use Rattle.nc_rules.specs.Watched.{owner_of}
 use Rattle.nc_rules.specs.World.{WorldState}
 use Rattle.nc_rows.specs.Rows.{Loan, device_place}
@@ -36,8 +37,9 @@ use Rattle.nc_flatness.proofs.WholeBlocks.{mapped_block}
 use Rattle.nc_flatness.proofs.Seen.{seen, place_ways, mapped_unslotted, seen_lent, seen_ways, slotted_in, slot_block, seen_one, seen_whole}
 use Rattle.nc_flatness.proofs.Lasts.{last_lent}
 use Rattle.nc_flat_starts.proofs.Frames.{IsPlace, IsOff, IsRestful}
-use Rattle.nc_flat_plans.proofs.Passes.{IsLentTo, IsClear}
-use Rattle.nc_flat_plans.proofs.Places.{IsUnder, its_id, its_place, owned, mapping_of, in_ram, unslotted, seen_its, ways, restful}
+use Rattle.nc_flat_plans.proofs.Passes.{NoWhole, IsLentTo, IsClear}
+use Rattle.nc_flat_plans.proofs.PoolPlaces.{lent_pooled, slot_unpooled, pool_apart}
+use Rattle.nc_flat_plans.proofs.Places.{IsUnder, its_id, its_place, owned, mapping_of, in_ram, unslotted, unpooled, seen_its, ways, restful}
 
 -- the store of a piece
 abbrev pub piece_of : Span → List ℕ → QueueEntry
@@ -52,6 +54,10 @@ has_byte m dst bytes z v on is = cond-true (covers dst z) (Some (byte bytes (z -
 no_block : (m : MachineState) (dst : Span) (bytes : List ℕ) (z : ℕ) → (dst.at / m.size ≡ z / m.size → ⊥) → NoBlock m (piece_of dst bytes) z
 no_block m dst bytes z far =
     ap (λ (t : Bool). (true && t) || has_op is_zero (z / m.size) (piece_of dst bytes)) (false_from_ne_true (dst.at / m.size == z / m.size) (λ is. far (eqb-true (dst.at / m.size) (z / m.size) is)))
+
+-- beside the coherent pool it gives no byte of a block there
+piece_whole : (sc : Scenario) (f : List ℕ) (w : WorldState) (dst : Span) (bytes : List ℕ) (x : ℕ) → Flatness sc f w → covers (pool_of sc) x ≡ true → covers (pool_of sc) dst.at ≡ false → NoWhole w.machine (piece_of dst bytes) x
+piece_whole sc f w dst bytes x flat over off = (no_block w.machine dst bytes x (λ met. pool_apart sc f w x dst.at flat over off met), refl)
 
 -- ---- the byte that it stores
 
@@ -150,19 +156,20 @@ slot_clear sc f w h lot i e dst bytes x u d there off beyond =
           let p = d.place (seen w x) on in
           let same : p.0 ≡ x = seen_one sc f w p.0 x u.flat (in_ram sc f w h lot i e p.0 u p.1) there (unslotted sc f w h lot i e p.0 u p.1) off (seen_its sc f w h lot i e p.0 u p.1 ∙ p.2) in
           beyond i e (subst (λ (y : ℕ). IsPlace lot i e y) same p.1)));
-      block = λ n l lent known back. no_block m dst bytes (device_place l x) (λ meets.
+      block = λ n l lent known area back. no_block m dst bytes (device_place l x) (λ meets.
           let p = d.place dst.at d.some in
           let here : seen w x ≡ device_place l x = seen_lent w n l x known lent in
           let blocks : seen w x / m.size ≡ seen w p.0 / m.size =
           ap (λ (y : ℕ). y / m.size) here ∙ sym meets ∙ ap (λ (y : ℕ). y / m.size) (sym (seen_its sc f w h lot i e p.0 u p.1 ∙ p.2)) in
           let same = seen_whole sc f w n l x p.0 u.flat there (in_ram sc f w h lot i e p.0 u p.1) (lent_mapping n (owner_of w x) lent) known back here (unslotted sc f w h lot i e p.0 u p.1) blocks in
           not_its sc f w h lot i e x p.0 u there beyond p.1 same);
+      area = λ n l owner known area. piece_whole sc f w dst bytes x u.flat (lent_pooled sc f w n l x u.flat there owner known area) (slot_unpooled sc f w dst.at u.flat (in_slots sc f w h lot i e dst dst.at u d d.some));
       other = λ n owner own. no_lender sc f w h lot n x u there beyond owner own;
     }
 
-pub buffer_clear : (sc : Scenario) (f : List ℕ) (w : WorldState) (h : HartNo) (lot : Lot) (i : ℕ) (e : Entry) (dst : Span) (bytes : List ℕ) (x : ℕ) → IsUnder sc f w h lot → IsInBuffer lot i e dst → x < sc.ram → covers (slots_of sc) x ≡ false → IsOff lot x
+pub buffer_clear : (sc : Scenario) (f : List ℕ) (w : WorldState) (h : HartNo) (lot : Lot) (i : ℕ) (e : Entry) (dst : Span) (bytes : List ℕ) (x : ℕ) → IsUnder sc f w h lot → is_area lot.kind ≡ false → IsInBuffer lot i e dst → x < sc.ram → covers (slots_of sc) x ≡ false → IsOff lot x
     → IsClear (book_of w) (owner_of w x) w.machine h.0 (piece_of dst bytes) x
-buffer_clear sc f w h lot i e dst bytes x u d there off beyond =
+buffer_clear sc f w h lot i e dst bytes x u plain d there off beyond =
     let m = w.machine in
     record {
       byte = no_byte m dst bytes x (none_there (covers dst x) (λ on. beyond i e (d.place x on)));
@@ -172,7 +179,7 @@ buffer_clear sc f w h lot i e dst bytes x u d there off beyond =
             | inl plain ↦ beyond i e (subst (λ (y : ℕ). IsPlace lot i e y) plain p)
             | inr slot ↦ both_ways (covers (slots_of sc) (seen w x)) (unslotted sc f w h lot i e (seen w x) u p) (slotted_in sc f w x u.flat slot)
           ]));
-      block = λ n l lent known back. no_block m dst bytes (device_place l x) (λ meets.
+      block = λ n l lent known area back. no_block m dst bytes (device_place l x) (λ meets.
           let p = d.place dst.at d.some in
           let at = mapped sc f w n x u.flat there (lent_mapping n (owner_of w x) lent) in
           let loan : at.loan ≡ l = let both = sym at.known ∙ known in cc in
@@ -185,6 +192,7 @@ buffer_clear sc f w h lot i e dst bytes x u d there off beyond =
                 let over : covers (slots_of sc) (device_place l x) ≡ true = sym (ap (λ (k : Loan). covers (slots_of sc) (device_place k x)) loan) ∙ slot.0 in
                 both_ways (covers (slots_of sc) dst.at) (unslotted sc f w h lot i e dst.at u p) (slot_block sc f w (device_place l x) dst.at u.flat over (sym meets))
           ]);
+      area = λ n l owner known area. piece_whole sc f w dst bytes x u.flat (lent_pooled sc f w n l x u.flat there owner known area) (unpooled sc f w h lot i e dst.at u plain (d.place dst.at d.some));
       other = λ n owner own. no_lender sc f w h lot n x u there beyond owner own;
     }
 

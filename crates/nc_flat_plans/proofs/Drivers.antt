@@ -1,6 +1,6 @@
 -- A driver that makes the next step of its plan: how it stands behind it, and what of the plan is to come.
 use Rattle.std.specs.Prelude.{Option, Some, None, All, ◌&&◌, ◌==◌, ◌||◌, not}
-use Rattle.std.specs.List.{list_any}
+use Rattle.std.specs.List.{list_any, find}
 use Rattle.std.proofs.Common.{◌≡◌, ℕ, Bool, true, false, List, [], ◌∷◌, ◌++◌, refl, sym, ap, ◌∙◌, inl, inr, subst}
 use Rattle.std.proofs.lemmas.Bool.{and_from, eq-eqb, cases_Bool, cond-true, cond-false}
 use Rattle.std.proofs.lemmas.List.Elements.{All-nil, All-cons, All-head, All-tail}
@@ -14,6 +14,7 @@ use Rattle.nc_scen.specs.declared.scenario.Scenario.{Scenario}
 use Rattle.nc_rules.specs.declared.lots.Lot.{Lot}
 use Rattle.nc_rules.specs.declared.lots.LotId.{LotId}
 use Rattle.nc_rules.specs.declared.lots.Side.{Side}
+use Rattle.nc_rules.specs.declared.lots.Side.TheVariants as sides
 use Rattle.nc_rules.specs.declared.steps.Act.{Act}
 use Rattle.nc_rules.specs.declared.steps.Phase.TheVariants.{Work}
 use Rattle.nc_rules.specs.declared.steps.Seen.{Seen}
@@ -25,13 +26,13 @@ use Rattle.nc_rules.specs.Turns.{with_side, set_side, lots_after, lots_after_bot
 use Rattle.nc_rules.specs.Driver.{DriverState, Went, in_hand, kept, busy, went_to, done, done_of, done_unless, done_in, worked}
 use Rattle.nc_rules.specs.World.{WorldState, driver_of}
 use Rattle.nc_holds.proofs.OwnerEnds.{left_all}
-use Rattle.nc_rows.specs.Ahead.{ends, posts, act_coming, coming, sending}
+use Rattle.nc_rows.specs.Ahead.{ends, posts, is_settling, settling, act_coming, coming, sending}
 use Rattle.nc_rows.proofs.Steps.{steps_ahead}
 use Rattle.nc_flatness.specs.Covered.{is_lending}
-use Rattle.nc_flatness.specs.Plans.{IsStill, StepGoes, Loads, Stores, WritesBack, Drops, Gives, Fences, Ends, PlanGoes}
+use Rattle.nc_flatness.specs.Plans.{HasEnd, StepGoes, Loads, Stores, WritesBack, Drops, Gives, Fences, Ends, Zeroes, Flushes, Settles, GivesArea, TakesBack, Marks, Posts, PlanGoes, EndsOne}
 use Rattle.nc_flatness.specs.Flatness.{IsMapping, PlanLeft, PlanIs, PlanOf, Drives}
 use Rattle.nc_flatness.specs.Steps.{IsNow}
-use Rattle.nc_flatness.proofs.Rests.{ends_later}
+use Rattle.nc_flatness.proofs.Rests.{ends_later, back_moves, ends_one_next}
 
 -- ---- the plan in hand
 
@@ -45,6 +46,7 @@ pub record IsNext (sc : Scenario) (f : List ℕ) (w : WorldState) (h : HartNo) (
   pub first : s.first ≡ turns.Stay
   pub goes : StepGoes (driver_of w h.0).fixed (driver_of w h.0).lots s rest
   pub left : PlanGoes (driver_of w h.0).fixed (lots_after s.last (driver_of w h.0).lots) rest
+  pub one : (driver_of w h.0).fixed.light ≡ true → EndsOne (s ∷ rest)
 
 pub plan_left : (d : DriverState) (o : Op) → is_lending o ≡ true → PlanIs d o → PlanLeft d
 plan_left d (ops.Map label buf off len dir chan) is plan = plan
@@ -66,10 +68,10 @@ plan_left d (ops.Run chan) is plan = absurd plan
 plan_left d (ops.Poll chan) is plan = absurd plan
 plan_left d (ops.Regr chan off width) is plan = absurd plan
 plan_left d (ops.Regw chan off width value) is plan = absurd plan
-plan_left d (ops.Calloc label pages chan) is plan = absurd plan
-plan_left d (ops.Cgive label) is plan = absurd plan
-plan_left d (ops.Ctake label) is plan = absurd plan
-plan_left d (ops.Cfree label) is plan = absurd plan
+plan_left d (ops.Calloc label pages chan) is plan = plan
+plan_left d (ops.Cgive label) is plan = plan
+plan_left d (ops.Ctake label) is plan = plan
+plan_left d (ops.Cfree label) is plan = plan
 plan_left d (ops.Copy chan src src_off dst dst_off len cfg) is plan = absurd plan
 
 plan_is : (d : DriverState) (o : Op) → is_lending o ≡ true → PlanLeft d → PlanIs d o
@@ -92,10 +94,10 @@ plan_is d (ops.Run chan) is plan = absurd cc
 plan_is d (ops.Poll chan) is plan = absurd cc
 plan_is d (ops.Regr chan off width) is plan = absurd cc
 plan_is d (ops.Regw chan off width value) is plan = absurd cc
-plan_is d (ops.Calloc label pages chan) is plan = absurd cc
-plan_is d (ops.Cgive label) is plan = absurd cc
-plan_is d (ops.Ctake label) is plan = absurd cc
-plan_is d (ops.Cfree label) is plan = absurd cc
+plan_is d (ops.Calloc label pages chan) is plan = plan
+plan_is d (ops.Cgive label) is plan = plan
+plan_is d (ops.Ctake label) is plan = plan
+plan_is d (ops.Cfree label) is plan = plan
 plan_is d (ops.Copy chan src src_off dst dst_off len cfg) is plan = absurd cc
 
 -- no step of a plan begins with a turn
@@ -107,6 +109,13 @@ step_first f lots s rest (Drops is) = ap (λ (t : Step). t.first) is.step
 step_first f lots s rest (Gives is) = ap (λ (t : Step). t.first) is.step
 step_first f lots s rest (Fences is) = ap (λ (t : Step). t.first) is.step
 step_first f lots s rest (Ends is) = ap (λ (t : Step). t.first) is.step
+step_first f lots s rest (Zeroes is) = ap (λ (t : Step). t.first) is.step
+step_first f lots s rest (Flushes is) = ap (λ (t : Step). t.first) is.step
+step_first f lots s rest (Settles is) = ap (λ (t : Step). t.first) is.step
+step_first f lots s rest (GivesArea is) = ap (λ (t : Step). t.first) is.step
+step_first f lots s rest (TakesBack is) = ap (λ (t : Step). t.first) is.step
+step_first f lots s rest (Marks is) = ap (λ (t : Step). t.first) is.step
+step_first f lots s rest (Posts is) = ap (λ (t : Step). t.first) is.step
 
 -- ---- the driver behind the step
 
@@ -140,11 +149,11 @@ turn_mapping f (turns.Sync id) lots all = sides_mapping f _ id lots all
 turn_mapping f (turns.Settle id) lots all = sides_mapping f _ id lots all
 turn_mapping f (turns.End id) lots all = left_all (IsMapping f) (λ lot. not (is_lot id lot)) lots all
 
-went_drives : (d : DriverState) (o : Op) (lots : List Lot) (saw : Seen) (rest : List Step) → in_hand d ≡ Some o → is_lending o ≡ true → All (IsMapping d.fixed) lots → PlanGoes d.fixed lots rest → Drives (went_to d lots saw rest)
-went_drives d o lots saw [] hand is all left = record { lots = all; stands = left; idle = refl }
-went_drives d o lots saw (s ∷ rest) hand is all left = let now = went_to d lots saw (s ∷ rest) in record {
+went_drives : (d : DriverState) (o : Op) (lots : List Lot) (saw : Seen) (rest : List Step) → in_hand d ≡ Some o → is_lending o ≡ true → All (IsMapping d.fixed) lots → PlanGoes d.fixed lots rest → (d.fixed.light ≡ true → EndsOne rest) → Drives (went_to d lots saw rest)
+went_drives d o lots saw [] hand is all left one = record { lots = all; stands = left; idle = refl }
+went_drives d o lots saw (s ∷ rest) hand is all left one = let now = went_to d lots saw (s ∷ rest) in record {
   lots = all;
-  stands = subst (λ (p : Option Op). PlanOf now p) (sym hand) (plan_is now o is left);
+  stands = subst (λ (p : Option Op). PlanOf now p) (sym hand) (plan_is now o is (record { goes = left; one = one }));
   idle = tt;
 }
 
@@ -161,9 +170,9 @@ went_rest d lots saw [] = refl
 went_rest d lots saw (s ∷ rest) = refl
 
 worked_so : (d : DriverState) (o : Op) (saw : Seen) (s : Step) (rest : List Step) → in_hand d ≡ Some o → is_lending o ≡ true → All (IsMapping d.fixed) d.lots → s.first ≡ turns.Stay → PlanGoes d.fixed (lots_after s.last d.lots) rest
-    → IsDone d s rest (worked d o saw (s ∷ rest))
+    → (d.fixed.light ≡ true → EndsOne rest) → IsDone d s rest (worked d o saw (s ∷ rest))
 unfolding turned_by
-worked_so d o saw s rest hand is all first left =
+worked_so d o saw s rest hand is all first left one =
     let same : lots_after_both s.first s.last d.lots ≡ lots_after s.last d.lots = ap (λ (t : Turn). lots_after_both t s.last d.lots) first in
     let lots = lots_after_both s.first s.last d.lots in
     record {
@@ -172,7 +181,7 @@ worked_so d o saw s rest hand is all first left =
       rest = went_rest d lots saw rest;
       transfers = ap (λ (t : Turn). transfers_of d.fixed.me d.lots t ++ transfers_of d.fixed.me (lots_after t d.lots) s.last) first;
       drives =
-          subst (λ (ls : List Lot). Drives (went_to d ls saw rest)) (sym same) (went_drives d o (lots_after s.last d.lots) saw rest hand is (turn_mapping d.fixed s.last d.lots all) left);
+          subst (λ (ls : List Lot). Drives (went_to d ls saw rest)) (sym same) (went_drives d o (lots_after s.last d.lots) saw rest hand is (turn_mapping d.fixed s.last d.lots all) left one);
     }
 
 pub done_so : (sc : Scenario) (f : List ℕ) (w : WorldState) (h : HartNo) (o : Op) (s : Step) (rest : List Step) (saw : Seen) → IsNext sc f w h o s rest → busy saw ≡ None → IsDone (driver_of w h.0) s rest (done (driver_of w h.0) saw)
@@ -182,7 +191,7 @@ done_so sc f w h o s rest saw k free =
     let same : done_of d saw (in_hand d) ≡ worked d o (kept d.saw saw) (s ∷ rest) =
     ap (done_of d saw) k.hand ∙ ap (done_unless d o saw) free ∙ ap (done_in d o (kept d.saw saw)) k.phase ∙ ap (worked d o (kept d.saw saw)) k.rest_is in
     let drives = k.now.flat.bytes.drives h.0 k.now.there in
-    subst (λ (went : Went). IsDone d s rest went) (sym same) (worked_so d o (kept d.saw saw) s rest k.hand k.lends drives.lots k.first k.left)
+    subst (λ (went : Went). IsDone d s rest went) (sym same) (worked_so d o (kept d.saw saw) s rest k.hand k.lends drives.lots k.first k.left (λ light. ends_one_next s rest (k.one light)))
 
 -- ---- no message is to come
 
@@ -194,6 +203,13 @@ load_posts f lots s rest b (Drops is) = ap (posts b) is.step
 load_posts f lots s rest b (Gives is) = ap (posts b) is.step
 load_posts f lots s rest b (Fences is) = ap (posts b) is.step
 load_posts f lots s rest b (Ends is) = ap (posts b) is.step
+load_posts f lots s rest b (Zeroes is) = ap (posts b) is.step
+load_posts f lots s rest b (Flushes is) = ap (posts b) is.step
+load_posts f lots s rest b (Settles is) = ap (posts b) is.step
+load_posts f lots s rest b (GivesArea is) = ap (posts b) is.step
+load_posts f lots s rest b (TakesBack is) = ap (posts b) is.step
+load_posts f lots s rest b (Marks is) = ap (posts b) is.step
+load_posts f lots s rest b (Posts is) = ap (posts b) is.step
 
 plan_posts : (f : Fixed) (lots : List Lot) (rest : List Step) (b : ℕ) → PlanGoes f lots rest → list_any (posts b) rest ≡ false
 plan_posts f lots [] b left = refl
@@ -205,9 +221,18 @@ plan_silent f lots rest b left = steps_ahead.send_none b rest (plan_posts f lots
 -- ---- what is to come of the lot in hand
 
 -- a step with no turn goes off in front
-pub coming_next : (f : Fixed) (lots : List Lot) (lot : Lot) (n : MapId) (s : Step) (rest : List Step) → PlanGoes f lots rest → In lot lots → (IsStill lot → ⊥) → ends lot.id s ≡ false
-    → coming n lot.id (s ∷ rest) ≡ act_coming s.act ++ coming n lot.id rest
-coming_next f lots lot n s rest left here moves plain = steps_ahead.next n lot.id s rest plain (ends_later f lots rest lot left here moves)
+pub coming_next : (lot : Lot) (n : MapId) (s : Step) (rest : List Step) → HasEnd lot.id rest → ends lot.id s ≡ false → coming n lot.id (s ∷ rest) ≡ act_coming s.act ++ coming n lot.id rest
+coming_next lot n s rest later plain = steps_ahead.next n lot.id s rest plain later
+
+-- the end of a lot that is taken back is still to come, where the step makes no turn
+pub returns_later : (sc : Scenario) (f : List ℕ) (w : WorldState) (h : HartNo) (o : Op) (s : Step) (rest : List Step) (lot : Lot) → IsNext sc f w h o s rest → In lot (driver_of w h.0).lots → lot.side ≡ sides.Returning → s.last ≡ turns.Stay → HasEnd lot.id rest
+returns_later sc f w h o s rest lot next here side stay =
+    let d = driver_of w h.0 in
+    ends_later d.fixed d.lots rest lot (subst (λ (t : Turn). PlanGoes d.fixed (lots_after t d.lots) rest) stay next.left) here (λ still. back_moves d.fixed lot side still)
+
+-- whether what is to come settles an area stays so
+pub settling_next : (id : LotId) (s : Step) (rest : List Step) → ends id s ≡ false → settling id (s ∷ rest) ≡ settling id rest
+settling_next id s rest plain = ap (is_settling id) (cond-false (ends id s) (Some s) (find (ends id) rest) plain)
 
 pub same_id : (id : LotId) → (id.label.0 == id.label.0 && id.first == id.first) ≡ true
 same_id id = and_from (id.label.0 == id.label.0) (id.first == id.first) (eq-eqb id.label.0 id.label.0 refl) (eq-eqb id.first id.first refl)

@@ -3,6 +3,7 @@ use Rattle.std.specs.Prelude.{if◌then◌else◌, Bool, false}
 use Rattle.std.specs.List.{list_any}
 use Rattle.std.proofs.Common.{◌≡◌, ℕ, List, [], ◌∷◌, ◌++◌, refl, sym, ap, ◌∙◌, inl, inr, subst}
 use Rattle.std.proofs.lemmas.Bool.{or_left, both_ways}
+use Rattle.nc_num.specs.Memory.{byte}
 use Rattle.nc_num.specs.declared.names.HartNo.{HartNo}
 use Rattle.nc_num.specs.declared.names.MapId.{MapId}
 use Rattle.nc_num.specs.declared.places.Span.{Span}
@@ -31,29 +32,31 @@ use Rattle.nc_rows.specs.Ahead.{ends, gives_lot, act_coming, token, coming}
 use Rattle.nc_rows.specs.Parts.{rest_last}
 use Rattle.nc_rows.proofs.Steps.{steps_ahead}
 use Rattle.nc_flatness.specs.Books.{book_of}
-use Rattle.nc_flatness.specs.Plans.{IsBack, IsGive, IsFence, IsEnd}
+use Rattle.nc_flatness.specs.Plans.{HasEnd, IsBack, IsGive, IsFence, IsEnd}
 use Rattle.nc_flatness.specs.Flatness.{BytesStand}
 use Rattle.nc_flatness.specs.Steps.{Goes}
 use Rattle.nc_flatness.proofs.Outcomes.{gone}
 use Rattle.nc_flat_starts.proofs.Frames.{goes_still, last_none}
 use Rattle.nc_flat_plans.proofs.OwnRows.{lent_full, back_full}
-use Rattle.nc_flat_plans.proofs.Drivers.{IsNext, done_so, same_id}
+use Rattle.nc_flat_plans.proofs.Drivers.{IsNext, done_so, returns_later, same_id}
 use Rattle.nc_flat_plans.proofs.Places.{IsUnder, its_id, its_place, ways}
-use Rattle.nc_flat_plans.proofs.Shifts.{held, stay_shift, side_shift}
-use Rattle.nc_flat_plans.proofs.StepFrames.{step_bytes, queue_clear, unseen_before, moved_seen}
+use Rattle.nc_flat_plans.proofs.Shifts.{sided, held, stay_shift, side_shift}
+use Rattle.nc_flat_plans.proofs.StepFrames.{step_bytes}
+use Rattle.nc_flat_plans.proofs.StepQueues.{queue_clear}
+use Rattle.nc_flat_plans.proofs.StepSeen.{unseen_before, moved_seen}
 use Rattle.nc_flat_plans.proofs.OwnPlaces.{to_come, lent_as, back_as, as_given, as_back}
 use Rattle.nc_flat_plans.proofs.Puts.{IsStaying, stay_comes}
 use Rattle.nc_flat_plans.proofs.Backs.{last_comes, home_bytes}
 use Rattle.nc_flat_plans.proofs.Issues.{IsOpNext, op_may, emptied, fence_stays, fence_silent, went_by, op_goes}
 
 -- the machine stays
-fence_event : (sc : Scenario) (f : List ℕ) (w : WorldState) (h : HartNo) (o : Op) (s : Step) (rest : List Step) → IsOpNext sc f w h o full s rest → BytesStand sc f (gone w h w.machine (went_by w h full)) → Goes sc f w (events.Issue h)
+pub fence_event : (sc : Scenario) (f : List ℕ) (w : WorldState) (h : HartNo) (o : Op) (s : Step) (rest : List Step) → IsOpNext sc f w h o full s rest → BytesStand sc f (gone w h w.machine (went_by w h full)) → Goes sc f w (events.Issue h)
 fence_event sc f w h o s rest k bytes =
     op_goes sc f w h o full s rest k (fence_silent w h (is_script (driver_of w h.0).phase)) (subst (λ (m : MachineState). BytesStand sc f (gone w h m (went_by w h full))) (sym (fence_stays w.machine h.0)) bytes)
 
 -- ---- the lot is its channel's
 
-given_comes : (n : MapId) (id : LotId) (s : Step) → s ≡ turning (turns.Give id) (hart_step full) → coming n id (s ∷ []) ≡ entries.Mark 15 15 ∷ token n ∷ []
+pub given_comes : (n : MapId) (id : LotId) (s : Step) → s ≡ turning (turns.Give id) (hart_step full) → coming n id (s ∷ []) ≡ entries.Mark 15 15 ∷ token n ∷ []
 given_comes n id s is =
     ap (λ (t : Step). coming n id (t ∷ [])) is ∙ steps_ahead.last n id (turning (turns.Give id) (hart_step full)) [] (or_left (gives_lot id (turns.Give id)) _ (same_id id))
     ∙ ap (λ (b : Bool). entries.Mark 15 15 ∷ (if b then token n ∷ [] else [])) (same_id id)
@@ -70,16 +73,18 @@ given_goes sc f w h o s rest next is =
     let done = done_so sc f w h o s rest _ next refl in
     let turn : s.last ≡ turns.Give lot.id = ap (λ (t : Step). t.last) is.step in
     let none = emptied w h (op_may sc f w h o full s rest k) in
+    let plain = is.hand.area_is in
     let shift = side_shift sc f w h went lot sides.Device u refl done.fixed (done.lots ∙ ap (λ (t : Turn). lots_after t d.lots) turn)
     (done.transfers ∙ ap {B = List (Span × Owner)} (λ (t : Turn). transfers_of d.fixed.me d.lots t) turn) in
     fence_event sc f w h o s rest k
-    (step_bytes sc f w h o s rest m went lot sides.Device next done u shift (goes_still sc f w h u.flat.bytes) (record {
+    (step_bytes sc f w h o s rest m went lot (sided sides.Device) next done u plain shift (goes_still sc f w h u.flat.bytes) (record {
       passes = λ x b there off beyond row. row;
-      row = λ i e x b p row.
+      row = λ i e x p row.
+          let b = byte f x in
           let comes : to_come h lot i d.rest ≡ entries.Mark 15 15 ∷ token (its_id h lot i) ∷ [] =
           ap (λ (r : List Step). to_come h lot i r) (next.rest_is ∙ ap (λ (r : List Step). s ∷ r) is.over) ∙ given_comes (its_id h lot i) lot.id s is.step in
-          as_given sc f w h m went lot i e x b u p shift
-          (lent_full lot.list.dir m (its_id h lot i) b x (its_place w h lot i e x) [] none (lent_as sc f w h m lot i e x b (entries.Mark 15 15 ∷ token (its_id h lot i) ∷ []) u p is.hand.side_is comes row));
+          as_given sc f w h m went lot i e x b u plain p shift
+          (lent_full lot.list.dir m (its_id h lot i) b x (its_place w h lot i e x) [] none (lent_as sc f w h m lot i e x b (entries.Mark 15 15 ∷ token (its_id h lot i) ∷ []) u plain p is.hand.side_is comes row));
       queue = queue_clear (book_of v) (owner_of v) m.pool m.size h.0 (queue_of m h.0) none;
       lasting = last_none (book_of v) f h.0 (hart_of m h.0).last (rest_last went.driver.rest) (ap rest_last (done.rest ∙ is.over));
       calm = λ z slot unseen. u.flat.bytes.calm z slot (unseen_before sc f w h m went lot sides.Device z u shift (inr (inl refl)) unseen);
@@ -99,26 +104,30 @@ fenced_goes sc f w h o s rest next is =
     let u : IsUnder sc f w h lot = record { flat = next.now.flat; lt = next.now.there; here = is.hand.here; others = is.hand.others; moves = inr is.hand.side_is } in
     let done = done_so sc f w h o s rest _ next refl in
     let none = emptied w h (op_may sc f w h o full s rest k) in
-    let stays : IsStaying sc f w h o s rest lot = record { next = next; under = u; stay = ap (λ (t : Step). t.last) is.step; plain = ap (ends lot.id) is.step } in
+    let stay : s.last ≡ turns.Stay = ap (λ (t : Step). t.last) is.step in
+    let later : HasEnd lot.id rest = returns_later sc f w h o s rest lot next u.here is.hand.side_is stay in
+    let plain = is.hand.area_is in
+    let stays : IsStaying sc f w h o s rest lot = record { next = next; under = u; stay = stay; plain = λ id. ap (ends id) is.step; mapping = plain; later = later } in
     let shift = stay_shift sc f w h went lot s rest u done stays.stay in
     let size : d.fixed.size ≡ m.size = sym (held sc f w h lot u).setting.block in
     fence_event sc f w h o s rest k
-    (step_bytes sc f w h o s rest m went lot lot.side next done u shift (goes_still sc f w h u.flat.bytes) (record {
+    (step_bytes sc f w h o s rest m went lot (sided lot.side) next done u plain shift (goes_still sc f w h u.flat.bytes) (record {
       passes = λ x b there off beyond row. row;
-      row = λ i e x b p row.
+      row = λ i e x p row.
+          let b = byte f x in
           let n = its_id h lot i in
           let y = its_place w h lot i e x in
           let ahead = to_come h lot i rest in
           let comes : to_come h lot i d.rest ≡ entries.Mark 15 15 ∷ ahead =
           ap (λ (r : List Step). to_come h lot i r) next.rest_is ∙ stay_comes sc f w h o s rest lot i stays ∙ ap (λ (a : Act). act_coming a ++ ahead) k.act in
-          as_back sc f w h m went lot i e x b rest u p is.hand.side_is shift done.rest
+          as_back sc f w h m went lot i e x b rest u plain p is.hand.side_is shift done.rest
           (back_full dir m n b x y ahead u.flat.world.machine none (is.only n)
           (λ back. elim (ways sc f w h lot i e x u p) [
             | inl direct ↦ inl (sym direct.0)
             | inr slot ↦
                 inr (ap (λ (z : ℕ). list_any (gives_at z x) ahead) (sym size) ∙ is.out i e x (record { lot_in = u.here; entry = p.entry }) slot.1 back p.on n)
           ])
-          (back_as sc f w h m lot i e x b (entries.Mark 15 15 ∷ ahead) u p is.hand.side_is comes row));
+          (back_as sc f w h m lot i e x b (entries.Mark 15 15 ∷ ahead) u plain p is.hand.side_is comes row));
       queue = queue_clear (book_of v) (owner_of v) m.pool m.size h.0 (queue_of m h.0) none;
       lasting = last_none (book_of v) f h.0 (hart_of m h.0).last (rest_last went.driver.rest) (ap rest_last done.rest ∙ is.next);
       calm = λ z slot unseen. u.flat.bytes.calm z slot (unseen_before sc f w h m went lot lot.side z u shift (moved_seen lot u.moves) unseen);
@@ -138,12 +147,14 @@ ended_goes sc f w h o s rest next is =
     let u : IsUnder sc f w h lot = record { flat = next.now.flat; lt = next.now.there; here = is.hand.here; others = is.hand.others; moves = inr is.hand.side_is } in
     let done = done_so sc f w h o s rest _ next refl in
     let turn : s.last ≡ is.turn = ap (λ (t : Step). t.last) is.step in
+    let plain = is.hand.area_is in
     let back : IsBack lot.id s.last = subst (λ (t : Turn). IsBack lot.id t) (sym turn) is.is_back in
     let none = emptied w h (op_may sc f w h o full s rest k) in
     fence_event sc f w h o s rest k
-    (home_bytes sc f w h o s rest m went lot next done u back is.over (goes_still sc f w h u.flat.bytes) (record {
+    (home_bytes sc f w h o s rest m went lot next done u plain back is.over (goes_still sc f w h u.flat.bytes) (record {
       passes = λ x b there off beyond row. row;
-      back = λ i e x b p row.
+      back = λ i e x p row.
+          let b = byte f x in
           let n = its_id h lot i in
           let y = its_place w h lot i e x in
           let comes : to_come h lot i d.rest ≡ entries.Mark 15 15 ∷ [] =
@@ -153,7 +164,7 @@ ended_goes sc f w h o s rest next is =
             | inl direct ↦ inl (sym direct.0)
             | inr slot ↦ absurd (both_ways e.bounced (all_at (λ (c : Entry). c.bounced ≡ false) lot.list.entries e (is.straight returns) (at_get lot.list.entries i e p.entry)) slot.1)
           ])
-          (back_as sc f w h m lot i e x b (entries.Mark 15 15 ∷ []) u p is.hand.side_is comes row);
+          (back_as sc f w h m lot i e x b (entries.Mark 15 15 ∷ []) u plain p is.hand.side_is comes row);
       queue = queue_clear (book_of v) (owner_of v) m.pool m.size h.0 (queue_of m h.0) none;
       stays = λ z slot calm. calm;
     }))

@@ -1,7 +1,7 @@
 -- The issue of the next operation of a plan: it is there, it may be issued, and it is no access.
 use Rattle.std.specs.Prelude.{Some, ◌&&◌, ◌||◌, not, All, Bool, true, false}
 use Rattle.std.specs.List.{list_any}
-use Rattle.std.proofs.Common.{◌≡◌, ℕ, ◌<◌, List, [], ◌∷◌, ◌++◌, length, refl, sym, ap, ◌∙◌, subst, arith}
+use Rattle.std.proofs.Common.{◌≡◌, ℕ, ◌*◌, ◌<◌, List, [], ◌∷◌, ◌++◌, length, replicate, refl, sym, ap, ◌∙◌, subst, arith}
 use Rattle.std.proofs.lemmas.Bool.{and_parts, or_parts}
 use Rattle.std.proofs.lemmas.List.Elements.{All-head}
 use Rattle.nc_num.specs.declared.names.HartNo.{HartNo}
@@ -19,6 +19,7 @@ use Rattle.nc_queue.specs.Rules.{any_in}
 use Rattle.nc_queue.specs.declared.entry.Entry.{Entry}
 use Rattle.nc_queue.specs.declared.entry.Entry.TheVariants as entries
 use Rattle.nc_hart.specs.Issue.{can_issue, has_room, fence_clear, load_clear, entry_of}
+use Rattle.nc_model.specs.Flat.{named, written}
 use Rattle.nc_ops.specs.declared.ops.Op.{Op}
 use Rattle.nc_scen.specs.declared.events.Event.TheVariants as events
 use Rattle.nc_scen.specs.declared.scenario.Scenario.{Scenario}
@@ -47,7 +48,7 @@ use Rattle.nc_scripts.specs.Drivers.{StepIsThere, ActIsThere, ActFitsLast, Loads
 use Rattle.nc_holds.specs.Holds.{DriverHolds}
 use Rattle.nc_row_issues.specs.Laws.{Enters}
 use Rattle.nc_flatness.specs.Flatness.{BytesStand}
-use Rattle.nc_flatness.specs.Steps.{Goes}
+use Rattle.nc_flatness.specs.Steps.{GoesTo, Goes}
 use Rattle.nc_flatness.proofs.Marks.{marks-append, transfers_silent}
 use Rattle.nc_flatness.proofs.Outcomes.{gone, goes_go, goes_silent}
 use Rattle.nc_flat_plans.proofs.Passes.{is_kept_op}
@@ -173,12 +174,23 @@ issues w h nx is = ap (step_outcome w h) is
 abbrev pub went_by : WorldState → HartNo → HartOp → Went
 went_by w h op = done (driver_of w h.0) (seen_of (issue_answer w.machine h.0 op))
 
+-- it is no touch, and its records are these
+pub op_event : (sc : Scenario) (f : List ℕ) (w : WorldState) (h : HartNo) (o : Op) (op : HartOp) (s : Step) (rest : List Step) → IsOpNext sc f w h o op s rest
+    → GoesTo sc f (all_marks w.machine.size w.grants (op_records w.machine h (is_script (driver_of w h.0).phase) op)) (gone w h (issue_next w.machine h.0 op) (went_by w h op)) → Goes sc f w (events.Issue h)
+unfolding step_outcome op_outcome
+op_event sc f w h o op s rest k to =
+    let machine = issue_next w.machine h.0 op in
+    let script = is_script (driver_of w h.0).phase in
+    goes_go sc f w (events.Issue h) h machine (went_by w h op) w.slots (issue_touch w h script op) (op_records w.machine h script op) k.next.now.may (issues w h (nexts.Op op) (next_work sc f w h o op s rest k)) (λ none. to)
+
 pub op_goes : (sc : Scenario) (f : List ℕ) (w : WorldState) (h : HartNo) (o : Op) (op : HartOp) (s : Step) (rest : List Step) → IsOpNext sc f w h o op s rest
     → all_marks w.machine.size w.grants (op_records w.machine h (is_script (driver_of w h.0).phase) op) ≡ [] → BytesStand sc f (gone w h (issue_next w.machine h.0 op) (went_by w h op)) → Goes sc f w (events.Issue h)
-unfolding step_outcome op_outcome
 op_goes sc f w h o op s rest k silent bytes =
-    let machine = issue_next w.machine h.0 op in
-    let went = went_by w h op in
-    let script = is_script (driver_of w h.0).phase in
-    goes_go sc f w (events.Issue h) h machine went w.slots (issue_touch w h script op) (op_records w.machine h script op) k.next.now.may (issues w h (nexts.Op op) (next_work sc f w h o op s rest k))
-    (λ none. goes_silent sc f (all_marks w.machine.size w.grants (op_records w.machine h script op)) (gone w h machine went) silent bytes)
+    op_event sc f w h o op s rest k
+    (goes_silent sc f (all_marks w.machine.size w.grants (op_records w.machine h (is_script (driver_of w h.0).phase) op)) (gone w h (issue_next w.machine h.0 op) (went_by w h op)) silent bytes)
+
+-- a zero of a plan writes zeros over its block
+pub zero_goes : (sc : Scenario) (f : List ℕ) (w : WorldState) (h : HartNo) (o : Op) (block : Block) (s : Step) (rest : List Step) → IsOpNext sc f w h o (hart_ops.Cbo cbos.Zero block) s rest
+    → BytesStand sc (written f (named (w.machine.size * block.0) (replicate w.machine.size 0))) (gone w h (issue_next w.machine h.0 (hart_ops.Cbo cbos.Zero block)) (went_by w h (hart_ops.Cbo cbos.Zero block))) → Goes sc f w (events.Issue h)
+unfolding op_records
+zero_goes sc f w h o block s rest k bytes = op_event sc f w h o (hart_ops.Cbo cbos.Zero block) s rest k (record { untouched = tt; latest = tt; bytes = bytes })

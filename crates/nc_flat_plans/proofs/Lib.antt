@@ -1,9 +1,12 @@
 pub mod OwnRows
 pub mod Passes
 pub mod Drivers
+pub mod PoolPlaces
 pub mod Places
 pub mod Shifts
 pub mod StepFrames
+pub mod StepQueues
+pub mod StepSeen
 pub mod OwnPlaces
 pub mod Copies
 pub mod Puts
@@ -13,4 +16,7 @@ pub mod Backs
 pub mod Fences
 pub mod Stores
 pub mod Loads
+pub mod AreaRows
+pub mod AreaSteps
+pub mod AreaFences
 pub mod PlanEvents

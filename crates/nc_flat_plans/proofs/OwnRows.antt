@@ -49,6 +49,10 @@ pub either_both : (b : Bool) (p q : Type 0) → p → q → Either b p q
 either_both true p q x y = x
 either_both false p q x y = y
 
+pub either_make : (b : Bool) (p q : Type 0) → (b ≡ true → p) → (b ≡ false → q) → Either b p q
+either_make true p q first second = first refl
+either_make false p q first second = second refl
+
 pub either_end : (b : Bool) (p q r : Type 0) → (p → r) → (q → r) → Either b p q → r
 either_end true p q r first second row = first row
 either_end false p q r first second row = second row

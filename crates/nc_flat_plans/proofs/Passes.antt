@@ -1,7 +1,8 @@
 -- An entry of a plan comes into its hart's queue: what the rows of all other places ask of it.
-use Rattle.std.specs.Prelude.{Option, Some, None}
+use Rattle.std.specs.Prelude.{Option, Some, None, ◌/◌, ◌==◌}
 use Rattle.std.specs.List.{list_any}
 use Rattle.std.proofs.Common.{◌≡◌, ◌⊎◌, ℕ, Bool, true, false, List, refl, inl, inr}
+use Rattle.std.proofs.lemmas.Bool.{eqb-true, false_from_ne_true}
 use Rattle.nc_num.specs.declared.names.MapId.{MapId}
 use Rattle.nc_num.specs.declared.names.MemType.{MemType}
 use Rattle.nc_num.specs.declared.places.Block.{Block}
@@ -16,13 +17,12 @@ use Rattle.nc_lines.specs.Lines.{bare}
 use Rattle.nc_model.specs.declared.owners.Owner.{Owner}
 use Rattle.nc_model.specs.declared.owners.Owner.TheVariants.{Thread, Passing, Lending, Device, Returning, Synced, Pool}
 use Rattle.nc_rules.specs.Machine.{MachineState}
-use Rattle.nc_calls.specs.PlaceLaws.{drops_copies}
-use Rattle.nc_rows.specs.Ahead.{names, is_full, is_mail}
+use Rattle.nc_calls.specs.PlaceLaws.{drops_copies, parts}
+use Rattle.nc_rows.specs.Ahead.{names, is_full, is_mail, settling}
 use Rattle.nc_rows.specs.Laws.{place_of, seen_at}
 use Rattle.nc_rows.specs.Rows.{Loan, Book, device_place, ahead_of}
 use Rattle.nc_row_issues.specs.Laws.{NoByte, NoBlock, PassesTo, PassesLent, PassesLoan, PassesBack, Passes}
-use Rattle.nc_flat_starts.specs.Books.{HasNoArea}
-use Rattle.nc_flat_plans.proofs.OwnRows.{either_false, either_both, dir_make}
+use Rattle.nc_flat_plans.proofs.OwnRows.{either_make, either_both, dir_make}
 
 -- ---- the entries of plans
 
@@ -70,6 +70,23 @@ op_block m block cbos.Flush x is = refl
 op_block m block cbos.Inval x is = refl
 op_block m block cbos.Zero x is = absurd cc
 
+-- none of the block, and nothing with which memory and the copies come to differ
+abbrev pub NoWhole : MachineState → Entry → ℕ → Type 0
+NoWhole m e x = NoBlock m e x × (parts m.size e x ≡ false)
+
+-- an invalidate does so in its own block alone, and a clean or a flush nowhere
+pub writes_whole : (m : MachineState) (block : Block) (op : CboOp) (x : ℕ) → writes_back op ≡ true → NoWhole m (entries.Cbo block op) x
+writes_whole m block cbos.Clean x is = (refl, refl)
+writes_whole m block cbos.Flush x is = (refl, refl)
+writes_whole m block cbos.Inval x is = absurd cc
+writes_whole m block cbos.Zero x is = absurd cc
+
+pub op_whole : (m : MachineState) (block : Block) (op : CboOp) (x : ℕ) → is_kept_op op ≡ true → (x / m.size ≡ block.0 → ⊥) → NoWhole m (entries.Cbo block op) x
+op_whole m block cbos.Clean x is far = (refl, refl)
+op_whole m block cbos.Flush x is far = (refl, refl)
+op_whole m block cbos.Inval x is far = (refl, false_from_ne_true (x / m.size == block.0) (λ t. far (eqb-true (x / m.size) block.0 t)))
+op_whole m block cbos.Zero x is far = absurd cc
+
 -- ---- a place beside
 
 abbrev pub IsLentTo : MapId → Owner → Type 0
@@ -79,40 +96,50 @@ IsLentTo n o = (o ≡ Lending n) ⊎ ((o ≡ Device n) ⊎ (o ≡ Returning n))
 pub record IsClear (a : Book) (o : Owner) (m : MachineState) (h : ℕ) (e : Entry) (x : ℕ) : Type 0 where
   pub byte : NoByte m e x
   pub device : NoByte m e (seen_at a o x)
-  pub block : (n : MapId) (l : Loan) → IsLentTo n o → a.loan n ≡ Some l → comes_back l.grant.dir ≡ true → NoBlock m e (device_place l x)
+  pub block : (n : MapId) (l : Loan) → IsLentTo n o → a.loan n ≡ Some l → l.area ≡ false → comes_back l.grant.dir ≡ true → NoBlock m e (device_place l x)
+  -- an area that is being lent
+  pub area : (n : MapId) (l : Loan) → o ≡ Lending n → a.loan n ≡ Some l → l.area ≡ true → NoWhole m e x
   -- the mapping is none that the hart itself lends
   pub other : (n : MapId) → o ≡ Lending n → n.hart.0 ≡ h → ⊥
 
-abbrev pub NoDevice : MachineState → Entry → Option Loan → ℕ → Type 0
-NoDevice m e o x = NoByte m e (place_of o x) × ((l : Loan) → o ≡ Some l → comes_back l.grant.dir ≡ true → NoBlock m e (device_place l x))
+-- the same of the mapping that has the place
+pub record NoDevice (m : MachineState) (e : Entry) (o : Option Loan) (x : ℕ) : Type 0 where
+  pub byte : NoByte m e (place_of o x)
+  pub block : (l : Loan) → o ≡ Some l → l.area ≡ false → comes_back l.grant.dir ≡ true → NoBlock m e (device_place l x)
 
-lent_passes : (a : Book) (n : MapId) (o : Option Loan) (m : MachineState) (h : ℕ) (e : Entry) (x : ℕ) → a.loan n ≡ o → IsPlain e → HasNoArea a → NoByte m e x → NoDevice m e o x → (n.hart.0 ≡ h → ⊥) → PassesLent a n o m h e x
-lent_passes a n None m h e x is plain none byte device other = tt
-lent_passes a n (Some l) m h e x is plain none byte device other =
+lent_passes : (a : Book) (n : MapId) (o : Option Loan) (m : MachineState) (h : ℕ) (e : Entry) (x : ℕ) → IsPlain e → NoByte m e x → NoDevice m e o x → ((l : Loan) → o ≡ Some l → l.area ≡ true → NoWhole m e x) → (n.hart.0 ≡ h → ⊥) → PassesLent a n o m h e x
+lent_passes a n None m h e x plain byte device area other = tt
+lent_passes a n (Some l) m h e x plain byte device area other =
     let y = device_place l x in
-    let to : PassesTo n m h e x y = record { buffer = byte; device = device.0; token = λ own. plain.token n; back = λ own. absurd (other own) } in
-    either_false l.area _ _ (none n l is) (dir_make l.grant.dir _ _ (λ d. to) (λ d. record { to = to; block = device.1 l refl d }))
+    let to : PassesTo n m h e x y = record { buffer = byte; device = device.byte; token = λ own. plain.token n; back = λ own. absurd (other own) } in
+    either_make l.area _ _
+    (λ is.
+    let none = area l refl is in
+    either_both (settling l.lot (a.rest n.hart.0)) _ _ (record { place = byte; block = none.0; whole = none.1; token = λ own. plain.token n }) (record { place = byte; token = λ own. plain.token n }))
+    (λ is. dir_make l.grant.dir _ _ (λ d. to) (λ d. record { to = to; block = device.block l refl is d }))
 
-loan_passes : (a : Book) (n : MapId) (o : Option Loan) (m : MachineState) (h : ℕ) (e : Entry) (x : ℕ) → a.loan n ≡ o → HasNoArea a → NoByte m e x → NoDevice m e o x → PassesLoan n o m h e x
-loan_passes a n None m h e x is none byte device = tt
-loan_passes a n (Some l) m h e x is none byte device =
-    either_false l.area _ _ (none n l is) (dir_make l.grant.dir _ _ (λ d. record { device = device.0; buffer = byte }) (λ d. record { device = device.1 l refl d; buffer = inr byte }))
+loan_passes : (n : MapId) (o : Option Loan) (m : MachineState) (h : ℕ) (e : Entry) (x : ℕ) → NoByte m e x → NoDevice m e o x → PassesLoan n o m h e x
+loan_passes n None m h e x byte device = tt
+loan_passes n (Some l) m h e x byte device =
+    either_make l.area _ _ (λ is. byte)
+    (λ is. dir_make l.grant.dir _ _ (λ d. record { device = device.byte; buffer = byte }) (λ d. record { device = device.block l refl is d; buffer = inr byte }))
 
-back_passes : (a : Book) (n : MapId) (o : Option Loan) (m : MachineState) (h : ℕ) (e : Entry) (x : ℕ) → a.loan n ≡ o → IsPlain e → HasNoArea a → NoByte m e x → NoDevice m e o x → PassesBack a n o m h e x
-back_passes a n None m h e x is plain none byte device = tt
-back_passes a n (Some l) m h e x is plain none byte device =
-    either_false l.area _ _ (none n l is)
-    (dir_make l.grant.dir _ _ (λ d. record { device = device.0; buffer = byte })
+back_passes : (a : Book) (n : MapId) (o : Option Loan) (m : MachineState) (h : ℕ) (e : Entry) (x : ℕ) → IsPlain e → NoByte m e x → NoDevice m e o x → PassesBack a n o m h e x
+back_passes a n None m h e x plain byte device = tt
+back_passes a n (Some l) m h e x plain byte device =
+    either_make l.area _ _ (λ is. byte)
+    (λ is.
+    dir_make l.grant.dir _ _ (λ d. record { device = device.byte; buffer = byte })
     (λ d. either_both (list_any is_full (ahead_of a n l)) _ _
-    (record { opened = record { device = device.1 l refl d; buffer = inr byte }; fence = λ own. plain.full })
-    (record { device = device.0; buffer = inr byte })))
+    (record { opened = record { device = device.block l refl is d; buffer = inr byte }; fence = λ own. plain.full })
+    (record { device = device.byte; buffer = inr byte })))
 
-pub passes_by : (a : Book) (o : Owner) (m : MachineState) (h : ℕ) (e : Entry) (x : ℕ) → IsPlain e → HasNoArea a → IsClear a o m h e x → Passes a o m h e x
-passes_by a (Thread j) m h e x plain none clear = clear.byte
-passes_by a (Passing j g) m h e x plain none clear = record { place = clear.byte; message = λ own. plain.mail (a.buffer x) }
-passes_by a (Lending n) m h e x plain none clear =
-    lent_passes a n (a.loan n) m h e x refl plain none clear.byte (clear.device, λ l is d. clear.block n l (inl refl) is d) (λ own. clear.other n refl own)
-passes_by a (Device n) m h e x plain none clear = loan_passes a n (a.loan n) m h e x refl none clear.byte (clear.device, λ l is d. clear.block n l (inr (inl refl)) is d)
-passes_by a (Returning n) m h e x plain none clear = back_passes a n (a.loan n) m h e x refl plain none clear.byte (clear.device, λ l is d. clear.block n l (inr (inr refl)) is d)
-passes_by a (Synced n) m h e x plain none clear = clear.byte
-passes_by a Pool m h e x plain none clear = clear.byte
+pub passes_by : (a : Book) (o : Owner) (m : MachineState) (h : ℕ) (e : Entry) (x : ℕ) → IsPlain e → IsClear a o m h e x → Passes a o m h e x
+passes_by a (Thread j) m h e x plain clear = clear.byte
+passes_by a (Passing j g) m h e x plain clear = record { place = clear.byte; message = λ own. plain.mail (a.buffer x) }
+passes_by a (Lending n) m h e x plain clear =
+    lent_passes a n (a.loan n) m h e x plain clear.byte (record { byte = clear.device; block = λ l is area d. clear.block n l (inl refl) is area d }) (λ l is area. clear.area n l refl is area) (λ own. clear.other n refl own)
+passes_by a (Device n) m h e x plain clear = loan_passes n (a.loan n) m h e x clear.byte (record { byte = clear.device; block = λ l is area d. clear.block n l (inr (inl refl)) is area d })
+passes_by a (Returning n) m h e x plain clear = back_passes a n (a.loan n) m h e x plain clear.byte (record { byte = clear.device; block = λ l is area d. clear.block n l (inr (inr refl)) is area d })
+passes_by a (Synced n) m h e x plain clear = clear.byte
+passes_by a Pool m h e x plain clear = clear.byte

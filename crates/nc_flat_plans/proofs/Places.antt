@@ -1,7 +1,7 @@
 -- The places of the lot in hand: what their mappings are, and where the channel sees them; and the places beside.
-use Rattle.std.specs.Prelude.{Some, None, All, true, false, slice_get}
+use Rattle.std.specs.Prelude.{Some, All, true, false, slice_get}
 use Rattle.std.proofs.Common.{◌≡◌, ◌⊎◌, ℕ, ◌<◌, List, length, sym, ap, ◌∙◌, inl, inr, subst, arith}
-use Rattle.std.proofs.lemmas.Bool.{cases_Bool}
+use Rattle.std.proofs.lemmas.Bool.{cases_Bool, both_ways}
 use Rattle.nc_num.specs.Places.{covers}
 use Rattle.nc_num.specs.declared.names.HartNo.{HartNo}
 use Rattle.nc_num.specs.declared.names.MapId.{MapId}
@@ -15,7 +15,8 @@ use Rattle.nc_rules.specs.declared.lots.Lot.{Lot}
 use Rattle.nc_rules.specs.declared.lots.LotId.{LotId}
 use Rattle.nc_rules.specs.declared.lots.Side.{Side}
 use Rattle.nc_rules.specs.declared.lots.Side.TheVariants as sides
-use Rattle.nc_rules.specs.Lots.{is_lot, is_wanted, map_id, grant_of, owner_of_side}
+use Rattle.nc_rules.specs.Lots.{Fixed, is_lot, is_wanted, map_id, grant_of, owner_of_side}
+use Rattle.nc_rules.specs.Turns.{is_area}
 use Rattle.nc_rules.specs.Watched.{owner_of}
 use Rattle.nc_rules.specs.World.{WorldState, driver_of}
 use Rattle.nc_scripts.proofs.LotLaws.{named_so}
@@ -23,12 +24,15 @@ use Rattle.nc_holds.specs.Held.{IsEntryOf}
 use Rattle.nc_holds.proofs.ListsA.{all_at}
 use Rattle.nc_rows.specs.Rows.{Loan, device_place}
 use Rattle.nc_flatness.specs.Books.{book_of, mapping_in}
-use Rattle.nc_flatness.specs.Plans.{IsStill}
+use Rattle.nc_flatness.specs.Plans.{IsStill, StillDevice, StillSynced, StillOwn, StillSent}
 use Rattle.nc_flatness.specs.Flatness.{Flatness}
-use Rattle.nc_flatness.proofs.Loans.{IsLoan, entry_loan, one_lot, lot_first}
+use Rattle.nc_flatness.proofs.Areas.{entry_pooled, entry_unpooled}
+use Rattle.nc_flatness.proofs.Loans.{IsLoan, entry_loan, one_lot, lot_of, lot_first, area_direct}
+use Rattle.nc_flatness.proofs.Rests.{back_moves, lend_moves}
 use Rattle.nc_flatness.proofs.Owned.{mapped, entry_owned, entry_ram, of_buffer}
 use Rattle.nc_flatness.proofs.Seen.{seen, place_ways, mapped_unslotted, seen_lent}
 use Rattle.nc_flat_starts.proofs.Frames.{IsPlace, IsOff, IsRestful}
+use Rattle.nc_flat_plans.proofs.PoolPlaces.{slot_unpooled}
 
 -- ---- the lot in hand
 
@@ -37,17 +41,18 @@ pub record IsUnder (sc : Scenario) (f : List ℕ) (w : WorldState) (h : HartNo) 
   pub flat : Flatness sc f w
   pub lt : h.0 < length sc.harts
   pub here : In lot (driver_of w h.0).lots
-  pub others : All (λ other. is_lot lot.id other ≡ false → IsStill other) (driver_of w h.0).lots
+  pub others : All (λ other. is_lot lot.id other ≡ false → IsStill (driver_of w h.0).fixed other) (driver_of w h.0).lots
   pub moves : (lot.side ≡ sides.Lending) ⊎ (lot.side ≡ sides.Returning)
 
-moving : (lot : Lot) → (lot.side ≡ sides.Lending) ⊎ (lot.side ≡ sides.Returning) → IsStill lot → ⊥
-moving lot (inl a) (inl b) = let both : sides.Lending ≡ sides.Device = sym a ∙ b in cc
-moving lot (inl a) (inr b) = let both : sides.Lending ≡ sides.Synced = sym a ∙ b.0 in cc
-moving lot (inr a) (inl b) = let both : sides.Returning ≡ sides.Device = sym a ∙ b in cc
-moving lot (inr a) (inr b) = let both : sides.Returning ≡ sides.Synced = sym a ∙ b.0 in cc
+-- fences are full
+pub full_fences : (sc : Scenario) (f : List ℕ) (w : WorldState) (h : HartNo) (lot : Lot) → IsUnder sc f w h lot → (driver_of w h.0).fixed.light ≡ false
+full_fences sc f w h lot u = (lot_of sc f w h.0 lot u.flat u.here).full
 
-pub not_still : (sc : Scenario) (f : List ℕ) (w : WorldState) (h : HartNo) (lot : Lot) → IsUnder sc f w h lot → IsStill lot → ⊥
-not_still sc f w h lot u still = moving lot u.moves still
+pub not_still : (sc : Scenario) (f : List ℕ) (w : WorldState) (h : HartNo) (lot : Lot) → IsUnder sc f w h lot → IsStill (driver_of w h.0).fixed lot → ⊥
+not_still sc f w h lot u still = elim u.moves [
+  | inl lends ↦ lend_moves (driver_of w h.0).fixed lot lends (full_fences sc f w h lot u) still
+  | inr back ↦ back_moves (driver_of w h.0).fixed lot back still
+]
 
 pub lent_side : (lot : Lot) → (lot.side ≡ sides.Lending) ⊎ (lot.side ≡ sides.Returning) → is_wanted lot.side ≡ false
 lent_side lot (inl is) = ap is_wanted is
@@ -59,7 +64,7 @@ abbrev pub its_id : HartNo → Lot → ℕ → MapId
 its_id h lot i = map_id h lot.id i
 
 abbrev pub its_loan : WorldState → HartNo → Lot → ℕ → Entry → Loan
-its_loan w h lot i e = record { grant = grant_of (driver_of w h.0).fixed.slots_at lot (map_id h lot.id i) e; lot = lot.id; area = false }
+its_loan w h lot i e = record { grant = grant_of (driver_of w h.0).fixed.slots_at lot (map_id h lot.id i) e; lot = lot.id; area = is_area lot.kind }
 
 -- where the channel sees place x of it
 abbrev pub its_place : WorldState → HartNo → Lot → ℕ → Entry → ℕ → ℕ
@@ -87,13 +92,12 @@ in_ram sc f w h lot i e x u p = entry_ram sc f w h.0 lot i e x u.flat (its_entry
 pub unslotted : (sc : Scenario) (f : List ℕ) (w : WorldState) (h : HartNo) (lot : Lot) (i : ℕ) (e : Entry) (x : ℕ) → IsUnder sc f w h lot → IsPlace lot i e x → covers (slots_of sc) x ≡ false
 unslotted sc f w h lot i e x u p = mapped_unslotted sc f w (its_id h lot i) x u.flat (mapping_of sc f w h lot i e x u p)
 
-pub unpooled : (sc : Scenario) (f : List ℕ) (w : WorldState) (h : HartNo) (lot : Lot) (i : ℕ) (e : Entry) (x : ℕ) → IsUnder sc f w h lot → IsPlace lot i e x → covers (pool_of sc) x ≡ false
-unpooled sc f w h lot i e x u p = elim (cases_Bool (covers (pool_of sc) x)) [
-  | inl over ↦
-      let both : None ≡ Some (its_id h lot i) = sym (ap mapping_in (u.flat.bytes.pooled x over)) ∙ mapping_of sc f w h lot i e x u p in
-      absurd (cc)
-  | inr off ↦ off
-]
+-- those of a mapping are none of the coherent pool, and those of an area are its
+pub unpooled : (sc : Scenario) (f : List ℕ) (w : WorldState) (h : HartNo) (lot : Lot) (i : ℕ) (e : Entry) (x : ℕ) → IsUnder sc f w h lot → is_area lot.kind ≡ false → IsPlace lot i e x → covers (pool_of sc) x ≡ false
+unpooled sc f w h lot i e x u plain p = entry_unpooled sc f w h.0 lot i e x u.flat (its_entry sc f w h lot i e u p.entry) plain p.on
+
+pub pooled : (sc : Scenario) (f : List ℕ) (w : WorldState) (h : HartNo) (lot : Lot) (i : ℕ) (e : Entry) (x : ℕ) → IsUnder sc f w h lot → is_area lot.kind ≡ true → IsPlace lot i e x → covers (pool_of sc) x ≡ true
+pooled sc f w h lot i e x u area p = entry_pooled sc f w h.0 lot i e x u.flat (its_entry sc f w h lot i e u p.entry) area p.on
 
 lent_by : (n : MapId) (o : Owner) (side : Side) → o ≡ owner_of_side n side → (side ≡ sides.Lending) ⊎ (side ≡ sides.Returning) → (o ≡ Lending n) ⊎ ((o ≡ Device n) ⊎ (o ≡ Returning n))
 lent_by n o side owner (inl is) = inl (owner ∙ ap (owner_of_side n) is)
@@ -126,6 +130,20 @@ ways sc f w h lot i e x u p =
       | inr slot ↦ inr (sym (ap (λ (l : Loan). covers (slots_of sc) (device_place l x)) loan) ∙ slot.0, sym (ap (λ (d : Entry). d.bounced) entry) ∙ slot.1)
     ]
 
+-- so none of them is seen in the coherent pool
+pub device_unpooled : (sc : Scenario) (f : List ℕ) (w : WorldState) (h : HartNo) (lot : Lot) (i : ℕ) (e : Entry) (x : ℕ) → IsUnder sc f w h lot → is_area lot.kind ≡ false → IsPlace lot i e x → covers (pool_of sc) (its_place w h lot i e x) ≡ false
+device_unpooled sc f w h lot i e x u plain p = elim (ways sc f w h lot i e x u p) [
+  | inl direct ↦ ap (covers (pool_of sc)) direct.0 ∙ unpooled sc f w h lot i e x u plain p
+  | inr slot ↦ slot_unpooled sc f w (its_place w h lot i e x) u.flat slot.0
+]
+
+-- an area's are seen in their place
+pub area_place : (sc : Scenario) (f : List ℕ) (w : WorldState) (h : HartNo) (lot : Lot) (i : ℕ) (e : Entry) (x : ℕ) → IsUnder sc f w h lot → is_area lot.kind ≡ true → IsPlace lot i e x → its_place w h lot i e x ≡ x
+area_place sc f w h lot i e x u area p = elim (ways sc f w h lot i e x u p) [
+  | inl direct ↦ direct.0
+  | inr slot ↦ absurd (both_ways e.bounced (area_direct sc f w h.0 lot i e u.flat (its_entry sc f w h lot i e u p.entry) area) slot.1)
+]
+
 -- ---- the places beside
 
 -- a place of another lot of the hart
@@ -134,7 +152,7 @@ pub record IsOther (w : WorldState) (h : HartNo) (lot : Lot) (k : MapId) (x : �
   pub here : In other (driver_of w h.0).lots
   pub label : other.id.label.0 ≡ k.label.0
   pub off : is_lot lot.id other ≡ false
-  pub still : IsStill other
+  pub still : IsStill (driver_of w h.0).fixed other
   pub owner : owner_of w x ≡ owner_of_side k other.side
 
 pub beside : (sc : Scenario) (f : List ℕ) (w : WorldState) (h : HartNo) (lot : Lot) (k : MapId) (x : ℕ) → IsUnder sc f w h lot → x < sc.ram → IsOff lot x → mapping_in (owner_of w x) ≡ Some k → k.hart.0 ≡ h.0 → IsOther w h lot k x
@@ -154,21 +172,23 @@ beside sc f w h lot k x u there off is own =
       here = here;
       label = at.is.label;
       off = far;
-      still = all_at (λ other. is_lot lot.id other ≡ false → IsStill other) (driver_of w h.0).lots other u.others here far;
+      still = all_at (λ other. is_lot lot.id other ≡ false → IsStill (driver_of w h.0).fixed other) (driver_of w h.0).lots other u.others here far;
       owner = at.owner;
     }
 
-pub side_restful : (k : MapId) (lot : Lot) → IsStill lot → IsRestful (owner_of_side k lot.side)
-side_restful k lot (inl is) = subst (λ (s : Side). IsRestful (owner_of_side k s)) (sym is) tt
-side_restful k lot (inr is) = subst (λ (s : Side). IsRestful (owner_of_side k s)) (sym is.0) tt
+pub side_restful : (f : Fixed) (k : MapId) (lot : Lot) → f.light ≡ false → IsStill f lot → IsRestful (owner_of_side k lot.side)
+side_restful f k lot full (StillDevice is) = subst (λ (s : Side). IsRestful (owner_of_side k s)) (sym is) tt
+side_restful f k lot full (StillSynced is kind) = subst (λ (s : Side). IsRestful (owner_of_side k s)) (sym is) tt
+side_restful f k lot full (StillOwn is kind) = subst (λ (s : Side). IsRestful (owner_of_side k s)) (sym is) tt
+side_restful f k lot full (StillSent is light) = absurd (let both : true ≡ false = sym light ∙ full in cc)
 
 pub restful : (sc : Scenario) (f : List ℕ) (w : WorldState) (h : HartNo) (lot : Lot) (k : MapId) (x : ℕ) → IsUnder sc f w h lot → x < sc.ram → IsOff lot x → mapping_in (owner_of w x) ≡ Some k → k.hart.0 ≡ h.0 → IsRestful (owner_of w x)
 restful sc f w h lot k x u there off is own =
     let o = beside sc f w h lot k x u there off is own in
-    subst IsRestful (sym o.owner) (side_restful k o.other o.still)
+    subst IsRestful (sym o.owner) (side_restful (driver_of w h.0).fixed k o.other (full_fences sc f w h lot u) o.still)
 
 -- its label is another
 pub far_label : (sc : Scenario) (f : List ℕ) (w : WorldState) (h : HartNo) (lot : Lot) (k : MapId) (x : ℕ) → IsUnder sc f w h lot → (o : IsOther w h lot k x) → k.label.0 ≡ lot.id.label.0 → ⊥
 far_label sc f w h lot k x u o same =
     let one : o.other ≡ lot = one_lot sc f w h.0 o.other lot u.flat o.here u.here (o.label ∙ same) in
-    moving lot u.moves (subst IsStill one o.still)
+    not_still sc f w h lot u (subst (λ (l : Lot). IsStill (driver_of w h.0).fixed l) one o.still)

@@ -1,7 +1,7 @@
 -- A step of a plan with no turn that puts an entry in its hart's queue.
 use Rattle.std.specs.Prelude.{None, true, false}
 use Rattle.std.specs.List.{list_any}
-use Rattle.std.proofs.Common.{◌≡◌, ℕ, ◌<◌, List, [], ◌∷◌, ◌++◌, sym, ap, ◌∙◌, inl, inr, subst}
+use Rattle.std.proofs.Common.{◌≡◌, ℕ, ◌<◌, List, [], ◌∷◌, ◌++◌, sym, ap, ◌∙◌, inl, inr}
 use Rattle.nc_num.specs.Memory.{byte}
 use Rattle.nc_num.specs.Places.{covers}
 use Rattle.nc_num.specs.declared.names.HartNo.{HartNo}
@@ -12,13 +12,13 @@ use Rattle.nc_scen.specs.Regions.{slots_of}
 use Rattle.nc_scen.specs.declared.scenario.Scenario.{Scenario}
 use Rattle.nc_sg.specs.declared.list.Entry.{Entry}
 use Rattle.nc_rules.specs.declared.lots.Lot.{Lot}
+use Rattle.nc_rules.specs.declared.lots.LotId.{LotId}
 use Rattle.nc_rules.specs.declared.lots.Side.TheVariants as sides
 use Rattle.nc_rules.specs.declared.steps.Step.{Step}
-use Rattle.nc_rules.specs.declared.steps.Turn.{Turn}
 use Rattle.nc_rules.specs.declared.steps.Turn.TheVariants as turns
 use Rattle.nc_rules.specs.Lots.{owner_of_side}
 use Rattle.nc_rules.specs.Machine.{MachineState, hart_of}
-use Rattle.nc_rules.specs.Turns.{lots_after}
+use Rattle.nc_rules.specs.Turns.{is_area}
 use Rattle.nc_rules.specs.Driver.{Went}
 use Rattle.nc_rules.specs.Watched.{owner_of}
 use Rattle.nc_rules.specs.World.{WorldState, driver_of}
@@ -30,17 +30,19 @@ use Rattle.nc_row_issues.proofs.PlacePushes.{calm_pushed}
 use Rattle.nc_row_issues.proofs.RowIssues.{rows_issue}
 use Rattle.nc_row_plans.specs.Laws.{PutsDevice}
 use Rattle.nc_flatness.specs.Books.{book_of}
-use Rattle.nc_flatness.specs.Plans.{PlanGoes}
+use Rattle.nc_flatness.specs.Plans.{HasEnd}
 use Rattle.nc_flatness.specs.Flatness.{IsUnseen, BytesStand}
 use Rattle.nc_flatness.proofs.Outcomes.{gone}
 use Rattle.nc_flat_starts.proofs.Frames.{IsPlace, IsOff, last_none}
 use Rattle.nc_flat_plans.proofs.OwnRows.{BackAs, lent_put, same_full}
 use Rattle.nc_flat_plans.proofs.Passes.{IsPlain, IsClear, passes_by}
 use Rattle.nc_flat_plans.proofs.Drivers.{IsNext, IsDone, coming_next}
-use Rattle.nc_flat_plans.proofs.Places.{IsUnder, not_still, its_id, its_place}
-use Rattle.nc_flat_plans.proofs.Shifts.{stay_shift}
-use Rattle.nc_flat_plans.proofs.StepFrames.{no_areas, step_bytes, enters_by, stays_dropped, queue_stays, queue_more, unseen_before, moved_seen}
-use Rattle.nc_flat_plans.proofs.OwnPlaces.{to_come, lent_as, back_as, row_byte, as_lent, as_back}
+use Rattle.nc_flat_plans.proofs.Places.{IsUnder, its_id, its_place}
+use Rattle.nc_flat_plans.proofs.Shifts.{sided, stay_shift}
+use Rattle.nc_flat_plans.proofs.StepFrames.{step_bytes, enters_by}
+use Rattle.nc_flat_plans.proofs.StepQueues.{stays_dropped, stays_zeroed, queue_stays, queue_more}
+use Rattle.nc_flat_plans.proofs.StepSeen.{unseen_before, moved_seen}
+use Rattle.nc_flat_plans.proofs.OwnPlaces.{to_come, lent_as, back_as, as_lent, as_back}
 
 -- ---- a step with no turn
 
@@ -48,14 +50,13 @@ pub record IsStaying (sc : Scenario) (f : List ℕ) (w : WorldState) (h : HartNo
   pub next : IsNext sc f w h o s rest
   pub under : IsUnder sc f w h lot
   pub stay : s.last ≡ turns.Stay
-  pub plain : ends lot.id s ≡ false
+  pub plain : (id : LotId) → ends id s ≡ false
+  pub mapping : is_area lot.kind ≡ false
+  pub later : HasEnd lot.id rest
 
 -- what it puts goes off in front of what is to come
 pub stay_comes : (sc : Scenario) (f : List ℕ) (w : WorldState) (h : HartNo) (o : Op) (s : Step) (rest : List Step) (lot : Lot) (i : ℕ) → IsStaying sc f w h o s rest lot → to_come h lot i (s ∷ rest) ≡ act_coming s.act ++ to_come h lot i rest
-stay_comes sc f w h o s rest lot i c =
-    let d = driver_of w h.0 in
-    let left : PlanGoes d.fixed d.lots rest = subst (λ (t : Turn). PlanGoes d.fixed (lots_after t d.lots) rest) c.stay c.next.left in
-    coming_next d.fixed d.lots lot (its_id h lot i) s rest left c.under.here (not_still sc f w h lot c.under) c.plain
+stay_comes sc f w h o s rest lot i c = coming_next lot (its_id h lot i) s rest c.later (c.plain lot.id)
 
 -- ---- an entry
 
@@ -82,10 +83,11 @@ put_row sc f w h o s rest k went e lot i d x c done by entry put p row =
     elim u.moves [
       | inl side ↦
           let puts = put.lends side i d x p in
-          as_lent sc f w h k went lot i d x (byte f x) rest u p side shift done.rest
-          (lent_put dir w.machine k e n (byte f x) x y (to_come h lot i rest) by puts.0 puts.1 (lent_as sc f w h w.machine lot i d x (byte f x) (bare e ∷ to_come h lot i rest) u p side comes row))
+          as_lent sc f w h k went lot i d x (byte f x) rest u c.mapping p side shift done.rest
+          (lent_put dir w.machine k e n (byte f x) x y (to_come h lot i rest) by puts.0 puts.1 (lent_as sc f w h w.machine lot i d x (byte f x) (bare e ∷ to_come h lot i rest) u c.mapping p side comes row))
       | inr side ↦
-          as_back sc f w h k went lot i d x (byte f x) rest u p side shift done.rest (put.backs side i d x p (back_as sc f w h w.machine lot i d x (byte f x) (bare e ∷ to_come h lot i rest) u p side comes row))
+          as_back sc f w h k went lot i d x (byte f x) rest u c.mapping p side shift done.rest
+          (put.backs side i d x p (back_as sc f w h w.machine lot i d x (byte f x) (bare e ∷ to_come h lot i rest) u c.mapping p side comes row))
     ]
 
 pub put_bytes : (sc : Scenario) (f : List ℕ) (w : WorldState) (h : HartNo) (o : Op) (s : Step) (rest : List Step) (k : MachineState) (went : Went) (e : QueueEntry) (lot : Lot) → IsStaying sc f w h o s rest lot → IsDone (driver_of w h.0) s rest went
@@ -99,14 +101,12 @@ put_bytes sc f w h o s rest k went e lot c done by entry put queued last =
     let shift = stay_shift sc f w h went lot s rest u done c.stay in
     let full : (i : ℕ) → list_any is_full (to_come h lot i (s ∷ rest)) ≡ list_any is_full (to_come h lot i rest) =
     λ i. ap (list_any is_full) (stay_comes sc f w h o s rest lot i c ∙ ap (λ (es : List QueueEntry). es ++ to_come h lot i rest) entry) ∙ same_full e (to_come h lot i rest) put.plain.full in
-    step_bytes sc f w h o s rest k went lot lot.side c.next done u shift (enters_by sc f w h k e flat by put.plain.fence) (record {
-      passes = λ x v there off beyond row. rows_issue.passed (book_of w) (owner_of w x) v m k h.0 e x by (passes_by (book_of w) (owner_of w x) m h.0 e x put.plain (no_areas sc f w flat) (put.clear x there off beyond)) row;
-      row = λ i d x v p row.
-          let same = row_byte sc f w h lot i d x v u p row in
-          subst (λ (b : ℕ). Row (book_of (gone w h k went)) (owner_of_side (its_id h lot i) lot.side) b k x) (sym same)
-          (put_row sc f w h o s rest k went e lot i d x c done by entry put p (subst (λ (b : ℕ). Row (book_of w) (owner_of w x) b m x) same row));
+    step_bytes sc f w h o s rest k went lot (sided lot.side) c.next done u c.mapping shift (enters_by sc f w h k e flat by put.plain.fence) (record {
+      passes = λ x b there off beyond row. rows_issue.passed (book_of w) (owner_of w x) b m k h.0 e x by (passes_by (book_of w) (owner_of w x) m h.0 e x put.plain (put.clear x there off beyond)) row;
+      row = λ i d x p row. put_row sc f w h o s rest k went e lot i d x c done by entry put p row;
       queue = queue_more (book_of v) (owner_of v) m k h.0 e by queued
-          (queue_stays sc f w h k went flat (λ b is. stays_dropped sc f w h k went lot s rest b u c.next.rest_is done.rest shift (λ i was. sym (full i) ∙ was) is));
+          (queue_stays sc f w h k went flat (λ b is. stays_dropped sc f w h k went lot s rest b u c.next.rest_is done.rest shift (λ i was. sym (full i) ∙ was) is)
+          (λ b is. stays_zeroed sc f w h k went lot s rest b u c.next.rest_is done c.stay c.plain is));
       lasting = last_none (book_of v) f h.0 (hart_of k h.0).last (rest_last went.driver.rest) (ap rest_last done.rest ∙ last);
       calm = λ z slot unseen.
           let before = unseen_before sc f w h k went lot lot.side z u shift (moved_seen lot u.moves) unseen in

@@ -1,5 +1,5 @@
 -- A driver's step: whose the places of the lot in hand are behind it, and what each mapping of the hart is.
-use Rattle.std.specs.Prelude.{Option, Some, ◌&&◌, ◌==◌, not, nat_le, nat_lt, Bool, true, false, if◌then◌else◌, filter, option_map, slice_get}
+use Rattle.std.specs.Prelude.{Option, Some, None, ◌&&◌, ◌==◌, not, nat_le, nat_lt, Bool, true, false, if◌then◌else◌, filter, option_map, slice_get}
 use Rattle.std.specs.List.{find}
 use Rattle.std.proofs.Common.{◌≡◌, ◌⊎◌, ℕ, ◌+◌, ◌<◌, List, [], ◌∷◌, length, refl, sym, ap, ◌∙◌, inl, inr, subst, arith}
 use Rattle.std.proofs.lemmas.Bool.{cases_Bool, cond-true, cond-false, eqb-true, and_parts, and_left, and_right, false_from_ne_true}
@@ -10,7 +10,7 @@ use Rattle.nc_num.specs.declared.places.Span.{Span}
 use Rattle.nc_plan.specs.Plans.{In}
 use Rattle.nc_plan.proofs.PlanLaws.{in_map}
 use Rattle.nc_model.specs.declared.owners.Owner.{Owner}
-use Rattle.nc_model.specs.declared.owners.Owner.TheVariants.{Thread}
+use Rattle.nc_model.specs.declared.owners.Owner.TheVariants.{Thread, Pool}
 use Rattle.nc_own.specs.Books.{owner_in}
 use Rattle.nc_scen.specs.declared.scenario.Scenario.{Scenario}
 use Rattle.nc_sg.specs.declared.list.Entry.{Entry}
@@ -34,18 +34,45 @@ use Rattle.nc_holds.proofs.OwnerMoves.{moved_to, moved_off, in_named}
 use Rattle.nc_holds.proofs.OwnerSides.{side_move, move_covers, owners_sided}
 use Rattle.nc_holds.proofs.OwnerEnds.{end_move}
 use Rattle.nc_rows.specs.Rows.{Loan}
-use Rattle.nc_flatness.specs.Books.{is_entry_of, loan_by, loan_of}
-use Rattle.nc_flatness.proofs.Loans.{one_lot, lot_of, mapping_area}
+use Rattle.nc_flatness.specs.Books.{is_entry_of, loan_by, loan_of, mapping_in}
+use Rattle.nc_flatness.proofs.Loans.{one_lot}
 use Rattle.nc_flatness.proofs.Owned.{me_is}
 use Rattle.nc_flat_starts.proofs.Frames.{IsPlace, IsOff}
 use Rattle.nc_flat_plans.proofs.Drivers.{IsDone}
 use Rattle.nc_flat_plans.proofs.Places.{IsUnder, lent_side, its_id, owned, in_ram}
 
-pub record IsShift (w : WorldState) (h : HartNo) (went : Went) (lot : Lot) (to : Side) : Type 0 where
-  pub on : (i : ℕ) (e : Entry) (x : ℕ) → IsPlace lot i e x → owner_in (owners_moved w.owners went.moves.transfers) x ≡ owner_of_side (its_id h lot i) to
+-- the owner of its mappings behind the step, by a side
+abbrev pub sided : Side → MapId → Owner
+sided side n = owner_of_side n side
+
+-- a side of which the channel sees the places
+abbrev pub IsSeenSide : Side → Type 0
+IsSeenSide side = (side ≡ sides.Lending) ⊎ ((side ≡ sides.Device) ⊎ (side ≡ sides.Returning))
+
+pub seen_mapped : (n : MapId) (side : Side) → IsSeenSide side → mapping_in (owner_of_side n side) ≡ None → ⊥
+seen_mapped n side (inl is) none = let both : Some n ≡ None = sym (ap (λ (t : Side). mapping_in (owner_of_side n t)) is) ∙ none in cc
+seen_mapped n side (inr (inl is)) none = let both : Some n ≡ None = sym (ap (λ (t : Side). mapping_in (owner_of_side n t)) is) ∙ none in cc
+seen_mapped n side (inr (inr is)) none = let both : Some n ≡ None = sym (ap (λ (t : Side). mapping_in (owner_of_side n t)) is) ∙ none in cc
+
+-- the mapping stays, or it has none of the places any more
+abbrev pub StaysMapped : WorldState → HartNo → Went → MapId → Owner → Type 0
+StaysMapped w h went n o = (mapping_in o ≡ None) ⊎ (loan_of went.driver n ≡ loan_of (driver_of w h.0) n)
+
+pub record IsShift (w : WorldState) (h : HartNo) (went : Went) (lot : Lot) (to : MapId → Owner) : Type 0 where
+  pub on : (i : ℕ) (e : Entry) (x : ℕ) → IsPlace lot i e x → owner_in (owners_moved w.owners went.moves.transfers) x ≡ to (its_id h lot i)
   pub off : (x : ℕ) → IsOff lot x → owner_in (owners_moved w.owners went.moves.transfers) x ≡ owner_of w x
   pub others : (k : MapId) → (k.label.0 ≡ lot.id.label.0 → ⊥) → loan_of went.driver k ≡ loan_of (driver_of w h.0) k
-  pub own : (i : ℕ) → (to ≡ sides.Own) ⊎ (loan_of went.driver (its_id h lot i) ≡ loan_of (driver_of w h.0) (its_id h lot i))
+  pub own : (i : ℕ) → StaysMapped w h went (its_id h lot i) (to (its_id h lot i))
+  pub names : (n k : MapId) → mapping_in (to n) ≡ Some k → n ≡ k
+
+-- a side names its own mapping at most
+sided_names : (side : Side) (n k : MapId) → mapping_in (owner_of_side n side) ≡ Some k → n ≡ k
+sided_names sides.Lending n k is = cc
+sided_names sides.Device n k is = cc
+sided_names sides.Returning n k is = cc
+sided_names sides.Synced n k is = cc
+sided_names sides.Wanted n k is = absurd cc
+sided_names sides.Own n k is = absurd cc
 
 pub hart_there : (sc : Scenario) (f : List ℕ) (w : WorldState) (h : HartNo) (lot : Lot) → IsUnder sc f w h lot → h.0 < length w.machine.harts
 hart_there sc f w h lot u = omega (arith, u.lt, u.flat.world.of_scenario.harts)
@@ -62,17 +89,21 @@ loan_kept d e n fixed = ap (λ (f : Fixed). loan_in f e.lots n) fixed
 
 -- ---- no turn
 
-pub stay_shift : (sc : Scenario) (f : List ℕ) (w : WorldState) (h : HartNo) (went : Went) (lot : Lot) (s : Step) (rest : List Step) → IsUnder sc f w h lot → IsDone (driver_of w h.0) s rest went → s.last ≡ turns.Stay → IsShift w h went lot lot.side
+pub stay_owner : (d : DriverState) (w : WorldState) (s : Step) (rest : List Step) (went : Went) (x : ℕ) → IsDone d s rest went → s.last ≡ turns.Stay → owner_in (owners_moved w.owners went.moves.transfers) x ≡ owner_of w x
+stay_owner d w s rest went x done stay = ap (λ (ts : List (Span × Owner)). owner_in (owners_moved w.owners ts) x) (done.transfers ∙ ap (λ (t : Turn). transfers_of d.fixed.me d.lots t) stay)
+
+pub stay_loans : (d : DriverState) (s : Step) (rest : List Step) (went : Went) → IsDone d s rest went → s.last ≡ turns.Stay → (n : MapId) → loan_of went.driver n ≡ loan_of d n
+stay_loans d s rest went done stay n = loan_kept d went.driver n done.fixed ∙ ap (λ (ls : List Lot). loan_in d.fixed ls n) (done.lots ∙ ap (λ (t : Turn). lots_after t d.lots) stay)
+
+pub stay_shift : (sc : Scenario) (f : List ℕ) (w : WorldState) (h : HartNo) (went : Went) (lot : Lot) (s : Step) (rest : List Step) → IsUnder sc f w h lot → IsDone (driver_of w h.0) s rest went → s.last ≡ turns.Stay → IsShift w h went lot (sided lot.side)
 stay_shift sc f w h went lot s rest u done stay =
     let d = driver_of w h.0 in
-    let none : went.moves.transfers ≡ [] = done.transfers ∙ ap (λ (t : Turn). transfers_of d.fixed.me d.lots t) stay in
-    let lots : went.driver.lots ≡ d.lots = done.lots ∙ ap (λ (t : Turn). lots_after t d.lots) stay in
-    let loans : (k : MapId) → loan_of went.driver k ≡ loan_of d k = λ k. loan_kept d went.driver k done.fixed ∙ ap (λ (ls : List Lot). loan_in d.fixed ls k) lots in
     record {
-      on = λ i e x p. ap (λ (ts : List (Span × Owner)). owner_in (owners_moved w.owners ts) x) none ∙ owned sc f w h lot i e x u p;
-      off = λ x off. ap (λ (ts : List (Span × Owner)). owner_in (owners_moved w.owners ts) x) none;
-      others = λ k far. loans k;
-      own = λ i. inr (loans (its_id h lot i));
+      on = λ i e x p. stay_owner d w s rest went x done stay ∙ owned sc f w h lot i e x u p;
+      off = λ x off. stay_owner d w s rest went x done stay;
+      others = λ k far. stay_loans d s rest went done stay k;
+      own = λ i. inr (stay_loans d s rest went done stay (its_id h lot i));
+      names = sided_names lot.side;
     }
 
 -- ---- the lot gets a side
@@ -109,17 +140,23 @@ set_here side (x ∷ lots) lot (inr later) = inr (set_here side lots lot later)
 only_named : (sc : Scenario) (f : List ℕ) (w : WorldState) (h : HartNo) (lot other : Lot) → IsUnder sc f w h lot → In other (driver_of w h.0).lots → is_lot lot.id other ≡ true → other ≡ lot
 only_named sc f w h lot other u there named = one_lot sc f w h.0 other lot u.flat there u.here (ap (λ (id : LotId). id.label.0) (named_so other lot.id named))
 
+-- with a side its mappings stay
+pub side_loans : (sc : Scenario) (f : List ℕ) (w : WorldState) (h : HartNo) (went : Went) (lot : Lot) (to : Side) → IsUnder sc f w h lot → is_wanted to ≡ false → went.driver.fixed ≡ (driver_of w h.0).fixed
+    → went.driver.lots ≡ set_side to lot.id (driver_of w h.0).lots → (n : MapId) → loan_of went.driver n ≡ loan_of (driver_of w h.0) n
+side_loans sc f w h went lot to u now fixed lots n =
+    let d = driver_of w h.0 in
+    loan_kept d went.driver n fixed ∙ ap (λ (ls : List Lot). loan_in d.fixed ls n) lots
+    ∙ loans_sided d.fixed n to lot.id d.lots now (λ other there named. subst (λ (l : Lot). is_wanted l.side ≡ false) (sym (only_named sc f w h lot other u there named)) (lent_side lot u.moves))
+
 pub side_shift : (sc : Scenario) (f : List ℕ) (w : WorldState) (h : HartNo) (went : Went) (lot : Lot) (to : Side) → IsUnder sc f w h lot → is_wanted to ≡ false → went.driver.fixed ≡ (driver_of w h.0).fixed
-    → went.driver.lots ≡ set_side to lot.id (driver_of w h.0).lots → went.moves.transfers ≡ of_those (to_side (driver_of w h.0).fixed.me to) lot.id (driver_of w h.0).lots → IsShift w h went lot to
+    → went.driver.lots ≡ set_side to lot.id (driver_of w h.0).lots → went.moves.transfers ≡ of_those (to_side (driver_of w h.0).fixed.me to) lot.id (driver_of w h.0).lots → IsShift w h went lot (sided to)
 side_shift sc f w h went lot to u now fixed lots moves =
     let d = driver_of w h.0 in
     let me = d.fixed.me in
     let k = held sc f w h lot u in
     let ts = of_those (to_side me to) lot.id d.lots in
     let mine : me ≡ hart h.0 = me_is w h.0 u.flat.world.holds (hart_there sc f w h lot u) in
-    let loans : (n : MapId) → loan_of went.driver n ≡ loan_of d n =
-    λ n. loan_kept d went.driver n fixed ∙ ap (λ (ls : List Lot). loan_in d.fixed ls n) lots
-    ∙ loans_sided d.fixed n to lot.id d.lots now (λ other there named. subst (λ (l : Lot). is_wanted l.side ≡ false) (sym (only_named sc f w h lot other u there named)) (lent_side lot u.moves)) in
+    let loans : (n : MapId) → loan_of went.driver n ≡ loan_of d n = side_loans sc f w h went lot to u now fixed lots in
     let agree : OwnersAgree me (owners_moved w.owners ts) (set_side to lot.id d.lots) =
     owners_sided (length w.machine.cache.ram) d.fixed to lot.id d.lots w.owners k.driver.lots u.flat.world.holds.owners k.agrees.apart k.agrees.owners in
     record {
@@ -135,6 +172,7 @@ side_shift sc f w h went lot to u now fixed lots moves =
           off r.i r.entry (record { entry = subst (λ (l : Lot). slice_get l.list.entries r.i ≡ Some r.entry) same r.here.entry; on = move_covers me to lot.id d.lots t x r over }));
       others = λ n far. loans n;
       own = λ i. inr (loans (its_id h lot i));
+      names = sided_names to;
     }
 
 -- ---- the lot ends
@@ -162,21 +200,26 @@ other_without id n (lot ∷ lots) other =
       | inr fails ↦ ap (find (is_entry_of n)) (cond-true (not (is_lot id lot)) (lot ∷ left) left (ap not fails)) ∙ find_both (is_entry_of n) lot left lots (other_without id n lots other)
     ]
 
-owner_end : (me : HartNo) (lot : Lot) → is_area lot.kind ≡ false → last_owner me lot ≡ Thread me
-owner_end me lot is = cond-false (is_area lot.kind) _ (Thread me) is
+-- a mapping is its hart's behind it, and an area nobody's
+none_by : (t : Bool) (h : HartNo) → mapping_in (if t then Pool else Thread h) ≡ None
+none_by true h = refl
+none_by false h = refl
+
+none_last : (h : HartNo) (lot : Lot) → mapping_in (last_owner h lot) ≡ None
+none_last h lot = none_by (is_area lot.kind) h
 
 pub end_shift : (sc : Scenario) (f : List ℕ) (w : WorldState) (h : HartNo) (went : Went) (lot : Lot) → IsUnder sc f w h lot → went.driver.fixed ≡ (driver_of w h.0).fixed
-    → went.driver.lots ≡ filter (λ other. not (is_lot lot.id other)) (driver_of w h.0).lots → went.moves.transfers ≡ of_those (to_end (driver_of w h.0).fixed.me) lot.id (driver_of w h.0).lots → IsShift w h went lot sides.Own
+    → went.driver.lots ≡ filter (λ other. not (is_lot lot.id other)) (driver_of w h.0).lots → went.moves.transfers ≡ of_those (to_end (driver_of w h.0).fixed.me) lot.id (driver_of w h.0).lots → IsShift w h went lot (λ n. last_owner h lot)
 end_shift sc f w h went lot u fixed lots moves =
     let d = driver_of w h.0 in
     let me = d.fixed.me in
     let ts = of_those (to_end me) lot.id d.lots in
     let mine : me ≡ hart h.0 = me_is w h.0 u.flat.world.holds (hart_there sc f w h lot u) in
-    let last : last_owner me lot ≡ Thread h = owner_end me lot (mapping_area lot.kind (lot_of sc f w h.0 lot u.flat u.here).kind) ∙ ap (λ (j : HartNo). Thread j) mine in
+    let last : last_owner me lot ≡ last_owner h lot = ap (λ (j : HartNo). last_owner j lot) mine in
     record {
       on = λ i e x p.
           ap (λ (us : List (Span × Owner)). owner_in (owners_moved w.owners us) x) moves
-          ∙ moved_to (λ (o : Owner). o ≡ Thread h) w.owners ts x (e.span, last_owner me lot) (omega (arith, in_ram sc f w h lot i e x u p, u.flat.world.holds.owners, u.flat.world.of_scenario.ram))
+          ∙ moved_to (λ (o : Owner). o ≡ last_owner h lot) w.owners ts x (e.span, last_owner me lot) (omega (arith, in_ram sc f w h lot i e x u p, u.flat.world.holds.owners, u.flat.world.of_scenario.ram))
           (in_named {A = Span × Owner} (to_end me) lot.id d.lots lot (e.span, last_owner me lot) u.here (its_name lot lot.id refl) (in_map {Y = Span × Owner} (λ (c : Entry). (c.span, last_owner me lot)) e lot.list.entries (at_get lot.list.entries i e p.entry))) p.on
           (λ t there over.
           let r = end_move me lot.id d.lots t there in
@@ -189,5 +232,6 @@ end_shift sc f w h went lot u fixed lots moves =
           let same = only_named sc f w h lot r.lot u r.here.lot_in r.named in
           off r.i r.entry (record { entry = subst (λ (l : Lot). slice_get l.list.entries r.i ≡ Some r.entry) same r.here.entry; on = subst (λ (c : Span × Owner). covers c.0 x ≡ true) (sym r.is) over }));
       others = λ n far. loan_kept d went.driver n fixed ∙ ap (λ (ls : List Lot). loan_in d.fixed ls n) lots ∙ ap (option_map (loan_by d.fixed n)) (other_without lot.id n d.lots far);
-      own = λ i. inl refl;
+      own = λ i. inl (none_last h lot);
+      names = λ n k is. absurd (let both : None ≡ Some k = sym (none_last h lot) ∙ is in cc);
     }

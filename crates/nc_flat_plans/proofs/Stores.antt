@@ -32,33 +32,35 @@ use Rattle.nc_rules.specs.declared.steps.Turn.{Turn}
 use Rattle.nc_rules.specs.declared.steps.Turn.TheVariants as turns
 use Rattle.nc_rules.specs.Machine.{hart_of}
 use Rattle.nc_rules.specs.Calls.{issue_next}
+use Rattle.nc_rules.specs.Turns.{is_area}
 use Rattle.nc_rules.specs.Watched.{owner_of}
 use Rattle.nc_rules.specs.World.{WorldState, driver_of}
 use Rattle.nc_calls.proofs.CallProofs.{issues_by_place}
-use Rattle.nc_holds.specs.Held.{slots_span}
-use Rattle.nc_rows.specs.Ahead.{ends, turns_lot, stores_io, tokens_lot, is_full, act_coming}
+use Rattle.nc_rows.specs.Ahead.{ends, turns_lot, stores_io, tokens_lot, settling, is_full, act_coming}
 use Rattle.nc_rows.specs.Parts.{StoreIsQueued, IsPiece, LastIs, act_last, rest_last}
-use Rattle.nc_rows.specs.Rows.{gives_here, Row}
+use Rattle.nc_rows.specs.Rows.{gives_here}
 use Rattle.nc_row_issues.proofs.PlacePushes.{calm_pushed}
 use Rattle.nc_row_issues.proofs.RowIssues.{rows_issue}
 use Rattle.nc_row_plans.specs.Laws.{Puts}
 use Rattle.nc_flatness.specs.Books.{book_of}
-use Rattle.nc_flatness.specs.Plans.{HasByte, IsWithin, GoesIn, ComesOut, IsBack, IsStore}
+use Rattle.nc_flatness.specs.Plans.{HasEnd, HasByte, IsWithin, GoesIn, ComesOut, IsBack, IsStore}
 use Rattle.nc_flatness.specs.Steps.{Goes}
 use Rattle.nc_flatness.proofs.Outcomes.{gone}
 use Rattle.nc_flatness.proofs.Loans.{loan_is}
 use Rattle.nc_flatness.proofs.Lasts.{moved_on}
-use Rattle.nc_flatness.proofs.Seen.{seen, slots_at_is, slots_are, device_long, device_place_of}
+use Rattle.nc_flatness.proofs.Seen.{seen, device_long, device_place_of}
 use Rattle.nc_flat_plans.proofs.OwnRows.{BackAs, back_put}
 use Rattle.nc_flat_plans.proofs.Passes.{store_plain, passes_by}
-use Rattle.nc_flat_plans.proofs.Drivers.{IsNext, done_so}
+use Rattle.nc_flat_plans.proofs.Drivers.{IsNext, done_so, returns_later}
+use Rattle.nc_flat_plans.proofs.PoolPlaces.{slot_unpooled}
 use Rattle.nc_flat_plans.proofs.Places.{IsUnder, its_id, its_loan, its_place, known, in_ram, unslotted, unpooled, seen_its}
-use Rattle.nc_flat_plans.proofs.Shifts.{hart_there, held}
-use Rattle.nc_flat_plans.proofs.StepFrames.{no_areas, enters_by, own_drop, queue_stays, queue_more}
+use Rattle.nc_flat_plans.proofs.Shifts.{held}
+use Rattle.nc_flat_plans.proofs.StepFrames.{enters_by}
+use Rattle.nc_flat_plans.proofs.StepQueues.{own_drop, queue_stays, queue_more}
 use Rattle.nc_flat_plans.proofs.Copies.{piece_of, no_byte, has_byte, piece_byte, IsInSlot, IsInBuffer, in_slots, slot_clear, buffer_clear, buffer_device, slot_buffer, none_there}
-use Rattle.nc_flat_plans.proofs.OwnPlaces.{to_come, row_byte, back_as}
+use Rattle.nc_flat_plans.proofs.OwnPlaces.{to_come, back_as}
 use Rattle.nc_flat_plans.proofs.Puts.{IsStaying, IsPut, put_bytes}
-use Rattle.nc_flat_plans.proofs.Backs.{last_comes, home_bytes}
+use Rattle.nc_flat_plans.proofs.Backs.{unsettled, last_comes, home_bytes}
 use Rattle.nc_flat_plans.proofs.Issues.{IsOpNext, op_there, op_enters, store_silent, went_by, op_goes}
 
 -- ---- the piece
@@ -67,6 +69,7 @@ use Rattle.nc_flat_plans.proofs.Issues.{IsOpNext, op_there, op_enters, store_sil
 pub record IsPieceNext (sc : Scenario) (f : List ℕ) (w : WorldState) (h : HartNo) (o : Op) (s : Step) (rest : List Step) (dst : Span) (lot : Lot) : Type 0 where
   pub op : IsOpNext sc f w h o (hart_ops.Store dst Pma Last) s rest
   pub under : IsUnder sc f w h lot
+  pub mapping : is_area lot.kind ≡ false
   -- no later store gives its bytes
   pub once : (y : ℕ) → covers dst y ≡ true → HasByte (driver_of w h.0).fixed lot.id rest y false
 
@@ -139,7 +142,7 @@ buffer_put sc f w h o s rest dst from to lot i e k out at =
     let by = op_enters sc f w h o (stored_op dst) s rest (piece_at w h dst) k.op refl in
     record {
       plain = store_plain dst last Pma;
-      clear = λ x there off beyond. buffer_clear sc f w h lot i e dst last x u at there off beyond;
+      clear = λ x there off beyond. buffer_clear sc f w h lot i e dst last x u k.mapping at there off beyond;
       lends = λ side j d x p. let both : sides.Returning ≡ sides.Lending = sym out.hand.side_is ∙ side in absurd (cc);
       backs = λ side j d x p row.
           back_put lot.list.dir m n (piece_at w h dst) (its_id h lot j) (byte f x) x (its_place w h lot j d x) (to_come h lot j rest) out.back by refl (out.fenced (its_id h lot j)) (buffer_device sc f w h lot i j e d dst last x u at p)
@@ -149,25 +152,11 @@ buffer_put sc f w h o s rest dst from to lot i e k out at =
 
 -- ---- what is asked of its entry
 
--- no byte of a slot is the pool's
-pub slot_unpooled : (sc : Scenario) (f : List ℕ) (w : WorldState) (h : HartNo) (lot : Lot) (z : ℕ) → IsUnder sc f w h lot → covers (slots_of sc) z ≡ true → covers w.machine.pool z ≡ false
-slot_unpooled sc f w h lot z u slot = elim (cases_Bool (covers w.machine.pool z)) [
-  | inl over ↦
-      let d = driver_of w h.0 in
-      let k = held sc f w h lot u in
-      let lt = hart_there sc f w h lot u in
-      let at = slots_at_is sc f w h.0 u.flat lt in
-      let many = slots_are sc f w h.0 u.flat lt in
-      let here : covers (slots_span d.fixed) z ≡ true = rw (at, many) slot in
-      absurd (k.regions.slots_off_pool z here (subst (λ (p : Span). covers p z ≡ true) k.setting.pool over))
-  | inr off ↦ off
-]
-
 slot_queued : (sc : Scenario) (f : List ℕ) (w : WorldState) (h : HartNo) (lot : Lot) (i : ℕ) (e : Entry) (dst : Span) → IsUnder sc f w h lot → IsInSlot w h lot i e dst → StoreIsQueued w.machine.pool Pma dst
-slot_queued sc f w h lot i e dst u at z on = slot_unpooled sc f w h lot z u (in_slots sc f w h lot i e dst z u at on)
+slot_queued sc f w h lot i e dst u at z on = ap (λ (p : Span). covers p z) u.flat.world.of_scenario.pool ∙ slot_unpooled sc f w z u.flat (in_slots sc f w h lot i e dst z u at on)
 
-buffer_queued : (sc : Scenario) (f : List ℕ) (w : WorldState) (h : HartNo) (lot : Lot) (i : ℕ) (e : Entry) (dst : Span) → IsUnder sc f w h lot → IsInBuffer lot i e dst → StoreIsQueued w.machine.pool Pma dst
-buffer_queued sc f w h lot i e dst u at z on = ap (λ (p : Span). covers p z) u.flat.world.of_scenario.pool ∙ unpooled sc f w h lot i e z u (at.place z on)
+buffer_queued : (sc : Scenario) (f : List ℕ) (w : WorldState) (h : HartNo) (lot : Lot) (i : ℕ) (e : Entry) (dst : Span) → IsUnder sc f w h lot → is_area lot.kind ≡ false → IsInBuffer lot i e dst → StoreIsQueued w.machine.pool Pma dst
+buffer_queued sc f w h lot i e dst u plain at z on = ap (λ (p : Span). covers p z) u.flat.world.of_scenario.pool ∙ unpooled sc f w h lot i e z u plain (at.place z on)
 
 -- ---- where the piece of the step goes
 
@@ -219,13 +208,13 @@ ends_not : (id : LotId) (s : Step) (dst : Span) → s.act ≡ acts.Op (stored_op
 ends_not id s dst act stay = ap (λ (t : Turn). turns_lot id t || stores_io (tokens_lot id) s.act) stay ∙ ap (λ (a : Act). false || stores_io (tokens_lot id) a) act
 
 -- another piece or a cache operation comes
-piece_goes : (sc : Scenario) (f : List ℕ) (w : WorldState) (h : HartNo) (o : Op) (s : Step) (rest : List Step) (dst : Span) (lot : Lot) → IsPieceNext sc f w h o s rest dst lot → s.last ≡ turns.Stay → rest_last rest ≡ None
+piece_goes : (sc : Scenario) (f : List ℕ) (w : WorldState) (h : HartNo) (o : Op) (s : Step) (rest : List Step) (dst : Span) (lot : Lot) → IsPieceNext sc f w h o s rest dst lot → s.last ≡ turns.Stay → HasEnd lot.id rest → rest_last rest ≡ None
     → IsPut sc f w h (issue_next w.machine h.0 (stored_op dst)) (piece_at w h dst) rest lot → StoreIsQueued w.machine.pool Pma dst → Goes sc f w (events.Issue h)
-piece_goes sc f w h o s rest dst lot k stay last put queued =
+piece_goes sc f w h o s rest dst lot k stay later last put queued =
     let op = stored_op dst in
     let e = piece_at w h dst in
     let done = done_so sc f w h o s rest _ k.op.next refl in
-    let stays : IsStaying sc f w h o s rest lot = record { next = k.op.next; under = k.under; stay = stay; plain = ends_not lot.id s dst k.op.act stay } in
+    let stays : IsStaying sc f w h o s rest lot = record { next = k.op.next; under = k.under; stay = stay; plain = λ id. ends_not id s dst k.op.act stay; mapping = k.mapping; later = later } in
     op_goes sc f w h o op s rest k.op (store_silent w h (driver_of w h.0).phase dst Pma Last k.op.next.phase)
     (put_bytes sc f w h o s rest (issue_next w.machine h.0 op) (went_by w h op) e lot stays done (op_enters sc f w h o op s rest e k.op refl) (ap act_coming k.op.act) put queued last)
 
@@ -247,39 +236,40 @@ last_goes sc f w h o s rest dst from to lot i e k out at back over =
     λ j. ap (λ (r : List Step). to_come h lot j (s ∷ r)) over ∙ last_comes (its_id h lot j) lot.id s back ∙ ap act_coming k.op.act in
     let none : (j : ℕ) → to_come h lot j rest ≡ [] = λ j. ap (λ (r : List Step). to_come h lot j r) over in
     op_goes sc f w h o op s rest k.op (store_silent w h (driver_of w h.0).phase dst Pma Last k.op.next.phase)
-    (home_bytes sc f w h o s rest n went lot k.op.next done u back over (enters_by sc f w h n entry u.flat by refl) (record {
-      passes = λ x b there off beyond row. rows_issue.passed (book_of w) (owner_of w x) b m n h.0 entry x by (passes_by (book_of w) (owner_of w x) m h.0 entry x put.plain (no_areas sc f w u.flat) (put.clear x there off beyond)) row;
-      back = λ j d x b p row.
+    (home_bytes sc f w h o s rest n went lot k.op.next done u k.mapping back over (enters_by sc f w h n entry u.flat by refl) (record {
+      passes = λ x b there off beyond row. rows_issue.passed (book_of w) (owner_of w x) b m n h.0 entry x by (passes_by (book_of w) (owner_of w x) m h.0 entry x put.plain (put.clear x there off beyond)) row;
+      back = λ j d x p row.
           let id = its_id h lot j in
           let y = its_place w h lot j d x in
-          let same = row_byte sc f w h lot j d x b u p row in
           let comes : to_come h lot j (driver_of w h.0).rest ≡ bare entry ∷ to_come h lot j rest =
           ap (λ (r : List Step). to_come h lot j r) k.op.next.rest_is ∙ all j ∙ ap (λ (es : List QueueEntry). bare entry ∷ es) (sym (none j)) in
           let was : BackAs lot.list.dir id (byte f x) (bare entry ∷ to_come h lot j rest) m x y =
-          back_as sc f w h m lot j d x (byte f x) (bare entry ∷ to_come h lot j rest) u p out.hand.side_is comes (subst (λ (c : ℕ). Row (book_of w) (owner_of w x) c m x) same row) in
-          let now : BackAs lot.list.dir id (byte f x) [] n x y = subst (λ (es : List QueueEntry). BackAs lot.list.dir id (byte f x) es n x y) (none j) (put.backs out.hand.side_is j d x p was) in
-          subst (λ (c : ℕ). BackAs lot.list.dir id c [] n x y) (sym same) now;
-      queue = queue_more (book_of v) (owner_of v) m n h.0 entry by (buffer_queued sc f w h lot i e dst u at)
+          back_as sc f w h m lot j d x (byte f x) (bare entry ∷ to_come h lot j rest) u k.mapping p out.hand.side_is comes row in
+          subst (λ (es : List QueueEntry). BackAs lot.list.dir id (byte f x) es n x y) (none j) (put.backs out.hand.side_is j d x p was);
+      queue = queue_more (book_of v) (owner_of v) m n h.0 entry by (buffer_queued sc f w h lot i e dst u k.mapping at)
           (queue_stays sc f w h n went u.flat (λ b is.
           let drop = own_drop sc f w h lot s rest b u k.op.next.rest_is is in
           let plain : list_any is_full (to_come h lot drop.i (s ∷ rest)) ≡ false = ap (list_any is_full) (all drop.i) in
-          absurd (both_ways (list_any is_full (to_come h lot drop.i (s ∷ rest))) plain drop.ahead)));
+          absurd (both_ways (list_any is_full (to_come h lot drop.i (s ∷ rest))) plain drop.ahead))
+          (λ b is.
+          let ahead : settling is.loan.lot (s ∷ []) ≡ true = ap (λ (r : List Step). settling is.loan.lot r) (sym (ap (λ (g : ℕ). (driver_of w g).rest) is.own ∙ k.op.next.rest_is ∙ ap (λ (r : List Step). s ∷ r) over)) ∙ is.ahead in
+          absurd (both_ways (settling is.loan.lot (s ∷ [])) (unsettled lot.id is.loan.lot s back) ahead)));
       stays = λ z slot calm. calm_pushed m n h.0 entry z by (no_byte m dst (hart_of m h.0).last z (none_there (covers dst z) (λ on. both_ways (covers (slots_of sc) z) (unslotted sc f w h lot i e z u (at.place z on)) slot))) calm;
     }))
 
 -- a piece that goes into a slot
 in_goes : (sc : Scenario) (f : List ℕ) (w : WorldState) (h : HartNo) (o : Op) (s : Step) (rest : List Step) → IsNext sc f w h o s rest → (is : IsStore (driver_of w h.0).fixed (driver_of w h.0).lots s rest)
-    → GoesIn (driver_of w h.0).fixed (driver_of w h.0).lots is.copied.lot is.copied.entry is.from is.to → Goes sc f w (events.Issue h)
+    → GoesIn (driver_of w h.0).fixed (driver_of w h.0).lots is.copied.lot is.copied.entry rest is.from is.to → Goes sc f w (events.Issue h)
 in_goes sc f w h o s rest next is goes =
     let c = is.copied in
     let lot = c.lot in
     let dst = piece_to is.from is.to is.span in
     let u : IsUnder sc f w h lot = record { flat = next.now.flat; lt = next.now.there; here = goes.hand.here; others = goes.hand.others; moves = inl goes.hand.side_is } in
-    let k : IsPieceNext sc f w h o s rest dst lot = record { op = record { next = next; act = is.act }; under = u; once = is.once } in
+    let k : IsPieceNext sc f w h o s rest dst lot = record { op = record { next = next; act = is.act }; under = u; mapping = goes.hand.area_is; once = is.once } in
     let some = piece_some sc f w h o s rest dst k.op in
     let there = to_slot sc f w h lot c.i c.entry is.from is.to is.span u c.here.entry c.bounced (goes.from_is, goes.to_is) is.within some in
     elim is.last [
-      | inl stay ↦ piece_goes sc f w h o s rest dst lot k stay is.next (slot_put sc f w h o s rest dst lot c.i c.entry k goes.hand.side_is there) (slot_queued sc f w h lot c.i c.entry dst u there)
+      | inl stay ↦ piece_goes sc f w h o s rest dst lot k stay goes.later is.next (slot_put sc f w h o s rest dst lot c.i c.entry k goes.hand.side_is there) (slot_queued sc f w h lot c.i c.entry dst u there)
       | inr back ↦ let both : sides.Lending ≡ sides.Returning = sym goes.hand.side_is ∙ back.1 in absurd (cc)
     ]
 
@@ -291,12 +281,13 @@ out_goes sc f w h o s rest next is out =
     let lot = c.lot in
     let dst = piece_to is.from is.to is.span in
     let u : IsUnder sc f w h lot = record { flat = next.now.flat; lt = next.now.there; here = out.hand.here; others = out.hand.others; moves = inr out.hand.side_is } in
-    let k : IsPieceNext sc f w h o s rest dst lot = record { op = record { next = next; act = is.act }; under = u; once = is.once } in
+    let k : IsPieceNext sc f w h o s rest dst lot = record { op = record { next = next; act = is.act }; under = u; mapping = out.hand.area_is; once = is.once } in
     let some = piece_some sc f w h o s rest dst k.op in
     let there = to_buffer sc f w h lot c.i c.entry is.from is.to is.span u c.here.entry c.bounced (out.to_is, out.from_is) is.within some in
     elim is.last [
       | inl stay ↦
-          piece_goes sc f w h o s rest dst lot k stay is.next (buffer_put sc f w h o s rest dst is.from is.to lot c.i c.entry k out there) (buffer_queued sc f w h lot c.i c.entry dst u there)
+          piece_goes sc f w h o s rest dst lot k stay (returns_later sc f w h o s rest lot next u.here out.hand.side_is stay) is.next (buffer_put sc f w h o s rest dst is.from is.to lot c.i c.entry k out there)
+          (buffer_queued sc f w h lot c.i c.entry dst u out.hand.area_is there)
       | inr back ↦ last_goes sc f w h o s rest dst is.from is.to lot c.i c.entry k out there back.0 back.2
     ]
 

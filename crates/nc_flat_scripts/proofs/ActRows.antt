@@ -1,12 +1,13 @@
 -- The bytes of flat memory in a machine that an act of a script leaves.
-use Rattle.std.specs.Prelude.{Option, Some, None, true, false, All, unwrap_or, slice_index_or, ◌/◌}
+use Rattle.std.specs.Prelude.{Option, Some, None, true, false, All, filter, unwrap_or, slice_index_or, ◌/◌}
 use Rattle.std.specs.List.{list_any}
-use Rattle.std.proofs.Common.{◌≡◌, ◌≢◌, ℕ, List, [], ◌∷◌, ◌++◌, length, refl, sym, ap, ◌∙◌, inl, inr, subst}
+use Rattle.std.proofs.Common.{◌≡◌, ◌≢◌, ℕ, ◌<◌, List, [], ◌∷◌, ◌++◌, length, refl, sym, ap, ◌∙◌, inl, inr, subst}
 use Rattle.std.proofs.lemmas.Bool.{cases_eq, false≢true}
 use Rattle.std.proofs.lemmas.List.Elements.{All-push}
 use Rattle.nc_num.specs.Memory.{byte}
 use Rattle.nc_num.specs.Places.{covers, block_at}
 use Rattle.nc_num.specs.declared.names.MemType.{MemType}
+use Rattle.nc_num.specs.declared.names.MemType.TheVariants.{Pma}
 use Rattle.nc_num.specs.declared.places.Span.{Span}
 use Rattle.nc_queue.specs.Entries.{entry_gives}
 use Rattle.nc_queue.specs.declared.entry.Entry.{Entry}
@@ -17,11 +18,14 @@ use Rattle.nc_model.specs.declared.owners.Owner.{Owner}
 use Rattle.nc_model.specs.declared.owners.Owner.TheVariants.{Thread, Passing, Lending, Device, Returning, Synced, Pool}
 use Rattle.nc_scen.specs.Regions.{slots_of}
 use Rattle.nc_scen.specs.declared.scenario.Scenario.{Scenario}
+use Rattle.nc_rules.specs.declared.lots.LotId.{LotId}
 use Rattle.nc_rules.specs.Machine.{MachineState, no_hart, hart_of, queue_of}
 use Rattle.nc_rules.specs.Watched.{owner_of}
 use Rattle.nc_rules.specs.World.{WorldState, driver_of}
 use Rattle.nc_calls.specs.MachineLaws.{SameShape}
 use Rattle.nc_calls.specs.PlaceLaws.{NotHeld, Stays, Loads, Pushes}
+use Rattle.nc_scripts.proofs.Lists.{all_to}
+use Rattle.nc_holds.proofs.ListsC.{last_gone}
 use Rattle.nc_rows.specs.Ahead.{is_full}
 use Rattle.nc_rows.specs.Rows.{Loan, Book, Row}
 use Rattle.nc_rows.specs.Laws.{seen_at, is_lent_area, area_of}
@@ -29,15 +33,17 @@ use Rattle.nc_rows.specs.Places.{PoolRow, CalmRow}
 use Rattle.nc_rows.specs.Parts.{IsQueued, Queued, Uncached, rest_last}
 use Rattle.nc_rows.proofs.PlaceFrames.{of_same}
 use Rattle.nc_rows.proofs.Kept.{rows_keep}
-use Rattle.nc_row_issues.specs.Laws.{Enters}
+use Rattle.nc_row_issues.specs.Laws.{Enters, IsOwn}
 use Rattle.nc_row_issues.proofs.RowIssues.{rows_issue}
 use Rattle.nc_flatness.specs.Books.{book_of}
 use Rattle.nc_flatness.specs.Flatness.{Flatness}
-use Rattle.nc_flatness.specs.Plans.{IsStill}
+use Rattle.nc_flatness.specs.Tokens.{is_lot_token, TokenStands}
 use Rattle.nc_flat_scripts.specs.Entering.{GivesOwn, IsPlain, IsNoMail, IsUnowned, LoanIsApart, OwnerIsApart}
-use Rattle.nc_flat_scripts.proofs.EntryRows.{Comes, row_entered, unowned_none}
+use Rattle.nc_flat_scripts.proofs.EntryRows.{Comes, row_entered, unowned_own, unowned_none}
 use Rattle.nc_flat_scripts.proofs.LastLoads.{LastStays, lasts_stay, lasts_keep}
-use Rattle.nc_flat_scripts.proofs.OwnPlaces.{apart_at, unlent_at}
+use Rattle.nc_flat_scripts.proofs.OwnPlaces.{apart_at}
+use Rattle.nc_flat_scripts.proofs.ScriptCalls.{IsIdle}
+use Rattle.nc_flat_scripts.proofs.StillLots.{none_ends, posted_at}
 use Rattle.nc_flat_scripts.proofs.StepFrames.{StandsIn}
 
 -- ---- no act
@@ -50,6 +56,7 @@ stands_now sc f w flat = record {
   queued = flat.bytes.queued;
   uncached = flat.bytes.uncached;
   unfenced = flat.bytes.unfenced;
+  tokens = flat.bytes.tokens;
   lasts = flat.bytes.lasts;
 }
 
@@ -61,6 +68,13 @@ calm_at m v x row = subst (λ (k : ℕ). PoolRow k m x) (sym row.both.memory) ro
 
 queued_same : (a : Book) (owner : ℕ → Owner) (m n : MachineState) → SameShape m n → ((g : ℕ) → queue_of n g ≡ queue_of m g) → Queued a owner m → Queued a owner n
 queued_same a owner m n shape same queued = λ g. rw (shape.pool, shape.size, same g) (queued g)
+
+-- each queue has the tokens that it had
+pub tokens_kept : (sc : Scenario) (f : List ℕ) (w : WorldState) (n : MachineState) → Flatness sc f w → ((g : ℕ) (id : LotId) → filter (is_lot_token id) (queue_of n g) ≡ filter (is_lot_token id) (queue_of w.machine g))
+    → (g : ℕ) → g < length sc.harts → (driver_of w g).fixed.light ≡ true → All (TokenStands (driver_of w g).rest (queue_of n g)) (driver_of w g).lots
+tokens_kept sc f w n flat same g lt light =
+    let d = driver_of w g in
+    all_to (TokenStands d.rest (queue_of w.machine g)) (TokenStands d.rest (queue_of n g)) d.lots (flat.bytes.tokens g lt light) (λ lot is. same g lot.id ∙ is)
 
 uncached_by : (a : Book) (owner : ℕ → Owner) (m n : MachineState) → SameShape m n → ((x : ℕ) → covers m.pool x ≡ true → NotHeld m x → NotHeld n x) → Uncached a owner m → Uncached a owner n
 uncached_by a owner m n shape keep uncached = λ x over.
@@ -85,23 +99,25 @@ stays_stand sc f w n flat shape stays =
       queued = queued_same a (owner_of w) m n shape stays.queues flat.bytes.queued;
       uncached = uncached_by a (owner_of w) m n shape (λ x over none. (stays.places x).line ∙ none) flat.bytes.uncached;
       unfenced = λ g. ap (list_any is_full) (stays.queues g) ∙ flat.bytes.unfenced g;
+      tokens = tokens_kept sc f w n flat (λ g id. ap (filter (is_lot_token id)) (stays.queues g));
       lasts = lasts_keep sc f w n flat (λ k. inr (ap (λ (hs : List HartState). (slice_index_or hs k no_hart).last) stays.harts));
     }
 
 -- ---- a load
 
-loan_area : (o : Option Loan) (owner : ℕ → Owner) (s x : ℕ) → LoanIsApart o owner s x → area_of o ≡ false
-loan_area None owner s x apart = refl
-loan_area (Some l) owner s x apart = apart.area
+-- no block of an area that is being lent has a place of a hart
+area_block : (o : Option Loan) (owner : ℕ → Owner) (s x y : ℕ) → LoanIsApart o owner s x → area_of o ≡ true → y / s ≡ x / s → IsUnowned (owner y)
+area_block None owner s x y apart area same = absurd (false≢true area)
+area_block (Some l) owner s x y apart area same = apart.area area y same
 
-no_area : (a : Book) (o : Owner) (owner : ℕ → Owner) (s x : ℕ) → OwnerIsApart a owner s x o → is_lent_area a o ≡ false
-no_area a (Lending n) owner s x apart = loan_area (a.loan n) owner s x apart
-no_area a (Thread h) owner s x apart = refl
-no_area a (Passing h g) owner s x apart = refl
-no_area a (Device n) owner s x apart = refl
-no_area a (Returning n) owner s x apart = refl
-no_area a (Synced n) owner s x apart = refl
-no_area a Pool owner s x apart = refl
+lent_block : (a : Book) (o : Owner) (owner : ℕ → Owner) (s x y : ℕ) → OwnerIsApart a owner s x o → is_lent_area a o ≡ true → y / s ≡ x / s → IsUnowned (owner y)
+lent_block a (Lending n) owner s x y apart area same = area_block (a.loan n) owner s x y apart area same
+lent_block a (Thread h) owner s x y apart area same = absurd (false≢true area)
+lent_block a (Passing h g) owner s x y apart area same = absurd (false≢true area)
+lent_block a (Device n) owner s x y apart area same = absurd (false≢true area)
+lent_block a (Returning n) owner s x y apart area same = absurd (false≢true area)
+lent_block a (Synced n) owner s x y apart area same = absurd (false≢true area)
+lent_block a Pool owner s x y apart area same = absurd (false≢true area)
 
 load_lasts : (w : WorldState) (n : MachineState) (h : ℕ) (span : Span) (kind : MemType) (k : ℕ) → rest_last ((book_of w).rest h) ≡ None → Loads w.machine n h span kind → LastStays w n k
 load_lasts w n h span kind k none loads = elim (cases_eq k h) [
@@ -109,21 +125,23 @@ load_lasts w n h span kind k none loads = elim (cases_eq k h) [
   | inr ne ↦ inr (ap (λ (s : HartState). s.last) (loads.others k ne))
 ]
 
--- one that brings no block of the coherent pool, of a hart that copies nothing
-pub load_stands : (sc : Scenario) (f : List ℕ) (w : WorldState) (n : MachineState) (h : ℕ) (span : Span) (kind : MemType) → Flatness sc f w → rest_last ((book_of w).rest h) ≡ None → SameShape w.machine n → Loads w.machine n h span kind
-    → ((x : ℕ) → covers w.machine.pool x ≡ true → x / w.machine.size ≢ block_at span.at w.machine.size) → StandsIn sc f w n
-load_stands sc f w n h span kind flat none shape loads beside =
+-- one of the hart's own bytes, that brings no block of the coherent pool, of a hart that copies nothing
+pub load_stands : (sc : Scenario) (f : List ℕ) (w : WorldState) (n : MachineState) (h : ℕ) (span : Span) (kind : MemType) → Flatness sc f w → rest_last ((book_of w).rest h) ≡ None → SameShape w.machine n → Loads w.machine n h span kind → IsOwn (book_of w) h (owner_of w span.at)
+    → ((x : ℕ) → covers w.machine.pool x ≡ true → kind ≡ Pma → x / w.machine.size ≢ block_at span.at w.machine.size) → StandsIn sc f w n
+load_stands sc f w n h span kind flat none shape loads own beside =
     let m = w.machine in
     let a = book_of w in
     record {
       flat_size = flat.bytes.flat_size;
       rows = λ x lt off.
           let o = owner_of w x in
-          rows_issue.loaded a o (byte f x) m n h span kind x shape loads (λ area. absurd (false≢true (sym (no_area a o (owner_of w) m.size x (apart_at sc f w x flat lt)) ∙ area))) (flat.bytes.rows x lt off);
+          rows_issue.loaded a o (byte f x) m n h span kind x shape loads
+          (λ area pma same. unowned_own a h (owner_of w span.at) (lent_block a o (owner_of w) m.size x span.at (apart_at sc f w x flat lt) area (sym same)) own) (flat.bytes.rows x lt off);
       calm = λ z on unseen. calm_at n (byte m.cache.ram z) z (rows_issue.loaded a Pool (byte m.cache.ram z) m n h span kind z shape loads (λ area. absurd (false≢true area)) (flat.bytes.calm z on unseen));
       queued = queued_same a (owner_of w) m n shape loads.queues flat.bytes.queued;
-      uncached = uncached_by a (owner_of w) m n shape (λ x over none. (loads.apart x (λ pma. beside x over)).line ∙ none) flat.bytes.uncached;
+      uncached = uncached_by a (owner_of w) m n shape (λ x over none. (loads.apart x (beside x over)).line ∙ none) flat.bytes.uncached;
       unfenced = λ g. ap (list_any is_full) (loads.queues g) ∙ flat.bytes.unfenced g;
+      tokens = tokens_kept sc f w n flat (λ g id. ap (filter (is_lot_token id)) (loads.queues g));
       lasts = lasts_keep sc f w n flat (λ k. load_lasts w n h span kind k none loads);
     }
 
@@ -139,6 +157,15 @@ bare_full (Mark pred succ) = refl
 
 pub plain_unfenced : (e : Entry) → IsPlain e → is_full e ≡ false
 plain_unfenced e plain = sym (bare_full e) ∙ plain.fence
+
+-- an entry that is no token
+pub tokens_pushed : (m k : MachineState) (h : ℕ) (e : Entry) → Enters m k h e → IsPlain e → (g : ℕ) (id : LotId) → filter (is_lot_token id) (queue_of k g) ≡ filter (is_lot_token id) (queue_of m g)
+tokens_pushed m k h e by plain g id = elim (cases_eq g h) [
+  | inl own ↦
+      ap (λ (j : ℕ). filter (is_lot_token id) (queue_of k j)) own ∙ ap (filter (is_lot_token id)) by.pushes.queues.own ∙ last_gone (is_lot_token id) (queue_of m h) e (plain.lot id)
+      ∙ ap (λ (j : ℕ). filter (is_lot_token id) (queue_of m j)) (sym own)
+  | inr ne ↦ ap (filter (is_lot_token id)) (by.pushes.queues.others g ne)
+]
 
 pub queued_more : (a : Book) (owner : ℕ → Owner) (m k : MachineState) (h : ℕ) (e : Entry) → Enters m k h e → IsQueued a owner m.pool m.size h e → Queued a owner m → Queued a owner k
 queued_more a owner m k h e by is queued = λ g. rw (by.shape.pool, by.shape.size) (elim (cases_eq g h) [
@@ -162,20 +189,21 @@ entry_calm sc f w k h e z flat by own on calm =
     calm_at k v z (rows_issue.passed (book_of w) Pool v w.machine k h e z by (unowned_none (book_of w) (owner_of w) w.machine.size h e z own (subst IsUnowned (sym (flat.bytes.slotted z on)) tt)) calm)
 
 -- flat memory g has the bytes that the entry gives
-pub entry_stands : (sc : Scenario) (f g : List ℕ) (w : WorldState) (k : MachineState) (h : ℕ) (e : Entry) → Flatness sc f w → Enters w.machine k h e → Comes (book_of w) (owner_of w) w.machine h e → IsNoMail e → All IsStill (driver_of w h).lots
+pub entry_stands : (sc : Scenario) (f g : List ℕ) (w : WorldState) (k : MachineState) (h : ℕ) (e : Entry) → Flatness sc f w → Enters w.machine k h e → Comes (book_of w) (owner_of w) w.machine h e → IsNoMail e → IsIdle (driver_of w h)
     → IsQueued (book_of w) (owner_of w) w.machine.pool w.machine.size h e → length g ≡ length f → ((x : ℕ) → byte g x ≡ unwrap_or (entry_gives w.machine.size e x) (byte f x)) → StandsIn sc g w k
-entry_stands sc f g w k h e flat by comes quiet still is long bytes =
+entry_stands sc f g w k h e flat by comes quiet was is long bytes =
     let m = w.machine in
     let a = book_of w in
     record {
       flat_size = long ∙ flat.bytes.flat_size;
       rows = λ x lt off.
           subst (λ (v : ℕ). Row a (owner_of w x) v k x) (sym (bytes x))
-          (row_entered a (owner_of w) (byte f x) m k h e x by comes (apart_at sc f w x flat lt) (unlent_at sc f w h x flat still lt) (λ j g passing own. quiet (a.buffer x)) (flat.bytes.rows x lt off));
+          (row_entered a (owner_of w) (byte f x) m k h e x by comes (apart_at sc f w x flat lt) (posted_at sc f w h x flat was.still (none_ends (driver_of w h).rest was.rest) lt) (λ j g passing own. quiet (a.buffer x)) (flat.bytes.rows x lt off));
       calm = λ z on unseen. entry_calm sc f w k h e z flat by comes.own on (flat.bytes.calm z on unseen);
       queued = queued_more a (owner_of w) m k h e by is flat.bytes.queued;
       uncached = uncached_by a (owner_of w) m k by.shape (λ x over none. (by.pushes.places x).line ∙ none) flat.bytes.uncached;
       unfenced = λ g. by.pushes.queues.none is_full g (plain_unfenced e comes.plain) (flat.bytes.unfenced g);
+      tokens = tokens_kept sc f w k flat (tokens_pushed m k h e by comes.plain);
       lasts = lasts_stay sc f g w k flat long
           (λ x un. bytes x ∙ ap (λ (o : Option ℕ). unwrap_or o (byte f x)) (unowned_none a (owner_of w) m.size h e x comes.own un)) (λ j. inr (entry_lasts w k h e j by.pushes));
     }

@@ -43,12 +43,12 @@ pub record GoesHanding (d : DriverState) (w : Went) (buf : ℕ) (to : HartNo) (l
   pub driver : Hands d w.driver buf to left
   pub transfers : w.moves.transfers ≡ ts
 
-pub hands_drives : (d e : DriverState) (buf : ℕ) (to : HartNo) (left : List Step) → Drives d → All IsStill d.lots → Hands d e buf to left → (left ≡ hand_steps buf to) ⊎ (left ≡ mail_step buf to ∷ []) → Drives e
+pub hands_drives : (d e : DriverState) (buf : ℕ) (to : HartNo) (left : List Step) → Drives d → All (IsStill d.fixed) d.lots → Hands d e buf to left → (left ≡ hand_steps buf to) ⊎ (left ≡ mail_step buf to ∷ []) → Drives e
 hands_drives d e buf to left is still hands which = record {
   lots = rw (hands.fixed, hands.lots) is.lots;
   stands = subst (λ (p : Phase). StandsAt e p) (sym hands.phase)
       (subst (λ (o : Option Op). PlanOf e o) (sym hands.hand)
-      (record { left = elim which [ inl all ↦ inl (hands.rest ∙ all) | inr one ↦ inr (hands.rest ∙ one) ]; still = rw hands.lots still }));
+      (record { left = elim which [ inl all ↦ inl (hands.rest ∙ all) | inr one ↦ inr (hands.rest ∙ one) ]; still = rw (hands.fixed, hands.lots) still }));
   idle = subst (λ (p : Phase). RestAt p e.rest) (sym hands.phase) tt;
 }
 
@@ -79,7 +79,7 @@ pub data Starts (d : DriverState) (owners : List Owner) (buf : ℕ) (to : HartNo
   Refuses : GoesIdle d w [] → Starts d owners buf to w
   Begins : owned d.fixed.me owners (buffer_of d.fixed buf) ≡ Ok tt → GoesHanding d w buf to (hand_steps buf to) ((buffer_of d.fixed buf, Passing d.fixed.me to) ∷ []) → Starts d owners buf to w
 
-starts_by : (d : DriverState) (owners : List Owner) (buf : ℕ) (to : HartNo) (r : Result (Unit {0}) Refusal) → All IsSettled d.lots → All IsStill d.lots → in_hand d ≡ Some (ops.Hand buf to) → owned d.fixed.me owners (buffer_of d.fixed buf) ≡ r → Starts d owners buf to (handed d buf to r)
+starts_by : (d : DriverState) (owners : List Owner) (buf : ℕ) (to : HartNo) (r : Result (Unit {0}) Refusal) → All IsSettled d.lots → All (IsStill d.fixed) d.lots → in_hand d ≡ Some (ops.Hand buf to) → owned d.fixed.me owners (buffer_of d.fixed buf) ≡ r → Starts d owners buf to (handed d buf to r)
 starts_by d owners buf to (Err r) settled still hand is = Refuses (gives_up d (ops.Hand buf to) r still)
 starts_by d owners buf to (Ok u) settled still hand is = Begins is (subst (λ (w : Went). GoesHanding d w buf to (hand_steps buf to) ((buffer_of d.fixed buf, Passing d.fixed.me to) ∷ [])) (sym (opened_hand d buf to settled)) (open_hands d buf to hand))
 
@@ -87,7 +87,7 @@ started_is : (d : DriverState) (owners : List Owner) (pages : PageMap) (buf : �
 unfolding started
 started_is d owners pages buf to hand = ap (λ (k : Option Op). started_of d owners pages k) hand ∙ handed_is d owners pages buf to
 
-pub hand_starts : (d : DriverState) (owners : List Owner) (pages : PageMap) (buf : ℕ) (to : HartNo) → All IsSettled d.lots → All IsStill d.lots → in_hand d ≡ Some (ops.Hand buf to) → Starts d owners buf to (started d owners pages)
+pub hand_starts : (d : DriverState) (owners : List Owner) (pages : PageMap) (buf : ℕ) (to : HartNo) → All IsSettled d.lots → All (IsStill d.fixed) d.lots → in_hand d ≡ Some (ops.Hand buf to) → Starts d owners buf to (started d owners pages)
 hand_starts d owners pages buf to settled still hand = subst (Starts d owners buf to) (sym (started_is d owners pages buf to hand)) (starts_by d owners buf to (owned d.fixed.me owners (buffer_of d.fixed buf)) settled still hand refl)
 
 -- ---- the marker and the message

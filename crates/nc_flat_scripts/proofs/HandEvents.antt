@@ -37,11 +37,13 @@ use Rattle.nc_flatness.specs.Steps.{Goes}
 use Rattle.nc_flatness.proofs.BookReads.{buffer_gone, rest_here}
 use Rattle.nc_flatness.proofs.Outcomes.{gone, goes_go, goes_silent}
 use Rattle.nc_flat_scripts.specs.Entering.{IsPlain}
-use Rattle.nc_flat_scripts.proofs.ActRows.{plain_unfenced, queued_more, entry_lasts, entry_calm}
+use Rattle.nc_flat_scripts.proofs.ActRows.{plain_unfenced, tokens_pushed, queued_more, entry_lasts, entry_calm}
 use Rattle.nc_flat_scripts.proofs.EntryRows.{Comes, row_entered}
-use Rattle.nc_flat_scripts.proofs.OwnPlaces.{apart_at, unlent_at}
-use Rattle.nc_flat_scripts.proofs.PassingFrames.{Passes, there, row_over, PassedIn, stands_passed}
+use Rattle.nc_flat_scripts.proofs.OwnPlaces.{apart_at}
+use Rattle.nc_flat_scripts.proofs.PassingFrames.{row_over, PassedIn, stands_passed}
+use Rattle.nc_flat_scripts.proofs.PassingParts.{Passes, there}
 use Rattle.nc_flat_scripts.proofs.ScriptEvents.{IsHere, outcome_is, op_is}
+use Rattle.nc_flat_scripts.proofs.StillLots.{posted_at}
 
 -- ---- an entry of the plan
 
@@ -65,7 +67,7 @@ other_row : (sc : Scenario) (f : List ℕ) (w : WorldState) (h : HartNo) (n : Ma
 other_row sc f w h n went e buf x s lt off other =
     let p = s.passes in
     let flat = p.flat in
-    let entered = row_entered (book_of w) (owner_of w) (byte f x) w.machine n h.0 e x s.by s.comes (apart_at sc f w x flat lt) (unlent_at sc f w h.0 x flat p.still lt) (λ j g is own. s.mail ((book_of w).buffer x) (other j g is own)) (flat.bytes.rows x lt off) in
+    let entered = row_entered (book_of w) (owner_of w) (byte f x) w.machine n h.0 e x s.by s.comes (apart_at sc f w x flat lt) (posted_at sc f w h.0 x flat p.still p.was lt) (λ j g is own. s.mail ((book_of w).buffer x) (other j g is own)) (flat.bytes.rows x lt off) in
     let same : Row (book_of w) (owner_of w x) (byte f x) n x = subst (λ (o : Option ℕ). Row (book_of w) (owner_of w x) (unwrap_or o (byte f x)) n x) (s.silent x) entered in
     row_over sc f w h n n went (owner_of w x) (byte f x) x p lt refl (λ j g is own. s.others ((book_of w).buffer x) (other j g is own)) same
 
@@ -109,6 +111,7 @@ sends_stands sc f w h n went e buf s =
       held = λ x none. (s.by.pushes.places x).line ∙ none;
       queued = queued_more (book_of w) (owner_of w) w.machine n h.0 e s.by s.queued s.passes.flat.bytes.queued;
       unfenced = λ g. s.by.pushes.queues.none is_full g (plain_unfenced e s.plain) (s.passes.flat.bytes.unfenced g);
+      tokens = tokens_pushed w.machine n h.0 e s.by s.plain;
       owners = λ x. inl (owner x);
       rows = λ x lt off. subst (λ (o : Owner). Row (book_of (gone w h n went)) o (byte f x) n x) (sym (owner x)) (any_row sc f w h n went e buf x (owner_of w x) s lt off refl);
       calm = λ z on calm. entry_calm sc f w n h.0 e z s.passes.flat s.by s.comes.own on calm;

@@ -27,7 +27,7 @@ use Rattle.nc_calls.proofs.SoundWith.{shape_same}
 use Rattle.nc_scripts.specs.Drivers as drivers
 use Rattle.nc_scripts.specs.Drivers.{IsSettled}
 use Rattle.nc_scripts.proofs.EveryDriver.{in_hand_is}
-use Rattle.nc_rows.specs.Ahead.{coming, sending}
+use Rattle.nc_rows.specs.Ahead.{sending}
 use Rattle.nc_rows.specs.Places.{ThreadRow}
 use Rattle.nc_rows.specs.Parts.{rest_last}
 use Rattle.nc_rows.specs.Rows.{gives_here, PassingRow, Row}
@@ -41,10 +41,12 @@ use Rattle.nc_flatness.proofs.Owned.{me_is}
 use Rattle.nc_flat_scripts.proofs.ActRows.{stands_now}
 use Rattle.nc_flat_scripts.proofs.BufferOwners.{moved_in, moved_out, owned_is, range_of, ranges_alike, number_here, number_away, range_in, off_pool, off_slots, unsent}
 use Rattle.nc_flat_scripts.proofs.HandCalls.{hands_drives, Starts, Refuses, Begins, hand_starts}
-use Rattle.nc_flat_scripts.proofs.MailFacts.{nothing_left, nothing_marked, sends_other, sends_none, bare_comes, marker_comes, mail_comes}
-use Rattle.nc_flat_scripts.proofs.PassingFrames.{Passes, there, row_over, PassedIn, stands_passed}
+use Rattle.nc_flat_scripts.proofs.MailFacts.{marks_none, sends_other, sends_none, bare_comes, marker_comes, mail_comes}
+use Rattle.nc_flat_scripts.proofs.PassingFrames.{row_over, PassedIn, stands_passed}
+use Rattle.nc_flat_scripts.proofs.PassingParts.{Passes, there}
 use Rattle.nc_flat_scripts.proofs.ScriptCalls.{IsIdle}
 use Rattle.nc_flat_scripts.proofs.ScriptEvents.{IsHere, idle_by, outcome_is, start_is, quiet_go}
+use Rattle.nc_flat_scripts.proofs.StillLots.{EndsNone, none_ends}
 
 -- the hart's buffer is passed on with this call
 pub record IsBegun (sc : Scenario) (f : List ℕ) (w : WorldState) (h : HartNo) (went : Went) (buf : ℕ) (to : HartNo) : Type 0 where
@@ -101,6 +103,7 @@ begun_stands sc f w h went buf to b =
       held = λ x none. none;
       queued = flat.bytes.queued;
       unfenced = flat.bytes.unfenced;
+      tokens = λ g id. refl;
       owners = λ x. elim (cases_Bool (covers (range_of w h.0 buf) x)) [
         | inl over ↦
             let own : owner_of w x ≡ Thread h = owned_is h w.owners (range_of w h.0 buf) x b.own over in
@@ -140,8 +143,8 @@ start_by sc f w h buf to went here hand idle (Begins own goes) =
         still = idle.still;
         fixed = goes.driver.fixed;
         lots = goes.driver.lots;
-        was = λ n lot. ap (coming n lot) idle.rest ∙ nothing_left n lot;
-        left = λ n lot. ap (coming n lot) goes.driver.rest ∙ nothing_marked buf to n lot;
+        was = none_ends d.rest idle.rest;
+        left = subst EndsNone (sym goes.driver.rest) (marks_none buf to);
         unstored = ap rest_last goes.driver.rest;
         drives = hands_drives d went.driver buf to (hand_steps buf to) (flat.bytes.drives h.0 here.lt) idle.still goes.driver (inl refl);
       };

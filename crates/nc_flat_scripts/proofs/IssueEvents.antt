@@ -1,6 +1,6 @@
 -- Each step of a driver whose operation neither lends nor takes back: a touch comes first, or flat memory stands behind it.
 use Rattle.std.specs.Prelude.{Option, Some, None, Result, Ok, Err, Bool, true, false, if◌then◌else◌}
-use Rattle.std.proofs.Common.{◌≡◌, ◌⊎◌, ℕ, List, [], refl, sym, ap, ◌∙◌, inl, inr, subst}
+use Rattle.std.proofs.Common.{◌≡◌, ◌⊎◌, ℕ, List, [], length, refl, sym, ap, ◌∙◌, inl, inr, subst}
 use Rattle.std.proofs.lemmas.Bool.{false≢true}
 use Rattle.nc_num.specs.declared.names.HartNo.{HartNo}
 use Rattle.nc_ops.specs.declared.ops.Op.{Op}
@@ -88,10 +88,10 @@ at_hand d (ops.Run chan) lends plan = absurd plan
 at_hand d (ops.Poll chan) lends plan = absurd plan
 at_hand d (ops.Regr chan off width) lends plan = absurd plan
 at_hand d (ops.Regw chan off width value) lends plan = absurd plan
-at_hand d (ops.Calloc label pages chan) lends plan = absurd plan
-at_hand d (ops.Cgive label) lends plan = absurd plan
-at_hand d (ops.Ctake label) lends plan = absurd plan
-at_hand d (ops.Cfree label) lends plan = absurd plan
+at_hand d (ops.Calloc label pages chan) lends plan = absurd cc
+at_hand d (ops.Cgive label) lends plan = absurd cc
+at_hand d (ops.Ctake label) lends plan = absurd cc
+at_hand d (ops.Cfree label) lends plan = absurd cc
 at_hand d (ops.Copy chan src src_off dst dst_off len cfg) lends plan = absurd plan
 
 -- ---- a step by number
@@ -110,7 +110,7 @@ bare_goes sc f w h o n here hand phase none nx =
     (λ quiet. quiet_go sc f w h w.machine went here idle (bare_idles d w.owners w.pages o idle hand none) (stands_now sc f w here.now.flat))
 
 step_goes : (sc : Scenario) (f : List ℕ) (w : WorldState) (h : HartNo) (o : Op) (n : ℕ) (s : Step) → IsHere sc f w h → in_hand (driver_of w h.0) ≡ Some o → (driver_of w h.0).phase ≡ Steps n → step_at (driver_of w h.0).fixed (driver_of w h.0).lots o n ≡ Ok (Some s)
-    → next_of (driver_of w h.0) ≡ next_act s.act → IsOwn s ⊎ Takes (driver_of w h.0).fixed o s → Goes sc f w (events.Issue h)
+    → next_of (driver_of w h.0) ≡ next_act s.act → IsOwn (driver_of w h.0).fixed s ⊎ Takes (driver_of w h.0).fixed o s → Goes sc f w (events.Issue h)
 step_goes sc f w h o n s here hand phase is nx (inl own) = act_goes sc f w h o n s s.act here (record { hand = hand; phase = phase; is = is; own = own }) refl nx
 step_goes sc f w h o n s here hand phase is nx (inr takes) =
     let d = driver_of w h.0 in
@@ -121,7 +121,11 @@ result_goes : (sc : Scenario) (f : List ℕ) (w : WorldState) (h : HartNo) (o : 
     → step_at (driver_of w h.0).fixed (driver_of w h.0).lots o n ≡ r → next_of (driver_of w h.0) ≡ next_step r → Goes sc f w (events.Issue h)
 result_goes sc f w h o n (Err r) here hand phase none is nx = bare_goes sc f w h o n here hand phase none nx
 result_goes sc f w h o n (Ok None) here hand phase none is nx = bare_goes sc f w h o n here hand phase none nx
-result_goes sc f w h o n (Ok (Some s)) here hand phase none is nx = step_goes sc f w h o n s here hand phase is nx (script_step (driver_of w h.0).fixed (driver_of w h.0).lots o n s is)
+result_goes sc f w h o n (Ok (Some s)) here hand phase none is nx =
+    let d = driver_of w h.0 in
+    let m = w.machine in
+    let holds = here.now.flat.world.holds.each h.0 here.there in
+    step_goes sc f w h o n s here hand phase is nx (script_step (length m.cache.ram) (length m.harts) d.fixed d.lots o n s holds.driver.fixed holds.regions is)
 
 -- ---- all of them
 

@@ -36,7 +36,7 @@ last_none a f k bytes o none = subst (LastIs a f k bytes) (sym none) tt
 pub lasts_stay : (sc : Scenario) (f g : List ℕ) (w : WorldState) (n : MachineState) → Flatness sc f w → length g ≡ length f → ChangesOwn w f g → ((k : ℕ) → LastStays w n k) → Lasts (book_of w) g n
 lasts_stay sc f g w n flat long changes stays k = elim (stays k) [
   | inl none ↦ last_none (book_of w) g k (hart_of n k).last (rest_last ((book_of w).rest k)) none
-  | inr same ↦ last_stays sc f g w (book_of w) n k flat (long ∙ flat.bytes.flat_size) refl same (λ m own. refl) (λ x m lent. changes x (lent_unowned (owner_of w x) m lent))
+  | inr same ↦ last_stays sc f g w (book_of w) n k flat (long ∙ flat.bytes.flat_size) refl same (λ m own. refl) (λ x m own lent. changes x (lent_unowned (owner_of w x) m lent))
 ]
 
 -- flat memory stays

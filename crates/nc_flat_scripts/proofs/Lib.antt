@@ -1,12 +1,15 @@
 pub mod EntryRows
+pub mod ScriptBlocks
 pub mod ScriptSteps
 pub mod ScriptCalls
 pub mod OwnPlaces
+pub mod StillLots
 pub mod LastLoads
 pub mod StepFrames
 pub mod ActRows
 pub mod OpActs
 pub mod ScriptEvents
+pub mod PassingParts
 pub mod PassingFrames
 pub mod MailFacts
 pub mod HandCalls

@@ -29,7 +29,7 @@ use Rattle.nc_rows.specs.Ahead.{is_mail, sends, stores_io, posts, sending}
 use Rattle.nc_rows.proofs.Steps.{steps_ahead}
 use Rattle.nc_flatness.specs.Books.{number_in}
 use Rattle.nc_flatness.specs.Flatness.{mail_step}
-use Rattle.nc_flat_scripts.proofs.PassingFrames.{HasNothing}
+use Rattle.nc_flat_scripts.proofs.StillLots.{EndsNone}
 
 -- ---- no message queued, nor to come
 
@@ -91,14 +91,11 @@ none_in_line b q rest quiet =
 
 -- ---- the steps with which a buffer is passed on
 
-pub nothing_left : HasNothing []
-nothing_left n lot = refl
+pub marks_none : (buf : ℕ) (to : HartNo) → EndsNone (hand_steps buf to)
+marks_none buf to lot = refl
 
-pub nothing_marked : (buf : ℕ) (to : HartNo) → HasNothing (hand_steps buf to)
-nothing_marked buf to n lot = refl
-
-pub nothing_mailed : (buf : ℕ) (to : HartNo) → HasNothing (mail_step buf to ∷ [])
-nothing_mailed buf to n lot = refl
+pub mails_none : (buf : ℕ) (to : HartNo) → EndsNone (mail_step buf to ∷ [])
+mails_none buf to lot = refl
 
 not_its : (c buf : ℕ) (to : HartNo) → c ≢ buf → list_any (posts c) (mail_step buf to ∷ []) ≡ false
 not_its c buf to ne = or_from (buf == c) false (ne_eqb buf c (λ e. ne (sym e))) refl

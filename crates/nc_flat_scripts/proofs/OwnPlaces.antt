@@ -1,5 +1,5 @@
--- What an access of a script that is no touch may use: places of its hart alone, in main memory.
-use Rattle.std.specs.Prelude.{Option, Some, None, true, false, ◌-◌, ◌==◌, ◌/◌, All}
+-- What an access of a script that is no touch may use: places of its hart alone, each by its type.
+use Rattle.std.specs.Prelude.{Option, Some, None, Bool, true, false, if◌then◌else◌, ◌-◌, ◌==◌, ◌/◌}
 use Rattle.std.proofs.Common.{◌≡◌, ◌⊎◌, ℕ, ◌*◌, ◌<◌, ◌≤◌, List, length, refl, sym, ap, ◌∙◌, inl, inr, subst, arith}
 use Rattle.std.proofs.lemmas.Bool.{cases_eq, cases_lt, cases_Bool, cond-false, ne_eqb}
 use Rattle.std.proofs.lemmas.List.{get_or_past}
@@ -15,11 +15,10 @@ use Rattle.nc_num.proofs.Blocks.{inside}
 use Rattle.nc_env.specs.declared.CboOp.TheVariants as cbos
 use Rattle.nc_queue.specs.declared.entry.Entry.TheVariants as entries
 use Rattle.nc_plan.specs.Parts.{comes_back}
-use Rattle.nc_plan.specs.Plans.{In}
 use Rattle.nc_model.proofs.Faults.{covers-from, covers-high}
 use Rattle.nc_model.proofs.TouchLaws.{piece_passed, rights_passed, type_passed, hart_uses}
 use Rattle.nc_model.specs.Laws.{HartUses}
-use Rattle.nc_model.specs.Touches.{rights_touch, piece_touch, zero_touch, is_pma, is_nc}
+use Rattle.nc_model.specs.Touches.{rights_touch, piece_touch, zero_touch, is_its_type}
 use Rattle.nc_model.specs.declared.owners.Access.{Access}
 use Rattle.nc_model.specs.declared.owners.Access.TheVariants.{Write}
 use Rattle.nc_model.specs.declared.owners.Owner.{Owner}
@@ -27,21 +26,19 @@ use Rattle.nc_model.specs.declared.owners.Owner.TheVariants.{Thread, Passing, Le
 use Rattle.nc_own.specs.Books.{owner_in}
 use Rattle.nc_scen.specs.Regions.{slots_of}
 use Rattle.nc_scen.specs.declared.scenario.Scenario.{Scenario}
-use Rattle.nc_rules.specs.declared.lots.Lot.{Lot}
-use Rattle.nc_rules.specs.Lots.{owner_of_side}
 use Rattle.nc_rules.specs.Sound.{IsPieceIn, IsBlockIn}
 use Rattle.nc_rules.specs.Watched.{owner_of}
-use Rattle.nc_rules.specs.World.{WorldState, driver_of}
-use Rattle.nc_holds.proofs.ListsA.{all_at}
+use Rattle.nc_rules.specs.World.{WorldState}
 use Rattle.nc_rows.specs.Laws.{seen_at}
+use Rattle.nc_rows.specs.Parts.{StoreIsQueued}
 use Rattle.nc_rows.specs.Rows.{Loan, device_place}
 use Rattle.nc_row_issues.specs.Laws.{IsOwn, IsSyncedOf}
 use Rattle.nc_flatness.specs.Books.{book_of, mapping_in}
 use Rattle.nc_flatness.specs.Flatness.{Flatness}
-use Rattle.nc_flatness.specs.Plans.{IsStill}
 use Rattle.nc_flatness.proofs.Owned.{IsMapped, mapped}
 use Rattle.nc_flatness.proofs.Seen.{seen, seen_lent, place_ways, seen_whole}
-use Rattle.nc_flat_scripts.specs.Entering.{GivesOwn, IsUnowned, LoanIsApart, OwnerIsApart, IsUnlent}
+use Rattle.nc_flatness.proofs.WholeBlocks.{area_whole}
+use Rattle.nc_flat_scripts.specs.Entering.{GivesOwn, IsUnowned, LoanIsApart, OwnerIsApart}
 
 -- ---- the mapping that has a place
 
@@ -108,9 +105,9 @@ loan_apart sc f w n x flat lt away =
     let m = mapped sc f w n x flat lt is.0 in
     subst (λ (o : Option Loan). LoanIsApart o (owner_of w) w.machine.size x) (sym m.known)
     (record {
-      area = m.is.area;
       place = place_unowned sc f w n x flat m is.1;
       block = λ back y same. block_unowned sc f w n m.loan x y flat (record { away = away; known = m.known; back = back; short = lt; same = same });
+      area = λ area y same. subst IsUnowned (sym (area_whole sc f w n x y flat m area same).1) is.1;
     })
 
 apart_by : (sc : Scenario) (f : List ℕ) (w : WorldState) (x : ℕ) (o : Owner) → Flatness sc f w → x < sc.ram → owner_of w x ≡ o → OwnerIsApart (book_of w) (owner_of w) w.machine.size x o
@@ -124,28 +121,6 @@ apart_by sc f w x Pool flat lt is = tt
 
 pub apart_at : (sc : Scenario) (f : List ℕ) (w : WorldState) (x : ℕ) → Flatness sc f w → x < sc.ram → OwnerIsApart (book_of w) (owner_of w) w.machine.size x (owner_of w x)
 apart_at sc f w x flat lt = apart_by sc f w x (owner_of w x) flat lt refl
-
-still_side : (n : MapId) (lot : Lot) → IsStill lot → Lending n ≡ owner_of_side n lot.side → ⊥
-still_side n lot (inl is) e = let no : Lending n ≡ Device n = e ∙ ap (owner_of_side n) is in absurd cc
-still_side n lot (inr is) e = let no : Lending n ≡ Synced n = e ∙ ap (owner_of_side n) is.0 in absurd cc
-
-still_taken : (n : MapId) (lot : Lot) → IsStill lot → Returning n ≡ owner_of_side n lot.side → ⊥
-still_taken n lot (inl is) e = let no : Returning n ≡ Device n = e ∙ ap (owner_of_side n) is in absurd cc
-still_taken n lot (inr is) e = let no : Returning n ≡ Synced n = e ∙ ap (owner_of_side n) is.0 in absurd cc
-
--- a hart whose lots are still takes none back
-pub untaken_at : (sc : Scenario) (f : List ℕ) (w : WorldState) (h x : ℕ) (n : MapId) → Flatness sc f w → All IsStill (driver_of w h).lots → x < sc.ram → owner_of w x ≡ Returning n → n.hart.0 ≡ h → ⊥
-untaken_at sc f w h x n flat still lt e hart =
-    let m = mapped sc f w n x flat lt (ap mapping_in e) in
-    let here : In m.is.lot (driver_of w h).lots = subst (λ (k : ℕ). In m.is.lot (driver_of w k).lots) hart m.is.here.lot_in in
-    still_taken n m.is.lot (all_at IsStill (driver_of w h).lots m.is.lot still here) (sym e ∙ m.owner)
-
--- and lends none
-pub unlent_at : (sc : Scenario) (f : List ℕ) (w : WorldState) (h x : ℕ) → Flatness sc f w → All IsStill (driver_of w h).lots → x < sc.ram → IsUnlent (owner_of w) h x
-unlent_at sc f w h x flat still lt = λ n e hart.
-    let m = mapped sc f w n x flat lt (ap mapping_in e) in
-    let here : In m.is.lot (driver_of w h).lots = subst (λ (k : ℕ). In m.is.lot (driver_of w k).lots) hart m.is.here.lot_in in
-    still_side n m.is.lot (all_at IsStill (driver_of w h).lots m.is.lot still here) (sym e ∙ m.owner)
 
 -- ---- places of the hart
 
@@ -161,13 +136,7 @@ pub own_place : (sc : Scenario) (f : List ℕ) (w : WorldState) (h : HartNo) (ac
 own_place sc f w h access s x flat none over lt =
     own_by sc f w h access x (owner_of w x) flat lt refl (hart_uses w.grants h access (owner_of w x) (rights_passed (owner_of w) w.grants h access s x none over))
 
-pub own_unpooled : (sc : Scenario) (f : List ℕ) (w : WorldState) (h x : ℕ) → Flatness sc f w → IsOwn (book_of w) h (owner_of w x) → covers w.machine.pool x ≡ false
-own_unpooled sc f w h x flat own = elim (cases_Bool (covers w.machine.pool x)) [
-  | inl over ↦ absurd (subst (IsOwn (book_of w) h) (flat.bytes.pooled x (subst (λ (p : Span). covers p x ≡ true) flat.world.of_scenario.pool over)) own)
-  | inr off ↦ off
-]
-
--- nor is it of a slot
+-- it is of no slot
 pub own_unslotted : (sc : Scenario) (f : List ℕ) (w : WorldState) (h x : ℕ) → Flatness sc f w → IsOwn (book_of w) h (owner_of w x) → covers (slots_of sc) x ≡ false
 own_unslotted sc f w h x flat own = elim (cases_Bool (covers (slots_of sc) x)) [
   | inl over ↦ absurd (subst (IsOwn (book_of w) h) (flat.bytes.slotted x over) own)
@@ -182,30 +151,37 @@ piece_starts size s is = covers-from s s.at (omega arith) (elim is.len [
   | inr r ↦ elim r [ inl e ↦ omega (arith, e) | inr t ↦ elim t [ inl e ↦ omega (arith, e) | inr e ↦ omega (arith, e) ] ]
 ])
 
-pma_is : (kind : MemType) → is_pma kind ≡ true → kind ≡ Pma
-pma_is Pma is = refl
-pma_is Nc is = absurd cc
-pma_is Io is = absurd cc
+off_by : (t : Bool) → (if t then false else true) ≡ true → t ≡ false
+off_by true is = absurd cc
+off_by false is = refl
 
--- each byte is the hart's own, and no byte is of the coherent pool
+on_by : (t : Bool) → (if t then true else false) ≡ true → t ≡ true
+on_by true is = refl
+on_by false is = absurd cc
+
+neither : (t : Bool) → (if t then false else false) ≡ true → ⊥
+neither true is = absurd cc
+neither false is = absurd cc
+
+-- each byte is of the access's type: past the caches in the coherent pool, and through them beside it
+typed : (pool : Span) (kind : MemType) (s : Span) → covers s s.at ≡ true → ((x : ℕ) → covers s x ≡ true → is_its_type pool kind x ≡ true) → StoreIsQueued pool kind s
+typed pool Pma s start is = λ x over. off_by (covers pool x) (is x over)
+typed pool Nc s start is = λ x over. on_by (covers pool x) (is x over)
+typed pool Io s start is = neither (covers pool s.at) (is s.at start)
+
+-- each byte is the hart's own, and has its type
 pub record OwnPiece (w : WorldState) (h : ℕ) (s : Span) (kind : MemType) : Type 0 where
   pub own : (x : ℕ) → covers s x ≡ true → IsOwn (book_of w) h (owner_of w x)
-  pub off : (x : ℕ) → covers s x ≡ true → covers w.machine.pool x ≡ false
-  pub main : kind ≡ Pma
+  pub type : StoreIsQueued w.machine.pool kind s
 
 pub own_piece : (sc : Scenario) (f : List ℕ) (w : WorldState) (h : HartNo) (access : Access) (s : Span) (kind : MemType) → Flatness sc f w → piece_touch (owner_of w) w.grants w.machine.pool h access s kind ≡ None
     → IsPieceIn (length w.machine.cache.ram) s → OwnPiece w h.0 s kind
 own_piece sc f w h access s kind flat none piece =
     let pool = w.machine.pool in
     let passed = piece_passed (owner_of w) w.grants pool h access s kind none in
-    let start = piece_starts (length w.machine.cache.ram) s piece in
-    let own : (x : ℕ) → covers s x ≡ true → IsOwn (book_of w) h.0 (owner_of w x) =
-    λ x over. own_place sc f w h access s x flat passed.0 over (omega (arith, covers-high s x over, piece.inside, flat.world.of_scenario.ram)) in
-    let off : (x : ℕ) → covers s x ≡ true → covers pool x ≡ false = λ x over. own_unpooled sc f w h.0 x flat (own x over) in
     record {
-      own = own;
-      off = off;
-      main = pma_is kind (sym (cond-false (covers pool s.at) (is_nc kind) (is_pma kind) (off s.at start)) ∙ type_passed (owner_of w) pool h s kind s.at passed.1 start);
+      own = λ x over. own_place sc f w h access s x flat passed.0 over (omega (arith, covers-high s x over, piece.inside, flat.world.of_scenario.ram));
+      type = typed pool kind s (piece_starts (length w.machine.cache.ram) s piece) (λ x over. type_passed (owner_of w) pool h s kind x passed.1 over);
     }
 
 -- ---- entries
@@ -217,8 +193,8 @@ store_own w h span bytes kind own = λ x. elim (cases_Bool (covers span x)) [
   | inr off ↦ inl (cond-false (covers span x) (Some (byte bytes (x - span.at))) None off)
 ]
 
--- so does a zero, and no place of its block is of the pool
-pub zero_block : (sc : Scenario) (f : List ℕ) (w : WorldState) (h : HartNo) (block : Block) (x : ℕ) → Flatness sc f w → zero_touch (owner_of w) w.grants h (record { at = w.machine.size * block.0; len = w.machine.size }) ≡ None
+-- so does a zero
+zero_block : (sc : Scenario) (f : List ℕ) (w : WorldState) (h : HartNo) (block : Block) (x : ℕ) → Flatness sc f w → zero_touch (owner_of w) w.grants h (record { at = w.machine.size * block.0; len = w.machine.size }) ≡ None
     → IsBlockIn w.machine.size (length w.machine.cache.ram) block.0 → x / w.machine.size ≡ block.0 → IsOwn (book_of w) h.0 (owner_of w x)
 zero_block sc f w h block x flat none there is =
     let at = inside {s = w.machine.size} x block.0 flat.world.machine.block_size is in

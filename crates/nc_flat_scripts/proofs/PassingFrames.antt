@@ -1,8 +1,8 @@
 -- The bytes of flat memory behind a step with which a hart passes a buffer on, or takes one.
-use Rattle.std.specs.Prelude.{Option, Some, None, true, false, All}
+use Rattle.std.specs.Prelude.{Option, Some, None, Bool, true, false, filter}
 use Rattle.std.specs.List.{list_any}
-use Rattle.std.proofs.Common.{◌≡◌, ◌⊎◌, ℕ, ◌<◌, List, [], length, refl, sym, ap, ◌∙◌, inl, inr, subst, arith}
-use Rattle.std.proofs.lemmas.Bool.{cases_eq, false≢true}
+use Rattle.std.proofs.Common.{◌≡◌, ℕ, ◌<◌, List, refl, sym, ap, ◌∙◌, inl, inr, subst}
+use Rattle.std.proofs.lemmas.Bool.{cases_eq}
 use Rattle.nc_num.specs.Memory.{byte}
 use Rattle.nc_num.specs.Places.{covers}
 use Rattle.nc_num.specs.declared.names.HartNo.{HartNo}
@@ -11,7 +11,7 @@ use Rattle.nc_num.specs.declared.places.Span.{Span}
 use Rattle.nc_queue.specs.declared.entry.Entry.{Entry}
 use Rattle.nc_model.specs.declared.owners.Owner.{Owner}
 use Rattle.nc_model.specs.declared.owners.Owner.TheVariants.{Thread, Passing, Lending, Device, Returning, Synced, Pool}
-use Rattle.nc_scen.specs.Regions.{pool_of, slots_of}
+use Rattle.nc_scen.specs.Regions.{slots_of}
 use Rattle.nc_scen.specs.declared.scenario.Scenario.{Scenario}
 use Rattle.nc_rules.specs.declared.lots.LotId.{LotId}
 use Rattle.nc_rules.specs.declared.steps.Step.{Step}
@@ -21,39 +21,19 @@ use Rattle.nc_rules.specs.Watched.{owner_of}
 use Rattle.nc_rules.specs.World.{WorldState, driver_of}
 use Rattle.nc_calls.specs.MachineLaws.{SameShape}
 use Rattle.nc_calls.specs.PlaceLaws.{NotHeld}
-use Rattle.nc_rows.specs.Ahead.{is_full, coming, sending}
-use Rattle.nc_rows.specs.Laws.{seen_at}
+use Rattle.nc_rows.specs.Ahead.{is_full, settling, coming, sending}
 use Rattle.nc_rows.specs.Places.{CalmRow}
-use Rattle.nc_rows.specs.Rows.{Book, PassingRow, Row}
-use Rattle.nc_rows.specs.Parts.{IsDropped, Queued, rest_last, Lasts}
-use Rattle.nc_flatness.specs.Books.{book_of, mapping_in, LiesIn}
-use Rattle.nc_flatness.specs.Flatness.{Drives, IsUnseen, BytesStand, Flatness}
-use Rattle.nc_flatness.specs.Plans.{IsStill}
-use Rattle.nc_flatness.proofs.BookReads.{loan_gone, rest_away, rest_here, buffer_gone, row_alike, seen_alike, queued_to, none_zeroed, pool_unheld, uncached_of}
-use Rattle.nc_flatness.proofs.Lasts.{last_stays}
+use Rattle.nc_rows.specs.Rows.{Loan, Book, device_place, PassingRow, LendingTo, LendingFrom, AllocatingRow, GivingRow, Either, ByDir, LentRow, Row}
+use Rattle.nc_rows.specs.Parts.{Queued}
+use Rattle.nc_flatness.specs.Books.{book_of}
+use Rattle.nc_flatness.specs.Flatness.{BytesStand}
+use Rattle.nc_flatness.specs.Tokens.{is_lot_token}
+use Rattle.nc_flatness.proofs.BookReads.{loan_gone, rest_away, rest_here, buffer_gone, row_alike, queued_to, zeroed_to}
 use Rattle.nc_flatness.proofs.Outcomes.{gone}
-use Rattle.nc_flat_scripts.proofs.OwnPlaces.{unlent_at, untaken_at}
-use Rattle.nc_flat_scripts.proofs.LastLoads.{last_none}
+use Rattle.nc_flatness.proofs.Tokens.{unended_settling}
 use Rattle.nc_flat_scripts.proofs.StepFrames.{drives_set}
-
--- nothing of a mapping is to come of this rest
-abbrev pub HasNothing : List Step → Type 0
-HasNothing rest = (n : MapId) (lot : LotId) → coming n lot rest ≡ []
-
--- hart h's driver goes on, and its lots stay as they are
-pub record Passes (sc : Scenario) (f : List ℕ) (w : WorldState) (h : HartNo) (went : Went) : Type 0 where
-  pub flat : Flatness sc f w
-  pub lt : h.0 < length sc.harts
-  pub still : All IsStill (driver_of w h.0).lots
-  pub fixed : went.driver.fixed ≡ (driver_of w h.0).fixed
-  pub lots : went.driver.lots ≡ (driver_of w h.0).lots
-  pub was : HasNothing (driver_of w h.0).rest
-  pub left : HasNothing went.driver.rest
-  pub unstored : rest_last went.driver.rest ≡ None
-  pub drives : Drives went.driver
-
-pub there : (sc : Scenario) (f : List ℕ) (w : WorldState) (h : HartNo) (went : Went) → Passes sc f w h went → h.0 < length w.drivers
-there sc f w h went p = omega (arith, p.flat.world.holds.drivers, p.flat.world.of_scenario.harts, p.lt)
+use Rattle.nc_flat_scripts.proofs.StillLots.{EndsNone, none_comes, untaken_at}
+use Rattle.nc_flat_scripts.proofs.PassingParts.{Passes, there, OwnerMoves, placed_by, pooled_by, slotted_by, dropped_by, allocates_by, held_by, unseen_before, lasts_passed, tokens_passed}
 
 -- ---- a row of which the buffer is another
 
@@ -74,6 +54,25 @@ rest_sends sc f w h n went j x p same =
       | inr ne ↦ ap (sending c) (rest_away w h n went j ne)
     ]
 
+-- ---- a row of a mapping that is being lent
+
+-- so nothing of it is to come of the hart's plan, before and behind
+rest_ends : (sc : Scenario) (f : List ℕ) (w : WorldState) (h : HartNo) (n : MachineState) (went : Went) → Passes sc f w h went → EndsNone ((book_of (gone w h n went)).rest h.0)
+rest_ends sc f w h n went p = subst EndsNone (sym (rest_here w h n went (there sc f w h went p))) p.left
+
+abbrev pub LentBy : MapId → Loan → Bool → List Entry → ℕ → MachineState → ℕ → Type 0
+LentBy n l settles ahead v m x =
+    Either l.area (Either settles (AllocatingRow n v ahead m x) (GivingRow n v ahead m x)) (ByDir l.grant.dir (LendingTo n v ahead m x (device_place l x)) (LendingFrom n v ahead m x (device_place l x)))
+
+lent_ended : (a b : Book) (n : MapId) (o : Option Loan) (v : ℕ) (m : MachineState) (x : ℕ) → EndsNone (a.rest n.hart.0) → EndsNone (b.rest n.hart.0) → LentRow a n o v m x → LentRow b n o v m x
+lent_ended a b n None v m x was left row = row
+lent_ended a b n (Some l) v m x was left row =
+    let r = a.rest n.hart.0 in
+    let s = b.rest n.hart.0 in
+    let settles : settling l.lot r ≡ settling l.lot s = unended_settling l.lot r (was l.lot) ∙ sym (unended_settling l.lot s (left l.lot)) in
+    let ahead : coming n l.lot r ≡ coming n l.lot s = none_comes n l.lot r was ∙ sym (none_comes n l.lot s left) in
+    subst (λ (t : Bool). LentBy n l t (coming n l.lot s) v m x) settles (subst (λ (es : List Entry). LentBy n l (settling l.lot r) es v m x) ahead row)
+
 -- in machine m, be it the one before or behind
 pub row_over : (sc : Scenario) (f : List ℕ) (w : WorldState) (h : HartNo) (n m : MachineState) (went : Went) (o : Owner) (v x : ℕ) → Passes sc f w h went → x < sc.ram → owner_of w x ≡ o → ((j g : HartNo) → o ≡ Passing j g → j.0 ≡ h.0 → SendsSame w h went x)
     → Row (book_of w) o v m x → Row (book_of (gone w h n went)) o v m x
@@ -83,8 +82,16 @@ row_over sc f w h n m went (Passing j g) v x p lt is same row =
     subst (λ (c : ℕ). PassingRow j.0 v c (b.rest j.0) m x) (ap (λ (k : ℕ → ℕ). k x) (sym (buffer_gone w h n went (there sc f w h went p) p.fixed)))
     (passing_alike j.0 v ((book_of w).buffer x) ((book_of w).rest j.0) (b.rest j.0) m x (rest_sends sc f w h n went j.0 x p (same j g refl)) row)
 row_over sc f w h n m went (Lending k) v x p lt is same row =
-    row_alike (book_of w) (book_of (gone w h n went)) (Lending k) v m x
-    (sym (loan_gone w h n went k (there sc f w h went p) p.fixed p.lots), sym (rest_away w h n went k.hart.0 (unlent_at sc f w h.0 x p.flat p.still lt k is))) row
+    let a = book_of w in
+    let b = book_of (gone w h n went) in
+    let loan = loan_gone w h n went k (there sc f w h went p) p.fixed p.lots in
+    elim (cases_eq k.hart.0 h.0) [
+      | inl own ↦
+          let was : EndsNone (a.rest k.hart.0) = subst (λ (j : ℕ). EndsNone (a.rest j)) (sym own) p.was in
+          let left : EndsNone (b.rest k.hart.0) = subst (λ (j : ℕ). EndsNone (b.rest j)) (sym own) (rest_ends sc f w h n went p) in
+          subst (λ (o : Option Loan). LentRow b k o v m x) (sym loan) (lent_ended a b k (a.loan k) v m x was left row)
+      | inr ne ↦ row_alike a b (Lending k) v m x (sym loan, sym (rest_away w h n went k.hart.0 ne)) row
+    ]
 row_over sc f w h n m went (Device k) v x p lt is same row = row_alike (book_of w) (book_of (gone w h n went)) (Device k) v m x (sym (loan_gone w h n went k (there sc f w h went p) p.fixed p.lots)) row
 row_over sc f w h n m went (Returning k) v x p lt is same row =
     row_alike (book_of w) (book_of (gone w h n went)) (Returning k) v m x
@@ -94,99 +101,17 @@ row_over sc f w h n m went Pool v x p lt is same row = row
 
 -- ---- all bytes
 
--- the place was and is no mapping's, of no slot and not of the pool
-pub record MovesPlain (sc : Scenario) (w v : WorldState) (x : ℕ) : Type 0 where
-  pub before : mapping_in (owner_of w x) ≡ None
-  pub behind : mapping_in (owner_of v x) ≡ None
-  pub unpooled : covers (pool_of sc) x ≡ false
-  pub unslotted : covers (slots_of sc) x ≡ false
-
--- or its owner stays
-abbrev pub OwnerMoves : Scenario → WorldState → WorldState → ℕ → Type 0
-OwnerMoves sc w v x = (owner_of v x ≡ owner_of w x) ⊎ MovesPlain sc w v x
-
 -- the machine behind it, with its rows
 pub record PassedIn (sc : Scenario) (f : List ℕ) (w : WorldState) (h : HartNo) (n : MachineState) (went : Went) : Type 0 where
   pub shape : SameShape w.machine n
   pub held : (x : ℕ) → NotHeld w.machine x → NotHeld n x
   pub queued : Queued (book_of w) (owner_of w) n
   pub unfenced : (g : ℕ) → list_any is_full (queue_of n g) ≡ false
+  pub tokens : (g : ℕ) (id : LotId) → filter (is_lot_token id) (queue_of n g) ≡ filter (is_lot_token id) (queue_of w.machine g)
   pub owners : (x : ℕ) → OwnerMoves sc w (gone w h n went) x
   pub rows : (x : ℕ) → x < sc.ram → covers (slots_of sc) x ≡ false → Row (book_of (gone w h n went)) (owner_of (gone w h n went) x) (byte f x) n x
   pub calm : (z : ℕ) → covers (slots_of sc) z ≡ true → CalmRow w.machine z → CalmRow n z
   pub lasts : (k : ℕ) → (hart_of n k).last ≡ (hart_of w.machine k).last
-
-placed_by : (sc : Scenario) (w v : WorldState) (x : ℕ) (n : MapId) → OwnerMoves sc w v x → (book_of v).loan n ≡ (book_of w).loan n → (mapping_in (owner_of w x) ≡ Some n → LiesIn ((book_of w).loan n) x) → mapping_in (owner_of v x) ≡ Some n → LiesIn ((book_of v).loan n) x
-placed_by sc w v x n (inl stays) loan lies e = subst (λ o. LiesIn o x) (sym loan) (lies (sym (ap mapping_in stays) ∙ e))
-placed_by sc w v x n (inr moves) loan lies e = let no : ◌≡◌ {A = Option MapId} None (Some n) = sym moves.behind ∙ e in absurd cc
-
-pooled_by : (sc : Scenario) (w v : WorldState) (x : ℕ) → OwnerMoves sc w v x → covers (pool_of sc) x ≡ true → owner_of w x ≡ Pool → owner_of v x ≡ Pool
-pooled_by sc w v x (inl stays) over pool = stays ∙ pool
-pooled_by sc w v x (inr moves) over pool = absurd (false≢true (sym moves.unpooled ∙ over))
-
-slotted_by : (sc : Scenario) (w v : WorldState) (x : ℕ) → OwnerMoves sc w v x → covers (slots_of sc) x ≡ true → owner_of w x ≡ Pool → owner_of v x ≡ Pool
-slotted_by sc w v x (inl stays) over pool = stays ∙ pool
-slotted_by sc w v x (inr moves) over pool = absurd (false≢true (sym moves.unslotted ∙ over))
-
-returning_by : (sc : Scenario) (w v : WorldState) (x : ℕ) (n : MapId) → OwnerMoves sc w v x → owner_of w x ≡ Returning n → owner_of v x ≡ Returning n
-returning_by sc w v x n (inl stays) e = stays ∙ e
-returning_by sc w v x n (inr moves) e = let no : ◌≡◌ {A = Option MapId} None (Some n) = sym moves.before ∙ ap mapping_in e in absurd cc
-
-none_full : (c : List Entry) → c ≡ [] → list_any is_full c ≡ true → ⊥
-none_full c none full = false≢true (sym (ap (list_any is_full) none) ∙ full)
-
--- what is dropped is another hart's
-dropped_by : (sc : Scenario) (f : List ℕ) (w : WorldState) (h : HartNo) (n : MachineState) (went : Went) (s j k : ℕ) → Passes sc f w h went → ((x : ℕ) → OwnerMoves sc w (gone w h n went) x) → IsDropped (book_of w) (owner_of w) s j k
-    → IsDropped (book_of (gone w h n went)) (owner_of (gone w h n went)) s j k
-dropped_by sc f w h n went s j k p owners is =
-    let rest : (book_of (gone w h n went)).rest is.id.hart.0 ≡ (book_of w).rest is.id.hart.0 = elim (cases_eq is.id.hart.0 h.0) [
-      | inl own ↦ absurd (none_full (coming is.id is.loan.lot ((book_of w).rest is.id.hart.0)) (subst (λ (g : ℕ). HasNothing ((book_of w).rest g)) (sym own) p.was is.id is.loan.lot) is.ahead)
-      | inr ne ↦ rest_away w h n went is.id.hart.0 ne
-    ] in
-    record {
-      id = is.id;
-      loan = is.loan;
-      lent = loan_gone w h n went is.id (there sc f w h went p) p.fixed p.lots ∙ is.lent;
-      own = is.own;
-      back = is.back;
-      ahead = ap (λ (r : List Step). list_any is_full (coming is.id is.loan.lot r)) rest ∙ is.ahead;
-      place = is.place;
-      owned = returning_by sc w (gone w h n went) is.place is.id (owners is.place) is.owned;
-      here = is.here;
-    }
-
--- ---- what channels see
-
--- a place of no mapping is seen where it is
-unmapped_seen : (a : Book) (o : Owner) (x : ℕ) → mapping_in o ≡ None → seen_at a o x ≡ x
-unmapped_seen a (Thread h) x none = refl
-unmapped_seen a (Passing h g) x none = refl
-unmapped_seen a (Lending n) x none = absurd cc
-unmapped_seen a (Device n) x none = absurd cc
-unmapped_seen a (Returning n) x none = absurd cc
-unmapped_seen a (Synced n) x none = refl
-unmapped_seen a Pool x none = refl
-
-seen_moves : (sc : Scenario) (w v : WorldState) (x : ℕ) → ((n : MapId) → (book_of v).loan n ≡ (book_of w).loan n) → OwnerMoves sc w v x → seen_at (book_of v) (owner_of v x) x ≡ seen_at (book_of w) (owner_of w x) x
-seen_moves sc w v x same (inl stays) = ap (λ (o : Owner). seen_at (book_of v) o x) stays ∙ seen_alike (book_of v) (book_of w) (owner_of w x) x same
-seen_moves sc w v x same (inr moves) = unmapped_seen (book_of v) (owner_of v x) x moves.behind ∙ sym (unmapped_seen (book_of w) (owner_of w x) x moves.before)
-
-unseen_before : (sc : Scenario) (w v : WorldState) (z : ℕ) → ((n : MapId) → (book_of v).loan n ≡ (book_of w).loan n) → ((x : ℕ) → OwnerMoves sc w v x) → IsUnseen (book_of v) (owner_of v) (slots_of sc) z → IsUnseen (book_of w) (owner_of w) (slots_of sc) z
-unseen_before sc w v z same owners unseen = λ x off at. unseen x off (seen_moves sc w v x same (owners x) ∙ at)
-
--- ---- last loads
-
-lasts_passed : (sc : Scenario) (f : List ℕ) (w : WorldState) (h : HartNo) (n : MachineState) (went : Went) → Passes sc f w h went → ((k : ℕ) → (hart_of n k).last ≡ (hart_of w.machine k).last) → Lasts (book_of (gone w h n went)) f n
-lasts_passed sc f w h n went p last k =
-    let b = book_of (gone w h n went) in
-    elim (cases_eq k h.0) [
-      | inl own ↦
-          last_none b f k (hart_of n k).last (rest_last (b.rest k))
-          (ap (λ (j : ℕ). rest_last (b.rest j)) own ∙ ap rest_last (rest_here w h n went (there sc f w h went p)) ∙ p.unstored)
-      | inr ne ↦
-          last_stays sc f f w b n k p.flat p.flat.bytes.flat_size (rest_away w h n went k ne) (last k)
-          (λ m own. loan_gone w h n went m (there sc f w h went p) p.fixed p.lots) (λ x m lent. refl)
-    ]
 
 pub stands_passed : (sc : Scenario) (f : List ℕ) (w : WorldState) (h : HartNo) (n : MachineState) (went : Went) → Passes sc f w h went → PassedIn sc f w h n went → BytesStand sc f (gone w h n went)
 stands_passed sc f w h n went p is =
@@ -198,12 +123,16 @@ stands_passed sc f w h n went p is =
       flat_size = flat.bytes.flat_size;
       drives = drives;
       placed = λ x k lt e. placed_by sc w v x k (is.owners x) (loan_gone w h n went k (there sc f w h went p) p.fixed p.lots) (flat.bytes.placed x k lt) e;
-      pooled = λ x over. pooled_by sc w v x (is.owners x) over (flat.bytes.pooled x over);
+      pooled = λ x over. pooled_by sc w v x (is.owners x) (λ m. loan_gone w h n went m (there sc f w h went p) p.fixed p.lots) over (flat.bytes.pooled x over);
       slotted = λ x over. slotted_by sc w v x (is.owners x) over (flat.bytes.slotted x over);
       rows = is.rows;
       calm = λ z on unseen. is.calm z on (flat.bytes.calm z on (unseen_before sc w v z (λ m. loan_gone w h n went m (there sc f w h went p) p.fixed p.lots) is.owners unseen));
-      queued = queued_to (book_of w) (book_of v) (owner_of w) (owner_of v) n (λ j k. dropped_by sc f w h n went n.size j k p is.owners) (λ j k zeroed. absurd (none_zeroed sc f w (owner_of w) n.size j k flat zeroed)) is.queued;
-      uncached = uncached_of (book_of v) (owner_of v) n (λ x over. is.held x (pool_unheld sc f w x flat (subst (λ (s : Span). covers s x ≡ true) is.shape.pool over)));
+      queued = queued_to (book_of w) (book_of v) (owner_of w) (owner_of v) n (λ j k. dropped_by sc f w h n went n.size j k p is.owners) (λ j k. zeroed_to (book_of w) (book_of v) (owner_of w) (owner_of v) n.size j k (allocates_by sc f w h n went j p is.owners)) is.queued;
+      uncached = λ x over. elim (flat.bytes.uncached x (subst (λ (s : Span). covers s x ≡ true) is.shape.pool over)) [
+        | inl none ↦ inl (is.held x none)
+        | inr may ↦ inr (held_by sc f w h n went x p is.owners may)
+      ];
       unfenced = is.unfenced;
+      tokens = tokens_passed sc f w h n went p is.tokens;
       lasts = lasts_passed sc f w h n went p is.lasts;
     }

@@ -1,6 +1,6 @@
 -- What the calls of a driver that has no plan change: neither its lots nor the rest of a plan.
 use Rattle.std.specs.Prelude.{Option, Some, None, Result, Ok, Err, if◌then◌else◌, Bool, false, not, All}
-use Rattle.std.proofs.Common.{◌≡◌, ℕ, ◌+◌, List, [], ◌∷◌, refl, sym, ap, ◌∙◌, inl, inr, subst}
+use Rattle.std.proofs.Common.{◌≡◌, ℕ, ◌+◌, List, [], ◌∷◌, refl, sym, ap, ◌∙◌, subst}
 use Rattle.std.proofs.lemmas.List.Elements.{All-head, All-tail}
 use Rattle.nc_num.specs.declared.places.Span.{Span}
 use Rattle.nc_model.specs.declared.owners.Owner.{Owner}
@@ -15,13 +15,13 @@ use Rattle.nc_rules.specs.declared.steps.Phase.TheVariants.{Steps}
 use Rattle.nc_rules.specs.declared.steps.Seen.{Seen}
 use Rattle.nc_rules.specs.declared.steps.Seen.TheVariants as seen
 use Rattle.nc_rules.specs.declared.steps.Step.{Step}
-use Rattle.nc_rules.specs.Lots.{is_wanted}
+use Rattle.nc_rules.specs.Lots.{Fixed, is_wanted}
 use Rattle.nc_rules.specs.Refusals.{buffer_of}
 use Rattle.nc_rules.specs.Turns.{lots_after_both, turned, turned_by, without_wanted}
 use Rattle.nc_rules.specs.Handing.{take_step}
 use Rattle.nc_rules.specs.Operations.{step_at, has_start}
 use Rattle.nc_rules.specs.Driver.{DriverState, Went, in_hand, over, stands, kept, give_up, refused_step, started, started_of, started_op, busy, stepped_to, stepped, done, done_of, done_unless, done_in}
-use Rattle.nc_flatness.specs.Plans.{IsStill}
+use Rattle.nc_flatness.specs.Plans.{IsStill, StillDevice, StillSynced, StillOwn, StillSent}
 use Rattle.nc_flat_scripts.proofs.ScriptSteps.{IsOwn}
 
 -- it has no plan, as before, and its lots
@@ -42,19 +42,21 @@ pub record IsIdle (d : DriverState) : Type 0 where
   pub count : ℕ
   pub phase : d.phase ≡ Steps count
   pub rest : d.rest ≡ []
-  pub still : All IsStill d.lots
+  pub still : All (IsStill d.fixed) d.lots
 
 -- ---- lots
 
-still_lent : (lot : Lot) → IsStill lot → is_wanted lot.side ≡ false
-still_lent lot (inl is) = ap is_wanted is
-still_lent lot (inr is) = ap is_wanted is.0
+still_lent : (f : Fixed) (lot : Lot) → IsStill f lot → is_wanted lot.side ≡ false
+still_lent f lot (StillDevice is) = ap is_wanted is
+still_lent f lot (StillSynced is single) = ap is_wanted is
+still_lent f lot (StillOwn is area) = ap is_wanted is
+still_lent f lot (StillSent is light) = ap is_wanted is
 
-pub all_lent : (lots : List Lot) → All IsStill lots → without_wanted lots ≡ lots
-all_lent [] still = refl
-all_lent (lot ∷ lots) still =
-    let rest = all_lent lots (All-tail IsStill lot lots still) in
-    ap (λ (t : Bool). if not t then lot ∷ without_wanted lots else without_wanted lots) (still_lent lot (All-head IsStill lot lots still)) ∙ ap (λ (k : List Lot). lot ∷ k) rest
+pub all_lent : (f : Fixed) (lots : List Lot) → All (IsStill f) lots → without_wanted lots ≡ lots
+all_lent f [] still = refl
+all_lent f (lot ∷ lots) still =
+    let rest = all_lent f lots (All-tail (IsStill f) lot lots still) in
+    ap (λ (t : Bool). if not t then lot ∷ without_wanted lots else without_wanted lots) (still_lent f lot (All-head (IsStill f) lot lots still)) ∙ ap (λ (k : List Lot). lot ∷ k) rest
 
 over_idles : (d : DriverState) (lots : List Lot) → lots ≡ d.lots → Idles d (over d lots)
 over_idles d lots same = record { fixed = refl; lots = same; rest = refl; count = 0; phase = refl }
@@ -67,8 +69,8 @@ stepped_idles d n lots saw (Err r) same = counted_idles d n lots saw same
 stepped_idles d n lots saw (Ok (Some s)) same = counted_idles d n lots saw same
 stepped_idles d n lots saw (Ok None) same = over_idles d lots same
 
-pub gives_up : (d : DriverState) (o : Op) (r : Refusal) → All IsStill d.lots → GoesIdle d (give_up d o r) []
-gives_up d o r still = record { driver = over_idles d (without_wanted d.lots) (all_lent d.lots still); transfers = refl }
+pub gives_up : (d : DriverState) (o : Op) (r : Refusal) → All (IsStill d.fixed) d.lots → GoesIdle d (give_up d o r) []
+gives_up d o r still = record { driver = over_idles d (without_wanted d.lots) (all_lent d.fixed d.lots still); transfers = refl }
 
 -- ---- a step
 
@@ -84,20 +86,20 @@ in_idles d o n s saw phase is same =
     (subst (λ (r : Result (Option Step) Refusal). GoesIdle d (stepped d o (n + 1) saw r next) (turned_when d s)) (sym is)
     (record { driver = stepped_idles d (n + 1) (lots_after_both s.first s.last d.lots) saw next same; transfers = refl }))
 
-unless_idles : (d : DriverState) (o : Op) (n : ℕ) (s : Step) (saw : Seen) (r : Option Refusal) → All IsStill d.lots → d.phase ≡ Steps n → step_at d.fixed d.lots o n ≡ Ok (Some s) → lots_after_both s.first s.last d.lots ≡ d.lots → turned_when d s ≡ []
+unless_idles : (d : DriverState) (o : Op) (n : ℕ) (s : Step) (saw : Seen) (r : Option Refusal) → All (IsStill d.fixed) d.lots → d.phase ≡ Steps n → step_at d.fixed d.lots o n ≡ Ok (Some s) → lots_after_both s.first s.last d.lots ≡ d.lots → turned_when d s ≡ []
     → GoesIdle d (done_unless d o saw r) []
 unless_idles d o n s saw (Some r) still phase is same none = gives_up d o r still
 unless_idles d o n s saw None still phase is same none =
     subst (λ (ts : List (Span × Owner)). GoesIdle d (done_in d o (kept d.saw saw) d.phase) ts) none (in_idles d o n s (kept d.saw saw) phase is same)
 
-none_turned : (d : DriverState) (s : Step) → IsOwn s → turned_when d s ≡ []
+none_turned : (d : DriverState) (s : Step) → IsOwn d.fixed s → turned_when d s ≡ []
 unfolding turned_by
 none_turned d s own = rw (own.first, own.last) refl
 
-same_lots : (d : DriverState) (s : Step) → IsOwn s → lots_after_both s.first s.last d.lots ≡ d.lots
+same_lots : (d : DriverState) (s : Step) → IsOwn d.fixed s → lots_after_both s.first s.last d.lots ≡ d.lots
 same_lots d s own = rw (own.first, own.last) refl
 
-pub done_idles : (d : DriverState) (saw : Seen) (o : Op) (n : ℕ) (s : Step) → All IsStill d.lots → in_hand d ≡ Some o → d.phase ≡ Steps n → step_at d.fixed d.lots o n ≡ Ok (Some s) → IsOwn s → GoesIdle d (done d saw) []
+pub done_idles : (d : DriverState) (saw : Seen) (o : Op) (n : ℕ) (s : Step) → All (IsStill d.fixed) d.lots → in_hand d ≡ Some o → d.phase ≡ Steps n → step_at d.fixed d.lots o n ≡ Ok (Some s) → IsOwn d.fixed s → GoesIdle d (done d saw) []
 unfolding done
 done_idles d saw o n s still hand phase is own =
     subst (λ (k : Option Op). GoesIdle d (done_of d saw k) []) (sym hand) (unless_idles d o n s saw (busy saw) still phase is (same_lots d s own) (none_turned d s own))

@@ -119,7 +119,7 @@ pub record AtStep (d : DriverState) (o : Op) (n : ℕ) (s : Step) : Type 0 where
   pub hand : in_hand d ≡ Some o
   pub phase : d.phase ≡ Steps n
   pub is : step_at d.fixed d.lots o n ≡ Ok (Some s)
-  pub own : IsOwn s
+  pub own : IsOwn d.fixed s
 
 script_touch : (w : WorldState) (h : HartNo) (op : HartOp) (n : ℕ) (p : Phase) → p ≡ Steps n → issue_touch w h (is_script p) op ≡ None → op_touch w h op ≡ None
 script_touch w h op n p is none = subst (λ (t : Bool). (if t then op_touch w h op else None) ≡ None) (ap is_script is) none
@@ -136,7 +136,7 @@ op_goes sc f w h o n s op here at act nx =
     goes_go sc f w (events.Issue h) h next went w.slots (issue_touch w h (is_script d.phase) op) (op_records m h (is_script d.phase) op) here.now.may (outcome_is w h (nexts.Op op) nx ∙ op_is w h op)
     (λ none. subst (λ (t : Bool). GoesTo sc f (marks t) (gone w h next went)) (sym (ap is_script at.phase))
     (acts_go sc f (marks true) w h next went here was (done_idles d saw o n s was.still at.hand at.phase at.is at.own)
-    (acts_op sc f w h op here.now.flat here.there was (script_touch w h op n d.phase at.phase none) (subst IsNoTake act at.own.act) (next_there sc f w h op here nx) (may_next sc f w h (nexts.Op op) here nx))))
+    (acts_op sc f w h op here.now.flat here.there was (script_touch w h op n d.phase at.phase none) (subst (IsNoTake d.fixed) act at.own.act) (next_there sc f w h op here nx) (may_next sc f w h (nexts.Op op) here nx))))
 
 claim_goes : (sc : Scenario) (f : List ℕ) (w : WorldState) (h : HartNo) (o : Op) (n : ℕ) (s : Step) (chan : ChanNo) → IsHere sc f w h → AtStep (driver_of w h.0) o n s → next_of (driver_of w h.0) ≡ nexts.Claim chan → Goes sc f w (events.Issue h)
 claim_goes sc f w h o n s chan here at nx =
@@ -160,4 +160,4 @@ pub act_goes : (sc : Scenario) (f : List ℕ) (w : WorldState) (h : HartNo) (o :
 act_goes sc f w h o n s (acts.Op op) here at act nx = op_goes sc f w h o n s op here at act nx
 act_goes sc f w h o n s (acts.Claim chan) here at act nx = claim_goes sc f w h o n s chan here at nx
 act_goes sc f w h o n s (acts.Poll chan) here at act nx = poll_goes sc f w h o n s chan here at nx
-act_goes sc f w h o n s (acts.Take buf) here at act nx = absurd (subst IsNoTake act at.own.act)
+act_goes sc f w h o n s (acts.Take buf) here at act nx = absurd (subst (IsNoTake (driver_of w h.0).fixed) act at.own.act)

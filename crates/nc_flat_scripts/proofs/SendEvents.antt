@@ -26,16 +26,16 @@ use Rattle.nc_flatness.specs.Plans.{IsStill}
 use Rattle.nc_flatness.specs.Steps.{Goes}
 use Rattle.nc_flat_scripts.proofs.HandCalls.{hands_drives, done_marks, done_mails}
 use Rattle.nc_flat_scripts.proofs.HandEvents.{sends_goes}
-use Rattle.nc_flat_scripts.proofs.MailFacts.{nothing_left, nothing_marked, nothing_mailed, sends_other, mails_other, sends_none, sends_mail, sends_mark}
+use Rattle.nc_flat_scripts.proofs.MailFacts.{marks_none, mails_none, sends_other, mails_other, sends_none, sends_mail, sends_mark}
 use Rattle.nc_flat_scripts.proofs.OpActs.{enters, marker_plain}
-use Rattle.nc_flat_scripts.proofs.PassingFrames.{HasNothing}
 use Rattle.nc_flat_scripts.proofs.ScriptEvents.{IsHere, next_there, may_next}
 use Rattle.nc_flat_scripts.proofs.StepFrames.{idle_drives}
+use Rattle.nc_flat_scripts.proofs.StillLots.{EndsNone, none_ends}
 
-left_as : (r s : List Step) → r ≡ s → HasNothing s → HasNothing r
-left_as r s same none = λ n lot. subst (λ (k : List Step). HasNothing k) (sym same) none n lot
+left_as : (r s : List Step) → r ≡ s → EndsNone s → EndsNone r
+left_as r s same none = subst EndsNone (sym same) none
 
-mark_goes : (sc : Scenario) (f : List ℕ) (w : WorldState) (h : HartNo) (buf : ℕ) (to : HartNo) → IsHere sc f w h → in_hand (driver_of w h.0) ≡ Some (ops.Hand buf to) → (driver_of w h.0).phase ≡ Work → (driver_of w h.0).rest ≡ hand_steps buf to → All IsStill (driver_of w h.0).lots
+mark_goes : (sc : Scenario) (f : List ℕ) (w : WorldState) (h : HartNo) (buf : ℕ) (to : HartNo) → IsHere sc f w h → in_hand (driver_of w h.0) ≡ Some (ops.Hand buf to) → (driver_of w h.0).phase ≡ Work → (driver_of w h.0).rest ≡ hand_steps buf to → All (IsStill (driver_of w h.0).fixed) (driver_of w h.0).lots
     → next_of (driver_of w h.0) ≡ nexts.Op (hart.Mark 1 4) → Goes sc f w (events.Issue h)
 unfolding op_records
 mark_goes sc f w h buf to here hand phase rest still nx =
@@ -52,8 +52,8 @@ mark_goes sc f w h buf to here hand phase rest still nx =
         still = still;
         fixed = goes.driver.fixed;
         lots = goes.driver.lots;
-        was = left_as d.rest (hand_steps buf to) rest (nothing_marked buf to);
-        left = left_as went.driver.rest (mail_step buf to ∷ []) goes.driver.rest (nothing_mailed buf to);
+        was = left_as d.rest (hand_steps buf to) rest (marks_none buf to);
+        left = left_as went.driver.rest (mail_step buf to ∷ []) goes.driver.rest (mails_none buf to);
         unstored = ap rest_last goes.driver.rest;
         drives = hands_drives d went.driver buf to (mail_step buf to ∷ []) (flat.bytes.drives h.0 here.lt) still goes.driver (inr refl);
       };
@@ -68,7 +68,7 @@ mark_goes sc f w h buf to here hand phase rest still nx =
       owners = goes.transfers;
     })
 
-mail_goes : (sc : Scenario) (f : List ℕ) (w : WorldState) (h : HartNo) (buf : ℕ) (to : HartNo) → IsHere sc f w h → in_hand (driver_of w h.0) ≡ Some (ops.Hand buf to) → (driver_of w h.0).phase ≡ Work → (driver_of w h.0).rest ≡ mail_step buf to ∷ [] → All IsStill (driver_of w h.0).lots
+mail_goes : (sc : Scenario) (f : List ℕ) (w : WorldState) (h : HartNo) (buf : ℕ) (to : HartNo) → IsHere sc f w h → in_hand (driver_of w h.0) ≡ Some (ops.Hand buf to) → (driver_of w h.0).phase ≡ Work → (driver_of w h.0).rest ≡ mail_step buf to ∷ [] → All (IsStill (driver_of w h.0).fixed) (driver_of w h.0).lots
     → next_of (driver_of w h.0) ≡ nexts.Op (hart.IoStore (io.Mail buf to)) → Goes sc f w (events.Issue h)
 unfolding op_records
 mail_goes sc f w h buf to here hand phase rest still nx =
@@ -86,16 +86,16 @@ mail_goes sc f w h buf to here hand phase rest still nx =
         still = still;
         fixed = goes.driver.fixed;
         lots = goes.driver.lots;
-        was = left_as d.rest (mail_step buf to ∷ []) rest (nothing_mailed buf to);
-        left = left_as went.driver.rest [] goes.driver.rest nothing_left;
+        was = left_as d.rest (mail_step buf to ∷ []) rest (mails_none buf to);
+        left = none_ends went.driver.rest goes.driver.rest;
         unstored = ap rest_last goes.driver.rest;
         drives = idle_drives d went.driver (flat.bytes.drives h.0 here.lt) still goes.driver;
       };
       by = enters w h op e flat.world.machine here.there refl there (may_next sc f w h (nexts.Op op) here nx);
-      plain = record { token = λ n. refl; fence = refl };
+      plain = record { token = λ n. refl; fence = refl; inval = λ b. refl; lot = λ id. refl };
       silent = λ x. refl;
       queued = tt;
-      comes = record { size = flat.world.machine.block_size; fits = tt; plain = record { token = λ n. refl; fence = refl }; own = λ x. inl refl };
+      comes = record { size = flat.world.machine.block_size; fits = tt; plain = record { token = λ n. refl; fence = refl; inval = λ b. refl; lot = λ id. refl }; own = λ x. inl refl };
       its = ap (sending buf) rest ∙ sends_mail buf to ∙ ap (λ (r : List Step). e ∷ sending buf r) (sym goes.driver.rest);
       others = λ c ne. ap (sending c) goes.driver.rest ∙ sends_none c ∙ sym (mails_other c buf to ne) ∙ ap (sending c) (sym rest);
       mail = λ c ne. ne_eqb buf c (λ same. ne (sym same));
@@ -107,7 +107,7 @@ unfolding next_of
 next_work d o rest hand phase is = ap (next_of_op d) hand ∙ ap (next_in d o) phase ∙ ap next_rest is
 
 -- whichever of the two is left
-pub send_goes : (sc : Scenario) (f : List ℕ) (w : WorldState) (h : HartNo) (buf : ℕ) (to : HartNo) → IsHere sc f w h → in_hand (driver_of w h.0) ≡ Some (ops.Hand buf to) → (driver_of w h.0).phase ≡ Work → All IsStill (driver_of w h.0).lots
+pub send_goes : (sc : Scenario) (f : List ℕ) (w : WorldState) (h : HartNo) (buf : ℕ) (to : HartNo) → IsHere sc f w h → in_hand (driver_of w h.0) ≡ Some (ops.Hand buf to) → (driver_of w h.0).phase ≡ Work → All (IsStill (driver_of w h.0).fixed) (driver_of w h.0).lots
     → ((driver_of w h.0).rest ≡ hand_steps buf to) ⊎ ((driver_of w h.0).rest ≡ mail_step buf to ∷ []) → Goes sc f w (events.Issue h)
 send_goes sc f w h buf to here hand phase still (inl rest) = mark_goes sc f w h buf to here hand phase rest still (next_work (driver_of w h.0) (ops.Hand buf to) (hand_steps buf to) hand phase rest)
 send_goes sc f w h buf to here hand phase still (inr rest) = mail_goes sc f w h buf to here hand phase rest still (next_work (driver_of w h.0) (ops.Hand buf to) (mail_step buf to ∷ []) hand phase rest)

@@ -25,9 +25,10 @@ use Rattle.nc_rows.specs.Ahead.{is_full}
 use Rattle.nc_rows.specs.Places.{CalmRow}
 use Rattle.nc_rows.specs.Rows.{Book, Row}
 use Rattle.nc_rows.specs.Parts.{Queued, Uncached, Lasts}
-use Rattle.nc_flatness.specs.Books.{loan_of, number_in, book_of, mapping_in, LiesIn}
+use Rattle.nc_flatness.specs.Books.{loan_of, number_in, book_of, mapping_in, LiesIn, IsPooled}
 use Rattle.nc_flatness.specs.Flatness.{StandsAt, Drives, IsUnseen, BytesStand, Flatness}
 use Rattle.nc_flatness.specs.Plans.{IsStill}
+use Rattle.nc_flatness.specs.Tokens.{TokenStands}
 use Rattle.nc_flatness.proofs.Outcomes.{gone}
 use Rattle.nc_flat_scripts.proofs.ScriptCalls.{Idles, GoesIdle, IsIdle}
 
@@ -59,10 +60,10 @@ book_same w v same =
 
 -- ---- a driver without a plan
 
-pub idle_drives : (d e : DriverState) → Drives d → All IsStill d.lots → Idles d e → Drives e
+pub idle_drives : (d e : DriverState) → Drives d → All (IsStill d.fixed) d.lots → Idles d e → Drives e
 idle_drives d e is still idle = record {
   lots = rw (idle.fixed, idle.lots) is.lots;
-  stands = subst (λ (p : Phase). StandsAt e p) (sym idle.phase) (rw idle.lots still);
+  stands = subst (λ (p : Phase). StandsAt e p) (sym idle.phase) (rw (idle.fixed, idle.lots) still);
   idle = subst (λ (p : Phase). RestAt p e.rest) (sym idle.phase) idle.rest;
 }
 
@@ -89,6 +90,9 @@ idle_reads sc f w h n went flat lt was idle k = elim (cases_eq k h.0) [
 pub idle_book : (sc : Scenario) (f : List ℕ) (w : WorldState) (h : HartNo) (n : MachineState) (went : Went) → Flatness sc f w → h.0 < length sc.harts → IsIdle (driver_of w h.0) → Idles (driver_of w h.0) went.driver → book_of (gone w h n went) ≡ book_of w
 idle_book sc f w h n went flat lt was idle = book_same w (gone w h n went) (idle_reads sc f w h n went flat lt was idle)
 
+tokens_read : (n : MachineState) (d e : DriverState) (h : ℕ) → ReadsSame d e → (d.fixed.light ≡ true → All (TokenStands d.rest (queue_of n h)) d.lots) → e.fixed.light ≡ true → All (TokenStands e.rest (queue_of n h)) e.lots
+tokens_read n d e h same tokens light = rw (same.lots, same.rest) (tokens (ap (λ (f : Fixed). f.light) (sym same.fixed) ∙ light))
+
 -- ---- owners stay
 
 -- flat memory g stands in machine n, where the drivers and the owners are those of w
@@ -99,6 +103,7 @@ pub record StandsIn (sc : Scenario) (g : List ℕ) (w : WorldState) (n : Machine
   pub queued : Queued (book_of w) (owner_of w) n
   pub uncached : Uncached (book_of w) (owner_of w) n
   pub unfenced : (g : ℕ) → list_any is_full (queue_of n g) ≡ false
+  pub tokens : (h : ℕ) → h < length sc.harts → (driver_of w h).fixed.light ≡ true → All (TokenStands (driver_of w h).rest (queue_of n h)) (driver_of w h).lots
   pub lasts : Lasts (book_of w) g n
 
 abbrev pub put : WorldState → List Owner → WorldState
@@ -114,17 +119,19 @@ idle_stands sc f g w h n went flat lt was idle is =
     let book : book_of v ≡ book_of w = idle_book sc f w h n went flat lt was idle.driver in
     let owners : v.owners ≡ w.owners = ap (λ (ts : List (Span × Owner)). owners_moved w.owners ts) idle.transfers in
     let same : owner_of v ≡ owner_of w = ap (λ (os : List Owner). owner_of (put w os)) owners in
+    let reads = idle_reads sc f w h n went flat lt was idle.driver in
     let drives = drives_set sc f w h n went flat lt (idle_drives (driver_of w h.0) went.driver (flat.bytes.drives h.0 lt) was.still idle.driver) in
     record {
       flat_size = is.flat_size;
       drives = drives;
       placed = swap (λ (a : Book) (o : ℕ → Owner). (x : ℕ) (k : MapId) → x < sc.ram → mapping_in (o x) ≡ Some k → LiesIn (a.loan k) x) (book_of w) (book_of v) (owner_of w) (owner_of v) book same flat.bytes.placed;
-      pooled = swap (λ (a : Book) (o : ℕ → Owner). (x : ℕ) → covers (pool_of sc) x ≡ true → o x ≡ Pool) (book_of w) (book_of v) (owner_of w) (owner_of v) book same flat.bytes.pooled;
+      pooled = swap (λ (a : Book) (o : ℕ → Owner). (x : ℕ) → covers (pool_of sc) x ≡ true → IsPooled a (o x) x) (book_of w) (book_of v) (owner_of w) (owner_of v) book same flat.bytes.pooled;
       slotted = swap (λ (a : Book) (o : ℕ → Owner). (x : ℕ) → covers (slots_of sc) x ≡ true → o x ≡ Pool) (book_of w) (book_of v) (owner_of w) (owner_of v) book same flat.bytes.slotted;
       rows = swap (λ (a : Book) (o : ℕ → Owner). (x : ℕ) → x < sc.ram → covers (slots_of sc) x ≡ false → Row a (o x) (byte g x) n x) (book_of w) (book_of v) (owner_of w) (owner_of v) book same is.rows;
       calm = swap (λ (a : Book) (o : ℕ → Owner). (z : ℕ) → covers (slots_of sc) z ≡ true → IsUnseen a o (slots_of sc) z → CalmRow n z) (book_of w) (book_of v) (owner_of w) (owner_of v) book same is.calm;
       queued = swap (λ (a : Book) (o : ℕ → Owner). Queued a o n) (book_of w) (book_of v) (owner_of w) (owner_of v) book same is.queued;
       uncached = swap (λ (a : Book) (o : ℕ → Owner). Uncached a o n) (book_of w) (book_of v) (owner_of w) (owner_of v) book same is.uncached;
       unfenced = is.unfenced;
+      tokens = λ k few. tokens_read n (driver_of w k) (driver_of v k) k (reads k) (is.tokens k few);
       lasts = subst (λ (a : Book). Lasts a g n) (sym book) is.lasts;
     }

@@ -1,5 +1,5 @@
 -- A hart takes a buffer that was passed to it, as an event.
-use Rattle.std.specs.Prelude.{Some, None, Ok, true, false, not, slice_index_or}
+use Rattle.std.specs.Prelude.{Some, None, Ok, true, false, not, filter, slice_index_or}
 use Rattle.std.specs.List.{list_any}
 use Rattle.std.proofs.Common.{◌≡◌, ℕ, ◌<◌, List, [], length, refl, sym, ap, ◌∙◌, inl, inr, subst, arith}
 use Rattle.std.proofs.lemmas.Bool.{and_parts, cases_Bool}
@@ -35,23 +35,26 @@ use Rattle.nc_calls.proofs.SoundLaws.{calls_keep_shape}
 use Rattle.nc_scripts.proofs.EveryDriver.{in_hand_is}
 use Rattle.nc_holds.proofs.MessageGoesOn.{for_hart}
 use Rattle.nc_holds.proofs.MessageStatus.{IsGiven, given_from}
-use Rattle.nc_rows.specs.Ahead.{is_mail, coming, sending}
+use Rattle.nc_rows.specs.Ahead.{is_mail, sending}
 use Rattle.nc_rows.specs.Places.{ThreadRow}
 use Rattle.nc_rows.specs.Parts.{rest_last}
 use Rattle.nc_rows.specs.Rows.{PassingRow, Row}
 use Rattle.nc_row_plans.proofs.PlanBegins.{rows_begin}
 use Rattle.nc_flatness.specs.Books.{book_of, mapping_in}
 use Rattle.nc_flatness.specs.Steps.{Goes}
+use Rattle.nc_flatness.specs.Tokens.{is_lot_token}
 use Rattle.nc_flatness.proofs.Outcomes.{gone, goes_go, goes_silent}
 use Rattle.nc_flatness.proofs.Owned.{me_is}
 use Rattle.nc_flat_scripts.proofs.ActRows.{calm_at, stays_row, stays_stand}
 use Rattle.nc_flat_scripts.proofs.BufferOwners.{moved_in, moved_out, range_of, ranges_alike, number_here, off_pool, off_slots}
 use Rattle.nc_flat_scripts.proofs.HandStarts.{in_owners}
-use Rattle.nc_flat_scripts.proofs.MailFacts.{nothing_left, none_in_line}
-use Rattle.nc_flat_scripts.proofs.PassingFrames.{Passes, row_over, PassedIn, stands_passed}
+use Rattle.nc_flat_scripts.proofs.MailFacts.{none_in_line}
+use Rattle.nc_flat_scripts.proofs.PassingFrames.{row_over, PassedIn, stands_passed}
+use Rattle.nc_flat_scripts.proofs.PassingParts.{Passes}
 use Rattle.nc_flat_scripts.proofs.ScriptCalls.{done_takes}
 use Rattle.nc_flat_scripts.proofs.ScriptEvents.{IsHere, idle_by, may_next, outcome_is}
 use Rattle.nc_flat_scripts.proofs.StepFrames.{StandsIn, idle_drives}
+use Rattle.nc_flat_scripts.proofs.StillLots.{none_ends}
 
 -- the buffer that waits for the hart is taken with this call
 pub record IsTaken (sc : Scenario) (f : List ℕ) (w : WorldState) (h : HartNo) (went : Went) (buf : ℕ) : Type 0 where
@@ -96,6 +99,7 @@ taken_stands sc f w h went n buf t shape stays =
       held = λ x none. (stays.places x).line ∙ none;
       queued = is.queued;
       unfenced = is.unfenced;
+      tokens = λ g id. ap (filter (is_lot_token id)) (stays.queues g);
       owners = λ x. elim (cases_Bool (covers (range_of w h.0 buf) x)) [
         | inl over ↦
             let passing : owner_of w x ≡ Passing t.given.from h = was_passing sc f w h went buf x t over in
@@ -144,8 +148,8 @@ take_goes sc f w h buf n here hand phase at nx =
         still = idle.still;
         fixed = moves.driver.fixed;
         lots = moves.driver.lots;
-        was = λ k lot. ap (coming k lot) idle.rest ∙ nothing_left k lot;
-        left = λ k lot. ap (coming k lot) moves.driver.rest ∙ nothing_left k lot;
+        was = none_ends d.rest idle.rest;
+        left = none_ends went.driver.rest moves.driver.rest;
         unstored = ap rest_last moves.driver.rest;
         drives = idle_drives d went.driver (flat.bytes.drives h.0 here.lt) idle.still moves.driver;
       };

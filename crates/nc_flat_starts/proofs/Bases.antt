@@ -31,8 +31,8 @@ use Rattle.nc_holds.specs.Held.{Held, FitsSide, LiesInBuffer, slots_span}
 use Rattle.nc_holds.specs.Holds.{held_of}
 use Rattle.nc_holds.proofs.EventFrom.{EveryoneIn}
 use Rattle.nc_holds.proofs.GrantWords.{slot_once, slot_holder, slot_harts}
-use Rattle.nc_holds.proofs.ListsA.{all_at, at_get}
-use Rattle.nc_holds.proofs.OwnerLots.{same_lot, entry_in}
+use Rattle.nc_holds.proofs.ListsA.{all_at, at_get, none_of, get_at}
+use Rattle.nc_holds.proofs.OwnerLots.{same_lot, entry_in, area_direct}
 use Rattle.nc_rules.specs.Watched.{owner_of}
 use Rattle.nc_model.specs.declared.owners.Owner.{Owner}
 use Rattle.nc_rows.specs.Laws.{seen_at}
@@ -42,7 +42,7 @@ use Rattle.nc_flatness.specs.Flatness.{is_mapping, IsMapping, IsStillOrWanted, I
 use Rattle.nc_flatness.proofs.Seen.{slot_at, seen, seen_ways, slot_slots, has_slot, of_device}
 use Rattle.nc_flatness.specs.Plans.{IsStill}
 use Rattle.nc_flat_starts.proofs.Lots.{loan_in}
-use Rattle.nc_flat_starts.proofs.PlansGo.{IsPlanned}
+use Rattle.nc_flat_starts.proofs.PlanOps.{IsPlanned}
 use Rattle.nc_flat_starts.proofs.Sides.{Others}
 
 -- what the hart holds with these lots and slot words
@@ -61,8 +61,8 @@ pub record IsBase (sc : Scenario) (f : List ℕ) (w : WorldState) (h : HartNo) (
   pub loans : (k : MapId) → (k.label.0 ≡ lot.id.label.0 → ⊥) → loan_in (driver_of w h.0).fixed lots k ≡ loan_of (driver_of w h.0) k
   -- a lot that is lent, or was, is one of them
   pub kept : (other : Lot) → In other (driver_of w h.0).lots → is_wanted other.side ≡ false → In other lots
-  pub still : All IsStillOrWanted (driver_of w h.0).lots
-  pub others : Others IsStill lot.id lots
+  pub still : All (IsStillOrWanted (driver_of w h.0).fixed) (driver_of w h.0).lots
+  pub others : Others (IsStill (driver_of w h.0).fixed) lot.id lots
   -- no plan is left
   pub idle : (driver_of w h.0).rest ≡ []
 
@@ -71,14 +71,8 @@ pub record IsBase (sc : Scenario) (f : List ℕ) (w : WorldState) (h : HartNo) (
 pub mapping_first : (pool : Span) (kind : Kind) (id : LotId) (es : List Entry) → is_mapping kind ≡ true → FitsKind pool kind id es → id.first ≡ 0
 mapping_first pool kinds.Single id es is fits = fits.0.first
 mapping_first pool kinds.List id es is fits = fits.0.first
-mapping_first pool kinds.Area id es is fits = absurd cc
+mapping_first pool kinds.Area id es is fits = fits.0.first
 mapping_first pool kinds.Copy id es is fits = absurd cc
-
-pub no_area : (kind : Kind) → is_mapping kind ≡ true → is_area kind ≡ false
-no_area kinds.Single is = refl
-no_area kinds.List is = refl
-no_area kinds.Area is = absurd cc
-no_area kinds.Copy is = absurd cc
 
 name_is : (a b : LotId) → a.label.0 ≡ b.label.0 → a.first ≡ b.first → a ≡ b
 name_is a b label first i = record { label = record { 0 = label i }; first = first i }
@@ -106,17 +100,17 @@ base_mapping sc f w h lots lot b = all_at (IsMapping (driver_of w h.0).fixed) lo
 pub base_first : (sc : Scenario) (f : List ℕ) (w : WorldState) (h : HartNo) (lots : List Lot) (lot : Lot) → IsBase sc f w h lots lot → lot.id.first ≡ 0
 base_first sc f w h lots lot b = mapping_first (driver_of w h.0).fixed.pool lot.kind lot.id lot.list.entries (base_mapping sc f w h lots lot b).kind (base_lot sc f w h lots lot b).kind
 
--- an entry lies in a buffer
-pub base_lies : (sc : Scenario) (f : List ℕ) (w : WorldState) (h : HartNo) (lots : List Lot) (lot : Lot) (i : ℕ) (e : Entry) → IsBase sc f w h lots lot → slice_get lot.list.entries i ≡ Some e → LiesInBuffer (driver_of w h.0).fixed e.span
-base_lies sc f w h lots lot i e b there =
-    all_at (λ (d : Entry). LiesInBuffer (driver_of w h.0).fixed d.span) lot.list.entries e ((all_at (FitsSide (driver_of w h.0).fixed) lots lot b.each.mine.sides b.here).in_buffer (no_area lot.kind (base_mapping sc f w h lots lot b).kind)) (at_get lot.list.entries i e there)
+-- an entry lies in a buffer, but of an area
+pub base_lies : (sc : Scenario) (f : List ℕ) (w : WorldState) (h : HartNo) (lots : List Lot) (lot : Lot) (i : ℕ) (e : Entry) → IsBase sc f w h lots lot → is_area lot.kind ≡ false → slice_get lot.list.entries i ≡ Some e → LiesInBuffer (driver_of w h.0).fixed e.span
+base_lies sc f w h lots lot i e b plain there =
+    all_at (λ (d : Entry). LiesInBuffer (driver_of w h.0).fixed d.span) lot.list.entries e ((all_at (FitsSide (driver_of w h.0).fixed) lots lot b.each.mine.sides b.here).in_buffer plain) (at_get lot.list.entries i e there)
 
 -- none of its bytes is the pool's or a slot's
-pub base_beside : (sc : Scenario) (f : List ℕ) (w : WorldState) (h : HartNo) (lots : List Lot) (lot : Lot) (i : ℕ) (e : Entry) (x : ℕ) → IsBase sc f w h lots lot → slice_get lot.list.entries i ≡ Some e → covers e.span x ≡ true
+pub base_beside : (sc : Scenario) (f : List ℕ) (w : WorldState) (h : HartNo) (lots : List Lot) (lot : Lot) (i : ℕ) (e : Entry) (x : ℕ) → IsBase sc f w h lots lot → is_area lot.kind ≡ false → slice_get lot.list.entries i ≡ Some e → covers e.span x ≡ true
     → (covers (pool_of sc) x ≡ false) × (covers (slots_of sc) x ≡ false)
-base_beside sc f w h lots lot i e x b there on =
+base_beside sc f w h lots lot i e x b plain there on =
     let fx = (driver_of w h.0).fixed in
-    let lies = base_lies sc f w h lots lot i e b there in
+    let lies = base_lies sc f w h lots lot i e b plain there in
     let same = fixed_is sc f w h b.flat b.lt in
     let pool : fx.pool ≡ pool_of sc = ap (λ (k : Fixed). k.pool) same in
     let slots : slots_span fx ≡ slots_of sc = ap (λ (k : Fixed). slots_span k) same in (
@@ -137,6 +131,10 @@ slot_by false o placed is = absurd cc
 
 pub slot_in : (e : Entry) → sg.waits e ≡ false → e.bounced ≡ true → (k : ℕ) × (e.slot ≡ Some k)
 slot_in e placed is = slot_by e.bounced e.slot placed is
+
+-- an area waits for none
+pub area_placed : (ram : ℕ) (f : Fixed) (lot : Lot) → IsLotIn ram f lot → is_area lot.kind ≡ true → lot_waits lot ≡ false
+area_placed ram f lot is area = position_any sg.waits lot.list.entries ∙ none_of sg.waits lot.list.entries (λ e here. let at = get_at lot.list.entries e here in rw (area_direct ram f lot at.0 e is area at.1) refl)
 
 -- what bounces lies in its slot
 pub record IsInSlot (f : Fixed) (e : Entry) (k : ℕ) : Type 0 where
@@ -163,8 +161,8 @@ direct_off f e off = ap not (eq-eqb e.span.at (sg.device f.slots_at e).at (sym (
 slotted_off : (f : Fixed) (e : Entry) → (e.span.at ≡ (sg.device f.slots_at e).at → ⊥) → not (e.span.at == (sg.device f.slots_at e).at) ≡ true
 slotted_off f e apart = ap not (false_from_ne_true (e.span.at == (sg.device f.slots_at e).at) (λ is. apart (eqb-true e.span.at (sg.device f.slots_at e).at is)))
 
-pub base_planned : (sc : Scenario) (f : List ℕ) (w : WorldState) (h : HartNo) (lots : List Lot) (lot : Lot) → IsBase sc f w h lots lot → IsPlanned (driver_of w h.0).fixed lot
-base_planned sc f w h lots lot b =
+pub base_planned : (sc : Scenario) (f : List ℕ) (w : WorldState) (h : HartNo) (lots : List Lot) (lot : Lot) → IsBase sc f w h lots lot → is_area lot.kind ≡ false → IsPlanned (driver_of w h.0).fixed lot
+base_planned sc f w h lots lot b plain =
     let fx = (driver_of w h.0).fixed in
     let ram = length w.machine.cache.ram in
     let s = with_these w h.0 lots b.slots in
@@ -179,7 +177,7 @@ base_planned sc f w h lots lot b =
             let slot = slot_in e (waits_not lot i e b.placed there) bounced in
             let entry = entry_in ram fx lot i e is_in there in
             let k = in_slot_so ram fx e slot.0 b.each.knows.fixed.slots_whole entry bounced slot.1 in
-            let lies = base_lies sc f w h lots lot i e b there in
+            let lies = base_lies sc f w h lots lot i e b plain there in
             slotted_off fx e
             (λ same. b.each.knows.regions.buffers_off_slots lies.0 e.span.at (lies.1 e.span.at (covers-from e.span e.span.at (omega arith) (omega (arith, entry.range.some))))
             (covers-from (slots_span fx) e.span.at (omega (arith, same, k.low)) (omega (arith, same, k.high, k.few, entry.range.some)))) ∙ sym bounced

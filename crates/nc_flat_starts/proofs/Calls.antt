@@ -25,7 +25,7 @@ use Rattle.nc_rules.specs.declared.steps.Step.{Step}
 use Rattle.nc_rules.specs.declared.steps.Turn.{Turn}
 use Rattle.nc_rules.specs.declared.steps.Turn.TheVariants as turns
 use Rattle.nc_rules.specs.Lots.{Fixed, lot_id, lot_named, is_lot, is_named, is_labelled, is_wanted, same_kind, lot_waits, some_lot_waits}
-use Rattle.nc_rules.specs.Turns.{lots_after, transfers_of, turned_by}
+use Rattle.nc_rules.specs.Turns.{is_area, lots_after, transfers_of, turned_by}
 use Rattle.nc_rules.specs.Plans.{lend_steps}
 use Rattle.nc_rules.specs.Mappings as mappings
 use Rattle.nc_rules.specs.Mappings.{with_lot}
@@ -42,7 +42,7 @@ use Rattle.nc_holds.proofs.OwnerEnds.{left_all}
 use Rattle.nc_flatness.specs.Books.{loan_by, loan_of}
 use Rattle.nc_flatness.specs.Covered.{is_lending}
 use Rattle.nc_flatness.specs.Flatness.{IsMapping, IsStillOrWanted, makes_kind, IsStillOrMade, BytesStand, Flatness}
-use Rattle.nc_flatness.specs.Plans.{IsStill}
+use Rattle.nc_flatness.specs.Plans.{IsStill, StillDevice, StillSynced, StillOwn, StillSent}
 use Rattle.nc_flatness.proofs.Outcomes.{gone}
 use Rattle.nc_flat_starts.proofs.Bases.{IsBase, with_these, label_one}
 use Rattle.nc_flat_starts.proofs.Lots.{loan_in, find_only, kept_loans}
@@ -61,13 +61,13 @@ pub record IsCall (sc : Scenario) (f : List ℕ) (w : WorldState) (h : HartNo) (
   pub mappings : All (IsMapping (driver_of w h.0).fixed) lots
   pub loans : (k : MapId) → loan_in (driver_of w h.0).fixed lots k ≡ loan_of (driver_of w h.0) k
   pub kept : (other : Lot) → In other (driver_of w h.0).lots → is_wanted other.side ≡ false → In other lots
-  pub still : All IsStillOrWanted (driver_of w h.0).lots
-  pub now : All (IsStillOrMade (Some o)) lots
+  pub still : All (IsStillOrWanted (driver_of w h.0).fixed) (driver_of w h.0).lots
+  pub now : All (IsStillOrMade (driver_of w h.0).fixed (Some o)) lots
   pub hand : in_hand (driver_of w h.0) ≡ Some o
   pub lends : is_lending o ≡ true
   pub idle : (driver_of w h.0).rest ≡ []
 
-pub call_base : (sc : Scenario) (f : List ℕ) (w : WorldState) (h : HartNo) (o : Op) (lots : List Lot) (lot : Lot) → IsCall sc f w h o lots → In lot lots → lot_waits lot ≡ false → Others IsStill lot.id lots → IsBase sc f w h lots lot
+pub call_base : (sc : Scenario) (f : List ℕ) (w : WorldState) (h : HartNo) (o : Op) (lots : List Lot) (lot : Lot) → IsCall sc f w h o lots → In lot lots → lot_waits lot ≡ false → Others (IsStill (driver_of w h.0).fixed) lot.id lots → IsBase sc f w h lots lot
 call_base sc f w h o lots lot c here placed_so others = record {
   flat = c.flat;
   lt = c.lt;
@@ -92,12 +92,12 @@ call_named sc f w h o lots lot label kind c here named =
 
 -- ---- giving up, and searching
 
-still_lent : (lot : Lot) → IsStillOrWanted lot → not (is_wanted lot.side) ≡ true → IsStill lot
-still_lent lot (inl still) lent = still
-still_lent lot (inr is) lent = let no : not true ≡ true = subst (λ (s : Side). not (is_wanted s) ≡ true) is lent in absurd cc
+still_lent : (f : Fixed) (lot : Lot) → IsStillOrWanted f lot → not (is_wanted lot.side) ≡ true → IsStill f lot
+still_lent f lot (inl still) lent = still
+still_lent f lot (inr is) lent = let no : not true ≡ true = subst (λ (s : Side). not (is_wanted s) ≡ true) is lent in absurd cc
 
 -- a driver that gives up has the lots that are lent
-pub gives_bytes : (sc : Scenario) (f : List ℕ) (w : WorldState) (h : HartNo) (o : Op) (r : Refusal) → Flatness sc f w → h.0 < length sc.harts → (driver_of w h.0).rest ≡ [] → All IsStillOrWanted (driver_of w h.0).lots → BytesStand sc f (gone w h w.machine (give_up (driver_of w h.0) o r))
+pub gives_bytes : (sc : Scenario) (f : List ℕ) (w : WorldState) (h : HartNo) (o : Op) (r : Refusal) → Flatness sc f w → h.0 < length sc.harts → (driver_of w h.0).rest ≡ [] → All (IsStillOrWanted (driver_of w h.0).fixed) (driver_of w h.0).lots → BytesStand sc f (gone w h w.machine (give_up (driver_of w h.0) o r))
 gives_bytes sc f w h o r flat lt idle still =
     let d = driver_of w h.0 in
     let fx = d.fixed in
@@ -112,7 +112,7 @@ gives_bytes sc f w h o r flat lt idle still =
       loans = λ k. ap (option_map (loan_by fx k)) (kept_loans k d.lots);
       drives = record {
         lots = left_all (IsMapping fx) (λ lot. not (is_wanted lot.side)) d.lots (flat.bytes.drives h.0 lt).lots;
-        stands = all_filtered IsStillOrWanted IsStill (λ (lot : Lot). not (is_wanted lot.side)) d.lots still still_lent;
+        stands = all_filtered (IsStillOrWanted fx) (IsStill fx) (λ (lot : Lot). not (is_wanted lot.side)) d.lots still (still_lent fx);
         idle = refl;
       };
     })
@@ -130,7 +130,7 @@ search_bytes sc f w h o lots k c =
       transfers = refl;
       fixed = refl;
       loans = c.loans;
-      drives = record { lots = c.mappings; stands = subst (λ (p : Option Op). All (IsStillOrMade p) lots) (sym c.hand) c.now; idle = refl };
+      drives = record { lots = c.mappings; stands = subst (λ (p : Option Op). All (IsStillOrMade d.fixed p) lots) (sym c.hand) c.now; idle = refl };
     })
 
 -- ---- an opening
@@ -149,10 +149,10 @@ opened_so d o lots turn plan first steps = record {
 -- ---- what map makes
 
 -- it is the one lot that is not lent yet
-pub record IsNew (o : Op) (lots : List Lot) (lot : Lot) : Type 0 where
+pub record IsNew (f : Fixed) (o : Op) (lots : List Lot) (lot : Lot) : Type 0 where
   pub here : In lot lots
   pub wanted : lot.side ≡ sides.Wanted
-  pub others : Others IsStill lot.id lots
+  pub others : Others (IsStill f) lot.id lots
 
 pub wanted_side : (side : Side) → is_wanted side ≡ true → side ≡ sides.Wanted
 wanted_side sides.Wanted e = refl
@@ -167,17 +167,23 @@ one_made [] id e = absurd cc
 one_made (x ∷ []) id e = (x, refl, let same : x.id ∷ [] ≡ id ∷ [] = e in cc)
 one_made (x ∷ y ∷ new) id e = absurd cc
 
-still_of : (o : Option Op) (lot : Lot) → IsStillOrMade o lot → is_wanted lot.side ≡ false → IsStill lot
-still_of o lot (inl still) lent = still
-still_of o lot (inr is) lent = absurd (both_ways (is_wanted lot.side) lent (ap is_wanted is.0))
+still_of : (f : Fixed) (o : Option Op) (lot : Lot) → IsStillOrMade f o lot → is_wanted lot.side ≡ false → IsStill f lot
+still_of f o lot (inl still) lent = still
+still_of f o lot (inr is) lent = absurd (both_ways (is_wanted lot.side) lent (ap is_wanted is.0))
 
-pub kind_of : (o : Op) (lot : Lot) → IsStillOrMade (Some o) lot → is_wanted lot.side ≡ true → makes_kind o lot.kind ≡ true
-kind_of o lot (inl (inl is)) wanted = absurd (both_ways (is_wanted lot.side) (ap is_wanted is) wanted)
-kind_of o lot (inl (inr is)) wanted = absurd (both_ways (is_wanted lot.side) (ap is_wanted is.0) wanted)
-kind_of o lot (inr is) wanted = is.1
+still_unwanted : (f : Fixed) (lot : Lot) → IsStill f lot → is_wanted lot.side ≡ false
+still_unwanted f lot (StillDevice is) = ap is_wanted is
+still_unwanted f lot (StillSynced is kind) = ap is_wanted is
+still_unwanted f lot (StillOwn is kind) = ap is_wanted is
+still_unwanted f lot (StillSent is light) = ap is_wanted is
 
-pub made_lot : (sc : Scenario) (f : List ℕ) (w : WorldState) (h : HartNo) (o : Op) (lots : List Lot) (id : LotId) → IsCall sc f w h o lots → AreMade o lots → made_names o ≡ id ∷ [] → (lot : Lot) × IsNew o lots lot × (lot.id ≡ id) × (makes_kind o lot.kind ≡ true)
+pub kind_of : (f : Fixed) (o : Op) (lot : Lot) → IsStillOrMade f (Some o) lot → is_wanted lot.side ≡ true → makes_kind o lot.kind ≡ true
+kind_of f o lot (inl still) wanted = absurd (both_ways (is_wanted lot.side) (still_unwanted f lot still) wanted)
+kind_of f o lot (inr is) wanted = is.1
+
+pub made_lot : (sc : Scenario) (f : List ℕ) (w : WorldState) (h : HartNo) (o : Op) (lots : List Lot) (id : LotId) → IsCall sc f w h o lots → AreMade o lots → made_names o ≡ id ∷ [] → (lot : Lot) × IsNew (driver_of w h.0).fixed o lots lot × (lot.id ≡ id) × (makes_kind o lot.kind ≡ true)
 made_lot sc f w h o lots id c made names =
+    let fx = (driver_of w h.0).fixed in
     let one = one_made made.new id (made.names ∙ names) in
     let lot = one.0 in
     let here_new : In lot made.new = subst (λ (ls : List Lot). In lot ls) (sym one.1) (inl refl) in
@@ -187,28 +193,28 @@ made_lot sc f w h o lots id c made names =
       record {
         here = here;
         wanted = wanted_side lot.side wanted;
-        others = all_in (λ other. is_lot lot.id other ≡ false → IsStill other) lots
+        others = all_in (λ other. is_lot lot.id other ≡ false → IsStill fx other) lots
             (λ other there off. elim (of_append other made.old made.new (subst (λ (ls : List Lot). In other ls) made.all there)) [
-              | inl old ↦ still_of (Some o) other (all_at (IsStillOrMade (Some o)) lots other c.now there) (all_at IsSettled made.old other made.settled old).lent
+              | inl old ↦ still_of fx (Some o) other (all_at (IsStillOrMade fx (Some o)) lots other c.now there) (all_at IsSettled made.old other made.settled old).lent
               | inr new ↦
                   let same : lot ≡ other = elim (subst (λ (ls : List Lot). In other ls) one.1 new) [ inl is ↦ is | inr none ↦ absurd none ] in
                   absurd (both_ways (is_lot lot.id other) off (its_name other lot.id (ap (λ (l : Lot). l.id) (sym same))))
             ]);
       },
       one.2,
-      kind_of o lot (all_at (IsStillOrMade (Some o)) lots lot c.now here) wanted,
+      kind_of fx o lot (all_at (IsStillOrMade fx (Some o)) lots lot c.now here) wanted,
     )
 
 -- the operation opens: its lot is lent
-new_opens : (sc : Scenario) (f : List ℕ) (w : WorldState) (h : HartNo) (o : Op) (lots : List Lot) (lot : Lot) → IsCall sc f w h o lots → IsNew o lots lot → some_lot_waits lots ≡ false → opening (driver_of w h.0).fixed lots o ≡ turns.Lend lot.id → plan_of (driver_of w h.0).fixed lots o ≡ lend_steps (driver_of w h.0).fixed lot
+new_opens : (sc : Scenario) (f : List ℕ) (w : WorldState) (h : HartNo) (o : Op) (lots : List Lot) (lot : Lot) → IsCall sc f w h o lots → IsNew (driver_of w h.0).fixed o lots lot → is_area lot.kind ≡ false → some_lot_waits lots ≡ false → opening (driver_of w h.0).fixed lots o ≡ turns.Lend lot.id → plan_of (driver_of w h.0).fixed lots o ≡ lend_steps (driver_of w h.0).fixed lot
     → BytesStand sc f (gone w h w.machine (opened (with_lots (driver_of w h.0) lots) o))
-new_opens sc f w h o lots lot c new none first steps =
+new_opens sc f w h o lots lot c new plain none first steps =
     let d = driver_of w h.0 in
     let fx = d.fixed in
     let went = opened (with_lots d lots) o in
     let so = opened_so d o lots (turns.Lend lot.id) (lend_steps fx lot) first steps in
     let placed_so = all_at (λ (l : Lot). lot_waits l ≡ false) lots lot (none_any lot_waits lots none) new.here in
-    opens_bytes sc f w h o went lots lot sides.Lending (lend_steps fx lot) (lend_opens sc f w h o went lots lot (call_base sc f w h o lots lot c new.here placed_so new.others) c.hand c.lends (inl new.wanted) so.driver so.transfers)
+    opens_bytes sc f w h o went lots lot sides.Lending (lend_steps fx lot) (lend_opens sc f w h o went lots lot (call_base sc f w h o lots lot c new.here placed_so new.others) plain c.hand c.lends (inl new.wanted) so.driver so.transfers)
 
 map_opening : (f : Fixed) (lots : List Lot) (label : Label) (buf off len : ℕ) (dir : Dir) (chan : ChanNo) → opening f lots (ops.Map label buf off len dir chan) ≡ turns.Lend (lot_id label 0)
 unfolding opening meaning mappings.map_single
@@ -229,7 +235,19 @@ list_plan f lots label es dir chan = refl
 new_named : (label : Label) (kind : Kind) (lot : Lot) → lot.id ≡ lot_id label 0 → same_kind kind lot.kind ≡ true → is_named label kind lot ≡ true
 new_named label kind lot is same = and_from (is_labelled label lot) (same_kind kind lot.kind) (eq-eqb lot.id.label.0 label.0 (ap (λ (i : LotId). i.label.0) is)) same
 
--- an operation that makes a lot
+single_plain : (kind : Kind) → same_kind kinds.Single kind ≡ true → is_area kind ≡ false
+single_plain kinds.Single is = refl
+single_plain kinds.List is = absurd cc
+single_plain kinds.Area is = absurd cc
+single_plain kinds.Copy is = absurd cc
+
+list_plain : (kind : Kind) → same_kind kinds.List kind ≡ true → is_area kind ≡ false
+list_plain kinds.List is = refl
+list_plain kinds.Single is = absurd cc
+list_plain kinds.Area is = absurd cc
+list_plain kinds.Copy is = absurd cc
+
+-- an operation that makes a lot of buffers
 pub data Makes (o : Op) : Type 0 where
   OneMap : (label : Label) (buf off len : ℕ) (dir : Dir) (chan : ChanNo) → o ≡ ops.Map label buf off len dir chan → Makes o
   ListMap : (label : Label) (es : List SgEntry) (dir : Dir) (chan : ChanNo) → o ≡ ops.MapSg label es dir chan → Makes o
@@ -240,13 +258,15 @@ placed_bytes sc f w h o lots makes c made = by_waits (some_lot_waits lots) refl
     new_goes : Makes o → some_lot_waits lots ≡ false → BytesStand sc f (gone w h w.machine (opened (with_lots (driver_of w h.0) lots) o))
     new_goes (OneMap label buf off len dir chan is) none =
         let r = made_lot sc f w h o lots (lot_id label 0) c made (ap made_names is) in
-        let named = new_named label kinds.Single r.0 r.2 (subst (λ (p : Op). makes_kind p r.0.kind ≡ true) is r.3) in
-        new_opens sc f w h o lots r.0 c r.1 none (ap (opening (driver_of w h.0).fixed lots) is ∙ map_opening (driver_of w h.0).fixed lots label buf off len dir chan ∙ ap turns.Lend (sym r.2))
+        let kind : same_kind kinds.Single r.0.kind ≡ true = subst (λ (p : Op). makes_kind p r.0.kind ≡ true) is r.3 in
+        let named = new_named label kinds.Single r.0 r.2 kind in
+        new_opens sc f w h o lots r.0 c r.1 (single_plain r.0.kind kind) none (ap (opening (driver_of w h.0).fixed lots) is ∙ map_opening (driver_of w h.0).fixed lots label buf off len dir chan ∙ ap turns.Lend (sym r.2))
         (ap (plan_of (driver_of w h.0).fixed lots) is ∙ map_plan (driver_of w h.0).fixed lots label buf off len dir chan ∙ ap (with_lot [] (lend_steps (driver_of w h.0).fixed)) (call_named sc f w h o lots r.0 label kinds.Single c r.1.here named))
     new_goes (ListMap label es dir chan is) none =
         let r = made_lot sc f w h o lots (lot_id label 0) c made (ap made_names is) in
-        let named = new_named label kinds.List r.0 r.2 (subst (λ (p : Op). makes_kind p r.0.kind ≡ true) is r.3) in
-        new_opens sc f w h o lots r.0 c r.1 none (ap (opening (driver_of w h.0).fixed lots) is ∙ list_opening (driver_of w h.0).fixed lots label es dir chan ∙ ap turns.Lend (sym r.2))
+        let kind : same_kind kinds.List r.0.kind ≡ true = subst (λ (p : Op). makes_kind p r.0.kind ≡ true) is r.3 in
+        let named = new_named label kinds.List r.0 r.2 kind in
+        new_opens sc f w h o lots r.0 c r.1 (list_plain r.0.kind kind) none (ap (opening (driver_of w h.0).fixed lots) is ∙ list_opening (driver_of w h.0).fixed lots label es dir chan ∙ ap turns.Lend (sym r.2))
         (ap (plan_of (driver_of w h.0).fixed lots) is ∙ list_plan (driver_of w h.0).fixed lots label es dir chan ∙ ap (with_lot [] (lend_steps (driver_of w h.0).fixed)) (call_named sc f w h o lots r.0 label kinds.List c r.1.here named))
 
     by_waits : (t : Bool) → some_lot_waits lots ≡ t → BytesStand sc f (gone w h w.machine (if t then stays (searches (with_lots (driver_of w h.0) lots) 0) else opened (with_lots (driver_of w h.0) lots) o))

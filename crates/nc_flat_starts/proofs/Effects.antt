@@ -11,9 +11,11 @@ use Rattle.nc_env.specs.declared.CboOp.TheVariants.{Clean, Flush, Inval, Zero}
 use Rattle.nc_env.specs.declared.Illegal.{Illegal}
 use Rattle.nc_env.specs.Enables.{forbids, as_flush, performed, m_field, s_field, decided}
 use Rattle.nc_plan.specs.Effects.{effects_of}
-use Rattle.nc_queue.specs.Entries.{writes_back}
+use Rattle.nc_queue.specs.Entries.{is_zero, writes_back}
 use Rattle.nc_calls.specs.PlaceLaws.{drops_copies}
+use Rattle.nc_rows.specs.Rows.{is_flush}
 use Rattle.nc_row_plans.specs.Plans.{WritesBack, DropsBlocks}
+use Rattle.nc_flat_starts.proofs.AreaPlans.{IsZeroing}
 
 -- the operation itself, a flush for an invalidate, or none
 abbrev pub IsOrFlush : CboOp → Result CboOp Illegal → Type 0
@@ -45,3 +47,22 @@ writes mode menvcfg senvcfg FromDev = decided_is mode menvcfg senvcfg Flush writ
 
 pub drops : (mode : Mode) (menvcfg senvcfg : ℕ) → DropsBlocks (effects_of mode menvcfg senvcfg)
 drops mode menvcfg senvcfg = decided_is mode menvcfg senvcfg Inval drops_copies refl refl
+
+-- a zero and a flush are what they are
+zero_only : (op : CboOp) → is_zero op ≡ true → op ≡ Zero
+zero_only Zero is = refl
+zero_only Clean is = absurd cc
+zero_only Flush is = absurd cc
+zero_only Inval is = absurd cc
+
+flush_only : (op : CboOp) → is_flush op ≡ true → op ≡ Flush
+flush_only Flush is = refl
+flush_only Clean is = absurd cc
+flush_only Inval is = absurd cc
+flush_only Zero is = absurd cc
+
+pub zeroing : (mode : Mode) (menvcfg senvcfg : ℕ) → IsZeroing (effects_of mode menvcfg senvcfg)
+zeroing mode menvcfg senvcfg = record {
+  zeroes = zero_only (result_unwrap_or (decided mode menvcfg senvcfg Zero) Zero) (decided_is mode menvcfg senvcfg Zero is_zero refl refl);
+  flushes = flush_only (result_unwrap_or (decided mode menvcfg senvcfg Flush) Flush) (decided_is mode menvcfg senvcfg Flush is_flush refl refl);
+}

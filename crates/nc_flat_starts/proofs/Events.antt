@@ -25,7 +25,8 @@ use Rattle.nc_flatness.proofs.Owned.{covered_op}
 use Rattle.nc_flat_starts.proofs.Bases.{fixed_is}
 use Rattle.nc_flat_starts.proofs.Lendings.{lending_starts, lends_now}
 use Rattle.nc_flat_starts.proofs.Searches.{told_bytes}
-use Rattle.nc_flat_starts.proofs.Starts.{at_steps, start_bytes}
+use Rattle.nc_flat_starts.proofs.AllStarts.{start_bytes}
+use Rattle.nc_flat_starts.proofs.Starts.{at_steps}
 
 not_so : (b : Bool) → not b ≡ true → b ≡ false
 not_so true e = absurd cc

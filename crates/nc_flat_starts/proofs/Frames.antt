@@ -2,7 +2,7 @@
 -- and no other place does.
 use Rattle.std.specs.Prelude.{Option, Some, None, All, true, false, slice_get}
 use Rattle.std.specs.List.{list_any}
-use Rattle.std.proofs.Common.{◌≡◌, ◌≢◌, ℕ, zero, suc, ◌<◌, List, [], ◌∷◌, length, refl, sym, ap, ◌∙◌, inl, inr, subst}
+use Rattle.std.proofs.Common.{◌≡◌, ◌≢◌, ◌⊎◌, ℕ, zero, suc, ◌<◌, List, [], ◌∷◌, length, refl, sym, ap, ◌∙◌, inl, inr, subst}
 use Rattle.std.proofs.lemmas.Bool.{cases_Bool, cases_eq, both_ways}
 use Rattle.std.proofs.lemmas.List.{get_or-set_same, get_or-set_other}
 use Rattle.nc_num.specs.Memory.{byte}
@@ -20,24 +20,23 @@ use Rattle.nc_scen.specs.Regions.{pool_of, slots_of}
 use Rattle.nc_scen.specs.declared.scenario.Scenario.{Scenario}
 use Rattle.nc_sg.specs.declared.list.Entry.{Entry}
 use Rattle.nc_rules.specs.declared.lots.Lot.{Lot}
-use Rattle.nc_rules.specs.declared.lots.Side.{Side}
+use Rattle.nc_rules.specs.declared.lots.LotId.{LotId}
 use Rattle.nc_rules.specs.declared.steps.Step.{Step}
-use Rattle.nc_rules.specs.Lots.{Fixed, map_id, owner_of_side}
+use Rattle.nc_rules.specs.Lots.{Fixed, map_id}
 use Rattle.nc_rules.specs.Machine.{MachineState, hart_of, queue_of}
 use Rattle.nc_rules.specs.Driver.{DriverState, Went}
 use Rattle.nc_rules.specs.Watched.{owner_of}
 use Rattle.nc_rules.specs.World.{WorldState, driver_of, no_driver, owners_moved}
-use Rattle.nc_scripts.proofs.Lists.{all_to}
 use Rattle.nc_rows.specs.Ahead.{is_full, settling, sending, coming}
 use Rattle.nc_rows.specs.Places.{CalmRow}
 use Rattle.nc_rows.specs.Rows.{Loan, Book, Row}
 use Rattle.nc_rows.specs.Parts.{IsQueued, MayBeHeld, rest_last, LastIs}
 use Rattle.nc_calls.specs.PlaceLaws.{NotHeld}
-use Rattle.nc_flatness.specs.Books.{loan_of, number_in, book_of, mapping_in, LiesIn}
-use Rattle.nc_flatness.specs.Flatness.{Drives, IsUnseen, BytesStand, Flatness}
+use Rattle.nc_flatness.specs.Books.{loan_of, number_in, book_of, mapping_in, LiesIn, IsPooled}
+use Rattle.nc_flatness.specs.Flatness.{Drives, IsUnseen, BytesStand}
+use Rattle.nc_flatness.specs.Tokens.{TokenStands}
 use Rattle.nc_flatness.proofs.Outcomes.{gone}
-use Rattle.nc_flat_starts.specs.Books.{SameLoan, ReadsAlike, HasNoArea}
-use Rattle.nc_flat_starts.proofs.BookRows.{row_same}
+use Rattle.nc_flat_starts.specs.Books.{SameLoan, ReadsAlike}
 
 -- ---- the places of a lot
 
@@ -104,23 +103,47 @@ IsRestful (Device n) = Unit {0}
 IsRestful (Synced n) = Unit {0}
 IsRestful Pool = Unit {0}
 
--- hart h's driver and the owners before and behind: each entry of the lot has this side behind, and nothing else changes
-pub record Turns (sc : Scenario) (f : List ℕ) (w : WorldState) (h : HartNo) (m : MachineState) (went : Went) (lot : Lot) (side : Side) : Type 0 where
-  pub on : (i : ℕ) (e : Entry) (x : ℕ) → x < sc.ram → IsPlace lot i e x → owner_in (owners_moved w.owners went.moves.transfers) x ≡ owner_of_side (map_id h lot.id i) side
+-- the same is to come of a lot by both rests
+pub record SameRest (k : MapId) (id : LotId) (before behind : List Step) : Type 0 where
+  pub comes : coming k id behind ≡ coming k id before
+  pub settles : settling id behind ≡ settling id before
+
+-- a mapping of this owner has nothing to come, or what it had
+abbrev pub IsAside : WorldState → HartNo → Went → Owner → MapId → Type 0
+IsAside w h went o k = IsRestful o ⊎ ((l : Loan) → loan_of (driver_of w h.0) k ≡ Some l → SameRest k l.lot (driver_of w h.0).rest went.driver.rest)
+
+-- flat memory goes on from f to g, and no place beside the lot has another byte
+pub record Rewrites (sc : Scenario) (f g : List ℕ) (w : WorldState) (h : HartNo) (lot : Lot) : Type 0 where
+  pub size : length g ≡ length f
+  pub beside : (x : ℕ) → x < sc.ram → IsOff lot x → byte g x ≡ byte f x
+  pub pieces : (j : ℕ) → j ≢ h.0 → LastIs (book_of w) f j (hart_of w.machine j).last (rest_last ((book_of w).rest j)) → LastIs (book_of w) g j (hart_of w.machine j).last (rest_last ((book_of w).rest j))
+
+pub rewrites_none : (sc : Scenario) (f : List ℕ) (w : WorldState) (h : HartNo) (lot : Lot) → Rewrites sc f f w h lot
+rewrites_none sc f w h lot = record { size = refl; beside = λ x there off. refl; pieces = λ j ne is. is }
+
+-- hart h's driver and the owners before and behind: each entry of the lot has this owner behind, and nothing else changes
+pub record Turns (sc : Scenario) (f g : List ℕ) (w : WorldState) (h : HartNo) (m : MachineState) (went : Went) (lot : Lot) (to : MapId → Owner) : Type 0 where
+  pub on : (i : ℕ) (e : Entry) (x : ℕ) → x < sc.ram → IsPlace lot i e x → owner_in (owners_moved w.owners went.moves.transfers) x ≡ to (map_id h lot.id i)
   pub off : (x : ℕ) → IsOff lot x → owner_in (owners_moved w.owners went.moves.transfers) x ≡ owner_of w x
-  pub beside : (i : ℕ) (e : Entry) (x : ℕ) → IsPlace lot i e x → (covers (pool_of sc) x ≡ false) × (covers (slots_of sc) x ≡ false)
-  pub mine : (i : ℕ) (e : Entry) (x : ℕ) (k : MapId) → IsPlace lot i e x → owner_of w x ≡ Returning k → k.hart.0 ≡ h.0
-  -- the hart's other mappings stay, and none of them is being lent or taken back
-  pub others : (x : ℕ) (k : MapId) → x < sc.ram → IsOff lot x → mapping_in (owner_of w x) ≡ Some k → k.hart.0 ≡ h.0 → (loan_of went.driver k ≡ loan_of (driver_of w h.0) k) × IsRestful (owner_of w x)
+  pub unslotted : (i : ℕ) (e : Entry) (x : ℕ) → IsPlace lot i e x → covers (slots_of sc) x ≡ false
+  pub mine : (i : ℕ) (e : Entry) (x : ℕ) (k : MapId) → IsPlace lot i e x → mapping_in (owner_of w x) ≡ Some k → k.hart.0 ≡ h.0
+  -- the hart's other mappings stay, and what is to come of them does
+  pub others : (x : ℕ) (k : MapId) → x < sc.ram → IsOff lot x → mapping_in (owner_of w x) ≡ Some k → k.hart.0 ≡ h.0 → (loan_of went.driver k ≡ loan_of (driver_of w h.0) k) × IsAside w h went (owner_of w x) k
+  -- so do its other areas
+  pub areas : (x : ℕ) (k : MapId) (l : Loan) → IsOff lot x → k.hart.0 ≡ h.0 → (book_of w).loan k ≡ Some l → l.area ≡ true → covers l.grant.buffer x ≡ true → loan_of went.driver k ≡ Some l
+  -- a place of the lot that is one of the coherent pool
+  pub pooled : (i : ℕ) (e : Entry) (x : ℕ) → IsPlace lot i e x → covers (pool_of sc) x ≡ true → IsPooled (book_of (gone w h m went)) (to (map_id h lot.id i)) x
+  pub free : (i : ℕ) (e : Entry) (x : ℕ) → IsPlace lot i e x → covers (pool_of sc) x ≡ true → NotHeld m x ⊎ MayBeHeld (book_of (gone w h m went)) (to (map_id h lot.id i))
   -- no message is begun or gone
   pub silent : (b : ℕ) → sending b went.driver.rest ≡ sending b (driver_of w h.0).rest
   pub fixed : went.driver.fixed ≡ (driver_of w h.0).fixed
   pub drives : Drives went.driver
-  pub lasting : LastIs (book_of (gone w h m went)) f h.0 (hart_of m h.0).last (rest_last went.driver.rest)
+  pub lasting : LastIs (book_of (gone w h m went)) g h.0 (hart_of m h.0).last (rest_last went.driver.rest)
   pub queue : All (IsQueued (book_of (gone w h m went)) (owner_of (gone w h m went)) m.pool m.size h.0) (queue_of m h.0)
+  pub tokens : went.driver.fixed.light ≡ true → All (TokenStands went.driver.rest (queue_of m h.0)) went.driver.lots
   pub passes : (x v : ℕ) → x < sc.ram → covers (slots_of sc) x ≡ false → IsOff lot x → Row (book_of w) (owner_of w x) v w.machine x → Row (book_of w) (owner_of w x) v m x
-  pub lies : (i : ℕ) (e : Entry) (x : ℕ) (k : MapId) → x < sc.ram → IsPlace lot i e x → mapping_in (owner_of_side (map_id h lot.id i) side) ≡ Some k → LiesIn ((book_of (gone w h m went)).loan k) x
-  pub row : (i : ℕ) (e : Entry) (x v : ℕ) → x < sc.ram → IsPlace lot i e x → Row (book_of w) (owner_of w x) v w.machine x → Row (book_of (gone w h m went)) (owner_of_side (map_id h lot.id i) side) v m x
+  pub lies : (i : ℕ) (e : Entry) (x : ℕ) (k : MapId) → x < sc.ram → IsPlace lot i e x → mapping_in (to (map_id h lot.id i)) ≡ Some k → LiesIn ((book_of (gone w h m went)).loan k) x
+  pub row : (i : ℕ) (e : Entry) (x : ℕ) → x < sc.ram → IsPlace lot i e x → Row (book_of w) (owner_of w x) (byte f x) w.machine x → Row (book_of (gone w h m went)) (to (map_id h lot.id i)) (byte g x) m x
   pub calm : (z : ℕ) → covers (slots_of sc) z ≡ true → IsUnseen (book_of (gone w h m went)) (owner_of (gone w h m went)) (slots_of sc) z → CalmRow m z
 
 -- ---- the drivers behind
@@ -160,9 +183,9 @@ loan_alike w h m went k (Some l) ne =
     let same = rest_there w h m went k.hart.0 ne in
     record { ahead = ap (λ (rest : List Step). coming k l.lot rest) same; settles = ap (λ (rest : List Step). settling l.lot rest) same }
 
--- the mapping is of another hart, or it stays and has nothing to come
+-- the mapping is of another hart, or it stays and so does what is to come of it
 abbrev pub StaysAside : WorldState → HartNo → Went → Owner → MapId → Type 0
-StaysAside w h went o k = k.hart.0 ≡ h.0 → (loan_of went.driver k ≡ loan_of (driver_of w h.0) k) × IsRestful o
+StaysAside w h went o k = k.hart.0 ≡ h.0 → (loan_of went.driver k ≡ loan_of (driver_of w h.0) k) × IsAside w h went o k
 
 pub loan_aside : (w : WorldState) (h : HartNo) (m : MachineState) (went : Went) (o : Owner) (k : MapId) → h.0 < length w.drivers → StaysAside w h went o k → (book_of (gone w h m went)).loan k ≡ (book_of w).loan k
 loan_aside w h m went o k lt aside = elim (cases_eq k.hart.0 h.0) [
@@ -170,9 +193,24 @@ loan_aside w h m went o k lt aside = elim (cases_eq k.hart.0 h.0) [
   | inr ne ↦ loan_there w h m went k ne
 ]
 
-busy_alike : (w : WorldState) (h : HartNo) (m : MachineState) (went : Went) (o : Owner) (k : MapId) → (IsRestful o → ⊥) → StaysAside w h went o k → SameLoan (book_of w) (book_of (gone w h m went)) k ((book_of w).loan k)
-busy_alike w h m went o k busy aside = elim (cases_eq k.hart.0 h.0) [
-  | inl own ↦ absurd (busy (aside own).1)
+rest_same : (w : WorldState) (h : HartNo) (m : MachineState) (went : Went) (k : MapId) (o : Option Loan) → h.0 < length w.drivers → k.hart.0 ≡ h.0 → ((l : Loan) → o ≡ Some l → SameRest k l.lot (driver_of w h.0).rest went.driver.rest)
+    → SameLoan (book_of w) (book_of (gone w h m went)) k o
+rest_same w h m went k None lt own same = tt
+rest_same w h m went k (Some l) lt own same =
+    let is = same l refl in
+    let now = rest_hart w h m went k.hart.0 lt own in
+    let was : (driver_of w h.0).rest ≡ (driver_of w k.hart.0).rest = ap (λ (g : ℕ). (driver_of w g).rest) (sym own) in
+    record {
+      ahead = ap (λ (rest : List Step). coming k l.lot rest) now ∙ is.comes ∙ ap (λ (rest : List Step). coming k l.lot rest) was;
+      settles = ap (λ (rest : List Step). settling l.lot rest) now ∙ is.settles ∙ ap (λ (rest : List Step). settling l.lot rest) was;
+    }
+
+pub busy_alike : (w : WorldState) (h : HartNo) (m : MachineState) (went : Went) (o : Owner) (k : MapId) → h.0 < length w.drivers → (IsRestful o → ⊥) → StaysAside w h went o k → SameLoan (book_of w) (book_of (gone w h m went)) k ((book_of w).loan k)
+busy_alike w h m went o k lt busy aside = elim (cases_eq k.hart.0 h.0) [
+  | inl own ↦ elim (aside own).1 [
+    | inl restful ↦ absurd (busy restful)
+    | inr same ↦ rest_same w h m went k ((book_of w).loan k) lt own (λ l is. same l (ap (λ (g : ℕ). loan_of (driver_of w g) k) (sym own) ∙ is))
+  ]
   | inr ne ↦ loan_alike w h m went k ((book_of w).loan k) ne
 ]
 
@@ -186,21 +224,21 @@ reads_aside w h m went (Passing j g) x lt fixed silent aside =
       | inr ne ↦ ap (λ (rest : List Step). sending b rest) (rest_there w h m went j.0 ne)
     ] in
     (buffer_same w h m went x lt fixed, same)
-reads_aside w h m went (Lending k) x lt fixed silent aside = (loan_aside w h m went (Lending k) k lt (aside k refl), busy_alike w h m went (Lending k) k (λ none. none) (aside k refl))
+reads_aside w h m went (Lending k) x lt fixed silent aside = (loan_aside w h m went (Lending k) k lt (aside k refl), busy_alike w h m went (Lending k) k lt (λ none. none) (aside k refl))
 reads_aside w h m went (Device k) x lt fixed silent aside = loan_aside w h m went (Device k) k lt (aside k refl)
-reads_aside w h m went (Returning k) x lt fixed silent aside = (loan_aside w h m went (Returning k) k lt (aside k refl), busy_alike w h m went (Returning k) k (λ none. none) (aside k refl))
+reads_aside w h m went (Returning k) x lt fixed silent aside = (loan_aside w h m went (Returning k) k lt (aside k refl), busy_alike w h m went (Returning k) k lt (λ none. none) (aside k refl))
 reads_aside w h m went (Synced k) x lt fixed silent aside = loan_aside w h m went (Synced k) k lt (aside k refl)
 reads_aside w h m went Pool x lt fixed silent aside = tt
 
 -- ---- what is queued, and loaded last
 
 -- of another hart's queue
-pub queued_aside : (w : WorldState) (h : HartNo) (m : MachineState) (went : Went) (g : ℕ) (pool : Span) (s : ℕ) (owner : ℕ → Owner) (e : QueueEntry) → g ≢ h.0 → HasNoArea (book_of w)
-    → ((x : ℕ) (k : MapId) → owner_of w x ≡ Returning k → k.hart.0 ≢ h.0 → owner x ≡ Returning k) → IsQueued (book_of w) (owner_of w) pool s g e → IsQueued (book_of (gone w h m went)) owner pool s g e
-queued_aside w h m went g pool s owner (entries.Store span bytes kind) ne plain stays is = is
-queued_aside w h m went g pool s owner (entries.Cbo block cbos.Clean) ne plain stays is = tt
-queued_aside w h m went g pool s owner (entries.Cbo block cbos.Flush) ne plain stays is = tt
-queued_aside w h m went g pool s owner (entries.Cbo block cbos.Inval) ne plain stays is =
+pub queued_aside : (w : WorldState) (h : HartNo) (m : MachineState) (went : Went) (g : ℕ) (pool : Span) (s : ℕ) (owner : ℕ → Owner) (e : QueueEntry) → g ≢ h.0
+    → ((x : ℕ) (k : MapId) → mapping_in (owner_of w x) ≡ Some k → k.hart.0 ≢ h.0 → owner x ≡ owner_of w x) → IsQueued (book_of w) (owner_of w) pool s g e → IsQueued (book_of (gone w h m went)) owner pool s g e
+queued_aside w h m went g pool s owner (entries.Store span bytes kind) ne stays is = is
+queued_aside w h m went g pool s owner (entries.Cbo block cbos.Clean) ne stays is = tt
+queued_aside w h m went g pool s owner (entries.Cbo block cbos.Flush) ne stays is = tt
+queued_aside w h m went g pool s owner (entries.Cbo block cbos.Inval) ne stays is =
     let other : is.id.hart.0 ≢ h.0 = λ own. ne (sym is.own ∙ own) in
     record {
       id = is.id;
@@ -210,15 +248,25 @@ queued_aside w h m went g pool s owner (entries.Cbo block cbos.Inval) ne plain s
       back = is.back;
       ahead = ap (λ (rest : List Step). list_any is_full (coming is.id is.loan.lot rest)) (rest_there w h m went is.id.hart.0 other) ∙ is.ahead;
       place = is.place;
-      owned = stays is.place is.id is.owned other;
+      owned = stays is.place is.id (ap mapping_in is.owned) other ∙ is.owned;
       here = is.here;
     }
-queued_aside w h m went g pool s owner (entries.Cbo block cbos.Zero) ne plain stays (inl beside) = inl beside
-queued_aside w h m went g pool s owner (entries.Cbo block cbos.Zero) ne plain stays (inr zeroed) = absurd (both_ways zeroed.loan.area (plain zeroed.id zeroed.loan zeroed.lent) zeroed.area)
-queued_aside w h m went g pool s owner (entries.Reg chan off width value) ne plain stays is = tt
-queued_aside w h m went g pool s owner (entries.Mail buf to) ne plain stays is = tt
-queued_aside w h m went g pool s owner (entries.Lend label first count) ne plain stays is = tt
-queued_aside w h m went g pool s owner (entries.Mark pred succ) ne plain stays is = tt
+queued_aside w h m went g pool s owner (entries.Cbo block cbos.Zero) ne stays (inl beside) = inl beside
+queued_aside w h m went g pool s owner (entries.Cbo block cbos.Zero) ne stays (inr is) =
+    let other : is.id.hart.0 ≢ h.0 = λ own. ne (sym is.own ∙ own) in
+    inr (record {
+      id = is.id;
+      loan = is.loan;
+      lent = loan_there w h m went is.id other ∙ is.lent;
+      own = is.own;
+      area = is.area;
+      ahead = ap (λ (rest : List Step). settling is.loan.lot rest) (rest_there w h m went is.id.hart.0 other) ∙ is.ahead;
+      owned = λ x here. stays x is.id (ap mapping_in (is.owned x here)) other ∙ is.owned x here;
+    })
+queued_aside w h m went g pool s owner (entries.Reg chan off width value) ne stays is = tt
+queued_aside w h m went g pool s owner (entries.Mail buf to) ne stays is = tt
+queued_aside w h m went g pool s owner (entries.Lend label first count) ne stays is = tt
+queued_aside w h m went g pool s owner (entries.Mark pred succ) ne stays is = tt
 
 piece_aside : (a c : Book) (f : List ℕ) (g : ℕ) (bytes : List ℕ) (o : Option Span) → ((k : MapId) → k.hart.0 ≡ g → c.loan k ≡ a.loan k) → LastIs a f g bytes o → LastIs c f g bytes o
 piece_aside a c f g bytes None same is = tt
@@ -239,80 +287,10 @@ last_aside w h m went f g bytes ne is =
     (piece_aside (book_of w) (book_of (gone w h m went)) f g bytes (rest_last ((book_of w).rest g)) (λ k own. loan_there w h m went k (λ e. ne (sym own ∙ e))) is)
 
 -- of its own, by what is left of its plan
-last_here : (w : WorldState) (h : HartNo) (m : MachineState) (went : Went) (f : List ℕ) → h.0 < length w.drivers → LastIs (book_of (gone w h m went)) f h.0 (hart_of m h.0).last (rest_last went.driver.rest)
+pub last_here : (w : WorldState) (h : HartNo) (m : MachineState) (went : Went) (f : List ℕ) → h.0 < length w.drivers → LastIs (book_of (gone w h m went)) f h.0 (hart_of m h.0).last (rest_last went.driver.rest)
     → LastIs (book_of (gone w h m went)) f h.0 (hart_of m h.0).last (rest_last ((book_of (gone w h m went)).rest h.0))
 last_here w h m went f lt is = subst (λ (rest : List Step). LastIs (book_of (gone w h m went)) f h.0 (hart_of m h.0).last (rest_last rest)) (sym (rest_hart w h m went h.0 lt refl)) is
 
 -- with no store to come
 pub last_none : (a : Book) (f : List ℕ) (g : ℕ) (bytes : List ℕ) (o : Option Span) → o ≡ None → LastIs a f g bytes o
 last_none a f g bytes o none = subst (λ (k : Option Span). LastIs a f g bytes k) (sym none) tt
-
--- ---- the whole
-
--- nobody holds a block of the pool
-pub free_pool : (sc : Scenario) (f : List ℕ) (w : WorldState) (x : ℕ) → BytesStand sc f w → covers w.machine.pool x ≡ true → covers (pool_of sc) x ≡ true → NotHeld w.machine x
-free_pool sc f w x s over pooled = elim (s.uncached x over) [
-  | inl free ↦ free
-  | inr may ↦ absurd (subst (λ (o : Owner). MayBeHeld (book_of w) o) (s.pooled x pooled) may)
-]
-
-drives_by : (sc : Scenario) (w : WorldState) (h : HartNo) (m : MachineState) (went : Went) → h.0 < length w.drivers → ((g : ℕ) → g < length sc.harts → Drives (driver_of w g)) → Drives went.driver → (g : ℕ) → g < length sc.harts → Drives (driver_of (gone w h m went) g)
-drives_by sc w h m went lt all now g there = elim (cases_eq g h.0) [
-  | inl own ↦ subst (λ (d : DriverState). Drives d) (sym (ap (λ (j : ℕ). driver_of (gone w h m went) j) own ∙ driver_here w h m went lt)) now
-  | inr ne ↦ subst (λ (d : DriverState). Drives d) (sym (driver_there w h m went g ne)) (all g there)
-]
-
--- a place that is the pool's, or a slot's, is of no entry
-outside : (lot : Lot) (x : ℕ) (span : Span) → ((i : ℕ) (e : Entry) → IsPlace lot i e x → covers span x ≡ false) → covers span x ≡ true → IsOff lot x
-outside lot x span beside over i e is = both_ways (covers span x) (beside i e is) over
-
-pub turn_bytes : (sc : Scenario) (f : List ℕ) (w : WorldState) (h : HartNo) (m : MachineState) (went : Went) (lot : Lot) (side : Side) → Flatness sc f w → h.0 < length w.drivers → HasNoArea (book_of w) → GoesBy w h m → Turns sc f w h m went lot side → BytesStand sc f (gone w h m went)
-turn_bytes sc f w h m went lot side flat lt plain by t =
-    let v = gone w h m went in
-    let s = flat.bytes in
-    let aside : (x : ℕ) → x < sc.ram → IsOff lot x → (k : MapId) → mapping_in (owner_of w x) ≡ Some k → StaysAside w h went (owner_of w x) k = λ x there beside k is own. t.others x k there beside is own in
-    record {
-      flat_size = s.flat_size;
-      drives = drives_by sc w h m went lt s.drives t.drives;
-      placed = λ x k there is. elim (somewhere lot x) [
-        | On i e place ↦ t.lies i e x k there place (sym (ap mapping_in (t.on i e x there place)) ∙ is)
-        | Off beside ↦
-            let was = sym (ap mapping_in (t.off x beside)) ∙ is in
-            subst (λ (o : Option Loan). LiesIn o x) (sym (loan_aside w h m went (owner_of w x) k lt (aside x there beside k was))) (s.placed x k there was)
-      ];
-      pooled = λ x over. t.off x (outside lot x (pool_of sc) (λ i e is. (t.beside i e x is).0) over) ∙ s.pooled x over;
-      slotted = λ x over. t.off x (outside lot x (slots_of sc) (λ i e is. (t.beside i e x is).1) over) ∙ s.slotted x over;
-      rows = λ x there unslotted. elim (somewhere lot x) [
-        | On i e place ↦ subst (λ (o : Owner). Row (book_of v) o (byte f x) m x) (sym (t.on i e x there place)) (t.row i e x (byte f x) there place (s.rows x there unslotted))
-        | Off beside ↦
-            subst (λ (o : Owner). Row (book_of v) o (byte f x) m x) (sym (t.off x beside))
-            (row_same (book_of w) (book_of v) (owner_of w x) (byte f x) m x (reads_aside w h m went (owner_of w x) x lt t.fixed t.silent (aside x there beside)) (t.passes x (byte f x) there unslotted beside (s.rows x there unslotted)))
-      ];
-      calm = t.calm;
-      queued = λ g. elim (cases_eq g h.0) [
-        | inl own ↦ subst (λ (j : ℕ). All (IsQueued (book_of v) (owner_of v) m.pool m.size j) (queue_of m j)) (sym own) t.queue
-        | inr ne ↦
-            subst (λ (q : List QueueEntry). All (IsQueued (book_of v) (owner_of v) m.pool m.size g) q) (sym (by.queues g ne))
-            (subst (λ (k : ℕ). All (IsQueued (book_of v) (owner_of v) m.pool k g) (queue_of w.machine g)) (sym by.size)
-            (subst (λ (p : Span). All (IsQueued (book_of v) (owner_of v) p w.machine.size g) (queue_of w.machine g)) (sym by.pool)
-            (all_to (IsQueued (book_of w) (owner_of w) w.machine.pool w.machine.size g) (IsQueued (book_of v) (owner_of v) w.machine.pool w.machine.size g) (queue_of w.machine g) (s.queued g)
-            (λ e is. queued_aside w h m went g w.machine.pool w.machine.size (owner_of v) e ne plain
-            (λ x k was other. elim (somewhere lot x) [
-              | On i d place ↦ absurd (other (t.mine i d x k place was))
-              | Off beside ↦ t.off x beside ∙ was
-            ]) is))))
-      ];
-      unfenced = λ g. elim (cases_eq g h.0) [
-        | inl own ↦ ap (λ (j : ℕ). list_any is_full (queue_of m j)) own ∙ by.unfenced
-        | inr ne ↦ ap (list_any is_full) (by.queues g ne) ∙ s.unfenced g
-      ];
-      uncached = λ x over.
-          let was = subst (λ (p : Span). covers p x ≡ true) by.pool over in
-          inl (by.free x was (free_pool sc f w x s was (subst (λ (p : Span). covers p x ≡ true) flat.world.of_scenario.pool was)));
-      lasts = λ g. elim (cases_eq g h.0) [
-        | inl own ↦ subst (λ (j : ℕ). LastIs (book_of v) f j (hart_of m j).last (rest_last ((book_of v).rest j))) (sym own) (last_here w h m went f lt t.lasting)
-        | inr ne ↦
-            subst (λ (bytes : List ℕ). LastIs (book_of v) f g bytes (rest_last ((book_of v).rest g))) (sym (by.lasts g ne))
-            (last_aside w h m went f g (hart_of w.machine g).last ne (s.lasts g))
-      ];
-    }

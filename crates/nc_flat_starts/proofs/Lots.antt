@@ -119,7 +119,7 @@ kept_loans n (lot ∷ lots) = elim (cases_Bool (is_wanted lot.side)) [
 -- ---- the mapping of an entry
 
 abbrev pub loan_for : Fixed → HartNo → Lot → ℕ → Entry → Loan
-loan_for f me lot i e = record { grant = grant_of f.slots_at lot (map_id me lot.id i) e; lot = lot.id; area = false }
+loan_for f me lot i e = record { grant = grant_of f.slots_at lot (map_id me lot.id i) e; lot = lot.id; area = is_area lot.kind }
 
 entry_yes : (me : HartNo) (lot : Lot) (i : ℕ) (e : Entry) → slice_get lot.list.entries i ≡ Some e → lot.id.first ≡ 0 → is_wanted lot.side ≡ false → is_entry_of (map_id me lot.id i) lot ≡ true
 entry_yes me lot i e there first lent =
@@ -132,16 +132,16 @@ entry_yes me lot i e there first lent =
 entry_label : (n : MapId) (lot : Lot) → is_entry_of n lot ≡ true → lot.id.label.0 ≡ n.label.0
 entry_label n lot is = eqb-true lot.id.label.0 n.label.0 (and_parts (lot.id.label.0 == n.label.0) _ (and_parts (not (is_wanted lot.side)) _ is).1).0
 
-loan_is : (f : Fixed) (me : HartNo) (lot : Lot) (i : ℕ) (e : Entry) → slice_get lot.list.entries i ≡ Some e → lot.id.first ≡ 0 → is_area lot.kind ≡ false → loan_by f (map_id me lot.id i) lot ≡ loan_for f me lot i e
-loan_is f me lot i e there first off =
+loan_is : (f : Fixed) (me : HartNo) (lot : Lot) (i : ℕ) (e : Entry) → slice_get lot.list.entries i ≡ Some e → lot.id.first ≡ 0 → loan_by f (map_id me lot.id i) lot ≡ loan_for f me lot i e
+loan_is f me lot i e there first =
     let n = map_id me lot.id i in
     let at : n.entry - lot.id.first ≡ i = omega arith in
     let it : slice_index_or lot.list.entries (n.entry - lot.id.first) no_entry ≡ e = ap (λ k. slice_index_or lot.list.entries k no_entry) at ∙ get_or_from_slice_get lot.list.entries i e no_entry there in
-    ap (λ (k : Entry). record { grant = grant_of f.slots_at lot n k; lot = lot.id; area = is_area lot.kind }) it ∙ ap (λ (b : Bool). record { grant = grant_of f.slots_at lot n e; lot = lot.id; area = b }) off
+    ap (λ (k : Entry). record { grant = grant_of f.slots_at lot n k; lot = lot.id; area = is_area lot.kind }) it
 
-pub loan_here : (f : Fixed) (me : HartNo) (lots : List Lot) (lot : Lot) (i : ℕ) (e : Entry) → IsEntryOf lots lot i e → lot.id.first ≡ 0 → is_area lot.kind ≡ false → is_wanted lot.side ≡ false → ((other : Lot) → In other lots → other.id.label.0 ≡ lot.id.label.0 → other ≡ lot)
+pub loan_here : (f : Fixed) (me : HartNo) (lots : List Lot) (lot : Lot) (i : ℕ) (e : Entry) → IsEntryOf lots lot i e → lot.id.first ≡ 0 → is_wanted lot.side ≡ false → ((other : Lot) → In other lots → other.id.label.0 ≡ lot.id.label.0 → other ≡ lot)
     → loan_in f lots (map_id me lot.id i) ≡ Some (loan_for f me lot i e)
-loan_here f me lots lot i e here first off lent alone =
+loan_here f me lots lot i e here first lent alone =
     let n = map_id me lot.id i in
     ap (option_map (loan_by f n)) (find_only (is_entry_of n) lots lot here.lot_in (entry_yes me lot i e here.entry first lent) (λ other there is. alone other there (entry_label n other is)))
-    ∙ ap (λ (l : Loan). Some l) (loan_is f me lot i e here.entry first off)
+    ∙ ap (λ (l : Loan). Some l) (loan_is f me lot i e here.entry first)

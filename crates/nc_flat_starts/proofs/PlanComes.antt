@@ -29,7 +29,7 @@ use Rattle.nc_flat_starts.proofs.Pieces.{Move, stored}
 
 -- ---- operations
 
-plain_ends : (id : LotId) (o : HartOp) → is_plain o ≡ true → ends id (hart_step o) ≡ false
+pub plain_ends : (id : LotId) (o : HartOp) → is_plain o ≡ true → ends id (hart_step o) ≡ false
 plain_ends id (hart.Load span kind) is = refl
 plain_ends id (hart.Store span kind bytes) is = refl
 plain_ends id (hart.Cbo op block) is = refl

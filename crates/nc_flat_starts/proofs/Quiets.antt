@@ -1,7 +1,8 @@
 -- A call with which a plan neither begins nor is left: nothing changes its owner, or a lot that is synced ends.
 use Rattle.std.specs.Prelude.{Option, Some, None, All, true, false, slice_get, option_map}
-use Rattle.std.proofs.Common.{◌≡◌, ℕ, ◌<◌, List, [], length, refl, sym, ap, ◌∙◌, subst, arith}
+use Rattle.std.proofs.Common.{◌≡◌, ℕ, ◌<◌, List, [], length, refl, sym, ap, ◌∙◌, inl, subst, arith}
 use Rattle.std.proofs.lemmas.Bool.{both_ways, cond-false}
+use Rattle.nc_num.specs.Memory.{byte}
 use Rattle.nc_num.specs.Places.{covers}
 use Rattle.nc_num.specs.declared.names.Dir.TheVariants.{Both}
 use Rattle.nc_num.specs.declared.names.HartNo.{HartNo}
@@ -12,7 +13,7 @@ use Rattle.nc_model.specs.declared.owners.Owner.TheVariants.{Thread, Pool}
 use Rattle.nc_plan.specs.Plans.{In}
 use Rattle.nc_plan.proofs.PlanLaws.{in_map}
 use Rattle.nc_own.specs.Books.{owner_in}
-use Rattle.nc_scen.specs.Regions.{slots_of}
+use Rattle.nc_scen.specs.Regions.{pool_of, slots_of}
 use Rattle.nc_scen.specs.declared.scenario.Scenario.{Scenario}
 use Rattle.nc_sg.specs.declared.list.Entry.{Entry}
 use Rattle.nc_rules.specs.declared.lots.Kind.TheVariants.{Single}
@@ -21,13 +22,13 @@ use Rattle.nc_rules.specs.declared.lots.Side.TheVariants as sides
 use Rattle.nc_rules.specs.declared.steps.Step.{Step}
 use Rattle.nc_rules.specs.Lots.{lot_id, is_lot, map_id, owner_of_side}
 use Rattle.nc_rules.specs.Machine.{MachineState, hart_of, queue_of}
-use Rattle.nc_rules.specs.Turns.{last_owner, of_those, to_end}
+use Rattle.nc_rules.specs.Turns.{is_area, last_owner, of_those, to_end}
 use Rattle.nc_rules.specs.Driver.{DriverState, Went, over, with_lots}
 use Rattle.nc_rules.specs.Watched.{owner_of}
 use Rattle.nc_rules.specs.World.{WorldState, driver_of, owners_moved}
 use Rattle.nc_scripts.proofs.Lists.{all_to}
 use Rattle.nc_scripts.proofs.LotLaws.{its_name}
-use Rattle.nc_holds.proofs.ListsA.{all_at, at_get}
+use Rattle.nc_holds.proofs.ListsA.{at_get}
 use Rattle.nc_holds.proofs.OwnerEnds.{IsEndMove, end_move}
 use Rattle.nc_holds.proofs.OwnerLots.{same_named}
 use Rattle.nc_holds.proofs.OwnerMoves.{moved_off, moved_to, in_named}
@@ -35,17 +36,22 @@ use Rattle.nc_rows.specs.Ahead.{sending}
 use Rattle.nc_rows.specs.Laws.{seen_at}
 use Rattle.nc_rows.specs.Places.{ThreadRow}
 use Rattle.nc_rows.specs.Rows.{Loan, Row, SyncedRow}
-use Rattle.nc_rows.specs.Parts.{IsQueued, rest_last}
+use Rattle.nc_rows.specs.Parts.{rest_last}
 use Rattle.nc_flatness.specs.Books.{loan_by, loan_of, book_of, mapping_in}
 use Rattle.nc_flatness.specs.Flatness.{IsMapping, IsStillOrWanted, Drives, BytesStand, Flatness}
 use Rattle.nc_flatness.specs.Plans.{IsStill}
+use Rattle.nc_flatness.specs.Tokens.{TokenStands}
+use Rattle.nc_flatness.proofs.Loans.{loan_is}
 use Rattle.nc_flatness.proofs.Outcomes.{gone}
-use Rattle.nc_flatness.proofs.Owned.{mapped, owned_ram}
-use Rattle.nc_flat_starts.proofs.Bases.{IsBase, me_of, no_area, base_mapping, base_beside}
-use Rattle.nc_flat_starts.proofs.Frames.{IsPlace, IsOff, On, Off, somewhere, IsRestful, StaysAside, goes_still, loan_aside, last_none, turn_bytes}
+use Rattle.nc_flatness.proofs.Rests.{none_light}
+use Rattle.nc_flatness.proofs.Owned.{owned_ram}
+use Rattle.nc_flat_starts.proofs.Bases.{IsBase, me_of, base_beside}
+use Rattle.nc_flat_starts.proofs.Befores.{base_before, driven, mapping_rest, far_loan, far_mapping, known_here, all_idle, seen_aside}
+use Rattle.nc_flat_starts.proofs.Frames.{IsPlace, IsOff, On, Off, somewhere, StaysAside, rewrites_none, goes_still, loan_aside, last_none}
 use Rattle.nc_flat_starts.proofs.Lots.{other_without}
-use Rattle.nc_flat_starts.proofs.Opens.{queue_idle, no_areas, driven, still_rest, seen_aside, base_owner, base_others}
+use Rattle.nc_flat_starts.proofs.Opens.{base_owner, side_mine}
 use Rattle.nc_flat_starts.proofs.Sides.{without_lot, without_all}
+use Rattle.nc_flat_starts.proofs.TurnBytes.{turn_bytes}
 
 -- ---- nothing changes its owner
 
@@ -53,7 +59,7 @@ pub record IsQuiet (sc : Scenario) (f : List ℕ) (w : WorldState) (h : HartNo) 
   pub flat : Flatness sc f w
   pub lt : h.0 < length sc.harts
   pub idle : (driver_of w h.0).rest ≡ []
-  pub still : All IsStillOrWanted (driver_of w h.0).lots
+  pub still : All (IsStillOrWanted (driver_of w h.0).fixed) (driver_of w h.0).lots
   pub rest : went.driver.rest ≡ []
   pub transfers : went.moves.transfers ≡ []
   pub fixed : went.driver.fixed ≡ (driver_of w h.0).fixed
@@ -72,27 +78,26 @@ quiet_bytes sc f w h went q =
     let m = w.machine in
     let v = gone w h m went in
     let lt = driven sc f w h q.flat q.lt in
-    let plain = no_areas sc f w q.flat in
-    let others : (x : ℕ) (k : MapId) → x < sc.ram → mapping_in (owner_of w x) ≡ Some k → StaysAside w h went (owner_of w x) k =
-    λ x k there is own.
-    let r = mapped sc f w k x q.flat there is in
-    let here : In r.is.lot (driver_of w h.0).lots = subst (λ (g : ℕ). In r.is.lot (driver_of w g).lots) own r.is.here.lot_in in
-    (q.loans k, subst IsRestful (sym r.owner) (still_rest k r.is.lot r.is.lent (all_at IsStillOrWanted (driver_of w h.0).lots r.is.lot q.still here))) in
+    let others : (x : ℕ) (k : MapId) → x < sc.ram → mapping_in (owner_of w x) ≡ Some k → StaysAside w h went (owner_of w x) k = λ x k there is own. (q.loans k, inl (mapping_rest sc f w h x k q.flat q.still there is own)) in
     let off : (x : ℕ) → owner_in (owners_moved w.owners went.moves.transfers) x ≡ owner_of w x = λ x. ap (λ (ts : List (Span × Owner)). owner_in (owners_moved w.owners ts) x) q.transfers in
-    turn_bytes sc f w h m went no_lot sides.Own q.flat lt plain (goes_still sc f w h q.flat.bytes) (record {
+    turn_bytes sc f f w h m went no_lot (λ n. Thread n.hart) q.flat lt (rewrites_none sc f w h no_lot) (goes_still sc f w h q.flat.bytes) (record {
       on = λ i e x there place. absurd (none_at i e x place);
       off = λ x beside. off x;
-      beside = λ i e x place. absurd (none_at i e x place);
+      unslotted = λ i e x place. absurd (none_at i e x place);
       mine = λ i e x k place is. absurd (none_at i e x place);
       others = λ x k there beside is own. others x k there is own;
+      areas = λ x k l beside own is area over. q.loans k ∙ known_here w h k l own is;
+      pooled = λ i e x place over. absurd (none_at i e x place);
+      free = λ i e x place over. absurd (none_at i e x place);
       silent = λ c. ap (λ (ss : List Step). sending c ss) q.rest ∙ sym (ap (λ (ss : List Step). sending c ss) q.idle);
       fixed = q.fixed;
       drives = q.drives;
       lasting = last_none (book_of v) f h.0 (hart_of m h.0).last (rest_last went.driver.rest) (ap rest_last q.rest);
-      queue = all_to (IsQueued (book_of w) (owner_of w) m.pool m.size h.0) (IsQueued (book_of v) (owner_of v) m.pool m.size h.0) (queue_of m h.0) (q.flat.bytes.queued h.0) (λ e is. queue_idle w h (book_of v) (owner_of v) m.pool m.size e q.idle plain is);
+      queue = all_idle sc f w h (book_of v) (owner_of v) q.flat q.idle;
+      tokens = none_light went.driver.fixed went.driver.lots (TokenStands went.driver.rest (queue_of m h.0)) q.drives.lots;
       passes = λ x u there unslotted beside row. row;
       lies = λ i e x k there place is. absurd (none_at i e x place);
-      row = λ i e x u there place row. absurd (none_at i e x place);
+      row = λ i e x there place row. absurd (none_at i e x place);
       calm = λ z over unseen. q.flat.bytes.calm z over
           (λ x unslotted same. unseen x unslotted
           (ap (λ (p : Owner). seen_at (book_of v) p x) (off x)
@@ -104,6 +109,7 @@ quiet_bytes sc f w h went q =
 pub record IsEnded (sc : Scenario) (f : List ℕ) (w : WorldState) (h : HartNo) (went : Went) (lots : List Lot) (lot : Lot) : Type 0 where
   pub base : IsBase sc f w h lots lot
   pub synced : lot.side ≡ sides.Synced
+  pub plain : is_area lot.kind ≡ false
   pub driver : went.driver ≡ over (with_lots (driver_of w h.0) lots) (without_lot lot.id lots)
   pub transfers : went.moves.transfers ≡ of_those (to_end (driver_of w h.0).fixed.me) lot.id lots
 
@@ -115,14 +121,14 @@ pub end_bytes : (sc : Scenario) (f : List ℕ) (w : WorldState) (h : HartNo) (we
 end_bytes sc f w h went lots lot t =
     let m = w.machine in
     let b = t.base in
+    let p = base_before sc f w h lots lot b in
     let d = driver_of w h.0 in
     let fx = d.fixed in
     let v = gone w h m went in
     let lt = driven sc f w h b.flat b.lt in
     let me = me_of w h b.each.me in
-    let plain = no_areas sc f w b.flat in
     let ts = of_those (to_end fx.me) lot.id lots in
-    let own : last_owner fx.me lot ≡ Thread h = cond-false _ Pool (Thread fx.me) (no_area lot.kind (base_mapping sc f w h lots lot b).kind) ∙ ap Thread me in
+    let own : last_owner fx.me lot ≡ Thread h = cond-false _ Pool (Thread fx.me) t.plain ∙ ap Thread me in
     let its : (u : Span × Owner) → In u ts → (r : IsEndMove fx.me lot.id lots u) × (r.lot ≡ lot) =
     λ u k. let r = end_move fx.me lot.id lots u k in (r, same_named lots lot.id r.lot lot b.each.knows.names r.here.lot_in b.here r.named (its_name lot lot.id refl)) in
     let on : (i : ℕ) (e : Entry) (x : ℕ) → x < sc.ram → IsPlace lot i e x → owner_in (owners_moved w.owners went.moves.transfers) x ≡ Thread h =
@@ -138,30 +144,36 @@ end_bytes sc f w h went lots lot t =
     (λ u k over.
     let r = its u k in
     beside r.0.i r.0.entry (record { entry = subst (λ (l : Lot). slice_get l.list.entries r.0.i ≡ Some r.0.entry) r.1 r.0.here.entry; on = subst (λ (p : Span × Owner). covers p.0 x ≡ true) (sym r.0.is) over })) in
+    let stays : (k : MapId) → (k.label.0 ≡ lot.id.label.0 → ⊥) → loan_of went.driver k ≡ loan_of d k =
+    λ k far. ap (λ (j : DriverState). loan_of j k) t.driver ∙ ap (option_map (loan_by fx k)) (other_without lot.id k lots far) ∙ b.loans k far in
     let others : (x : ℕ) (k : MapId) → x < sc.ram → IsOff lot x → mapping_in (owner_of w x) ≡ Some k → StaysAside w h went (owner_of w x) k =
-    λ x k there beside is own_hart.
-    let r = base_others sc f w h lots lot x k b there beside is own_hart in
-    (ap (λ (j : DriverState). loan_of j k) t.driver ∙ ap (option_map (loan_by fx k)) (other_without lot.id k lots r.0) ∙ b.loans k r.0, r.1) in
-    turn_bytes sc f w h m went lot sides.Own b.flat lt plain (goes_still sc f w h b.flat.bytes) (record {
+    λ x k there beside is own_hart. (stays k (far_mapping sc f w h lots lot x k p there beside is own_hart), inl (mapping_rest sc f w h x k b.flat b.still there is own_hart)) in
+    let its = without_all (IsMapping fx) lot.id lots (all_to (IsMapping fx) (λ other. is_lot lot.id other ≡ false → IsMapping fx other) lots b.mappings (λ other is far. is)) in
+    let unpooled : (i : ℕ) (e : Entry) (x : ℕ) → IsPlace lot i e x → covers (pool_of sc) x ≡ true → ⊥ = λ i e x place over. both_ways (covers (pool_of sc) x) (base_beside sc f w h lots lot i e x b t.plain place.entry place.on).0 over in
+    turn_bytes sc f f w h m went lot (λ n. Thread n.hart) b.flat lt (rewrites_none sc f w h lot) (goes_still sc f w h b.flat.bytes) (record {
       on = λ i e x there place. on i e x there place;
       off = off;
-      beside = λ i e x place. base_beside sc f w h lots lot i e x b place.entry place.on;
-      mine = λ i e x k place is. let no = sym (base_owner sc f w h lots lot i e x b place ∙ ap (owner_of_side (map_id h lot.id i)) t.synced) ∙ is in absurd cc;
+      unslotted = λ i e x place. (base_beside sc f w h lots lot i e x b t.plain place.entry place.on).1;
+      mine = λ i e x k place is. side_mine h lot i k (sym (ap mapping_in (base_owner sc f w h lots lot i e x b place)) ∙ is);
       others = λ x k there beside is own_hart. others x k there beside is own_hart;
+      areas = λ x k l beside own_hart is area over. stays k (far_loan sc f w h lots lot x k l p beside own_hart (loan_is sc f w k l b.flat is) over) ∙ known_here w h k l own_hart is;
+      pooled = λ i e x place over. absurd (unpooled i e x place over);
+      free = λ i e x place over. absurd (unpooled i e x place over);
       silent = λ c. ap (λ (j : DriverState). sending c j.rest) t.driver ∙ sym (ap (λ (ss : List Step). sending c ss) b.idle);
       fixed = ap (λ (j : DriverState). j.fixed) t.driver;
       drives = subst (λ (j : DriverState). Drives j) (sym t.driver) (record {
-        lots = without_all (IsMapping fx) lot.id lots (all_to (IsMapping fx) (λ other. is_lot lot.id other ≡ false → IsMapping fx other) lots b.mappings (λ other is far. is));
-        stands = without_all IsStill lot.id lots b.others;
+        lots = its;
+        stands = without_all (IsStill fx) lot.id lots b.others;
         idle = refl;
       });
       lasting = last_none (book_of v) f h.0 (hart_of m h.0).last (rest_last went.driver.rest) (ap (λ (j : DriverState). rest_last j.rest) t.driver);
-      queue = all_to (IsQueued (book_of w) (owner_of w) m.pool m.size h.0) (IsQueued (book_of v) (owner_of v) m.pool m.size h.0) (queue_of m h.0) (b.flat.bytes.queued h.0) (λ q is. queue_idle w h (book_of v) (owner_of v) m.pool m.size q b.idle plain is);
+      queue = all_idle sc f w h (book_of v) (owner_of v) b.flat b.idle;
+      tokens = subst (λ (j : DriverState). j.fixed.light ≡ true → All (TokenStands j.rest (queue_of m h.0)) j.lots) (sym t.driver) (none_light fx (without_lot lot.id lots) (TokenStands [] (queue_of m h.0)) its);
       passes = λ x u there unslotted beside row. row;
       lies = λ i e x k there place is. absurd cc;
-      row = λ i e x u there place row.
+      row = λ i e x there place row.
           let n = map_id h lot.id i in
-          ended_row n ((book_of w).loan n) u m x (subst (λ (p : Owner). Row (book_of w) p u m x) (base_owner sc f w h lots lot i e x b place ∙ ap (owner_of_side n) t.synced) row);
+          ended_row n ((book_of w).loan n) (byte f x) m x (subst (λ (p : Owner). Row (book_of w) p (byte f x) m x) (base_owner sc f w h lots lot i e x b place ∙ ap (owner_of_side n) t.synced) row);
       calm = λ z over unseen. b.flat.bytes.calm z over
           (λ x unslotted same. elim (somewhere lot x) [
             | On i e place ↦

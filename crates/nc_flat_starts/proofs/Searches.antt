@@ -19,11 +19,13 @@ use Rattle.nc_rules.specs.declared.steps.Next.TheVariants as nexts
 use Rattle.nc_rules.specs.declared.steps.Phase.{Phase}
 use Rattle.nc_rules.specs.declared.steps.Phase.TheVariants.{Steps, Search, Work}
 use Rattle.nc_rules.specs.declared.steps.Step.{Step}
-use Rattle.nc_rules.specs.Lots.{is_wanted, lot_waits, some_lot_waits, with_slot, slot_given}
+use Rattle.nc_rules.specs.declared.lots.Kind.TheVariants as kinds
+use Rattle.nc_rules.specs.Lots.{Fixed, is_wanted, same_kind, lot_waits, some_lot_waits, with_slot, slot_given}
+use Rattle.nc_rules.specs.Turns.{is_area}
 use Rattle.nc_rules.specs.Operations.{has_start, step_at}
 use Rattle.nc_rules.specs.Driver.{DriverState, Went, in_hand, next_of, next_of_op, next_in, next_act, next_rest, next_step, searched, searching, stays, searches, give_up, told, told_of, told_in, told_word}
 use Rattle.nc_rules.specs.World.{WorldState, driver_of}
-use Rattle.nc_scripts.specs.Drivers.{IsPhase, IsSearching, AreMade}
+use Rattle.nc_scripts.specs.Drivers.{IsPhase, IsSearching, IsLotIn, AreMade}
 use Rattle.nc_scripts.proofs.Lists.{all_to}
 use Rattle.nc_scripts.proofs.SlotLaws.{made_given}
 use Rattle.nc_holds.specs.Changes.{Got, WaitsUnlent}
@@ -36,8 +38,10 @@ use Rattle.nc_holds.proofs.OwnerGiven.{owner_laws}
 use Rattle.nc_flatness.specs.Books.{loan_by}
 use Rattle.nc_flatness.specs.Covered.{is_lending}
 use Rattle.nc_flatness.specs.Flatness.{IsMapping, IsStillOrWanted, makes_kind, IsStillOrMade, StandsAt, BytesStand, Flatness}
+use Rattle.nc_flatness.specs.Plans.{IsStill, StillDevice, StillSynced, StillOwn, StillSent}
 use Rattle.nc_flatness.proofs.Outcomes.{gone}
 use Rattle.nc_flat_starts.proofs.Calls.{IsCall, kind_of, gives_bytes, search_bytes, Makes, OneMap, ListMap, placed_bytes}
+use Rattle.nc_flat_starts.proofs.Bases.{area_placed}
 use Rattle.nc_flat_starts.proofs.Lots.{slot_loans}
 use Rattle.nc_flat_starts.proofs.Starts.{short, holds_here}
 
@@ -101,9 +105,16 @@ given_kept k (lot ∷ lots) other unlent here lent =
           (elim here [ inl same ↦ inl same | inr there ↦ inr (given_kept k lots other (All-tail P lot lots unlent) there lent) ])
     ]
 
-still_given : (o : Option Op) (k : ℕ) (lot : Lot) → IsStillOrMade o lot → IsStillOrMade o (with_slot k lot)
-still_given None k lot is = is
-still_given (Some o) k lot is = is
+still_with : (f : Fixed) (k : ℕ) (lot : Lot) → IsStill f lot → IsStill f (with_slot k lot)
+still_with f k lot (StillDevice is) = StillDevice is
+still_with f k lot (StillSynced is kind) = StillSynced is kind
+still_with f k lot (StillOwn is kind) = StillOwn is kind
+still_with f k lot (StillSent is light) = StillSent is light
+
+still_given : (f : Fixed) (o : Option Op) (k : ℕ) (lot : Lot) → IsStillOrMade f o lot → IsStillOrMade f o (with_slot k lot)
+still_given f o k lot (inl still) = inl (still_with f k lot still)
+still_given f None k lot (inr is) = inr is
+still_given f (Some o) k lot (inr is) = inr is
 
 -- one that waits is there
 some_waits : (lots : List Lot) → some_lot_waits lots ≡ true → (lot : Lot) × In lot lots × (lot_waits lot ≡ true)
@@ -116,31 +127,37 @@ some_waits (lot ∷ lots) e = elim (cases_Bool (lot_waits lot)) [
       (r.0, inr r.1, r.2)
 ]
 
-makes_by : (o : Op) (kind : Kind) → makes_kind o kind ≡ true → Makes o × (is_lending o ≡ true)
-makes_by (ops.Map label buf off len dir chan) kind is = (OneMap label buf off len dir chan refl, refl)
-makes_by (ops.MapSg label es dir chan) kind is = (ListMap label es dir chan refl, refl)
-makes_by (ops.Unmap label) kind is = absurd cc
-makes_by (ops.ToCpu label) kind is = absurd cc
-makes_by (ops.ToDev label) kind is = absurd cc
-makes_by (ops.UnmapSg label count) kind is = absurd cc
-makes_by (ops.Ld spot off len) kind is = absurd cc
-makes_by (ops.St spot off bytes) kind is = absurd cc
-makes_by (ops.Cbo op buf off) kind is = absurd cc
-makes_by (ops.Fence pred succ) kind is = absurd cc
-makes_by (ops.Calloc label count chan) kind is = absurd cc
-makes_by (ops.Cgive label) kind is = absurd cc
-makes_by (ops.Ctake label) kind is = absurd cc
-makes_by (ops.Cfree label) kind is = absurd cc
-makes_by (ops.Hand buf to) kind is = absurd cc
-makes_by (ops.Take buf) kind is = absurd cc
-makes_by (ops.Claim chan) kind is = absurd cc
-makes_by (ops.Free chan) kind is = absurd cc
-makes_by (ops.Regs chan src dst len cfg) kind is = absurd cc
-makes_by (ops.Run chan) kind is = absurd cc
-makes_by (ops.Poll chan) kind is = absurd cc
-makes_by (ops.Regr chan off width) kind is = absurd cc
-makes_by (ops.Regw chan off width value) kind is = absurd cc
-makes_by (ops.Copy chan src src_off dst dst_off len cfg) kind is = absurd cc
+no_area_kind : (kind : Kind) → is_area kind ≡ false → same_kind kinds.Area kind ≡ true → ⊥
+no_area_kind kinds.Area plain is = absurd cc
+no_area_kind kinds.Single plain is = absurd cc
+no_area_kind kinds.List plain is = absurd cc
+no_area_kind kinds.Copy plain is = absurd cc
+
+makes_by : (o : Op) (kind : Kind) → is_area kind ≡ false → makes_kind o kind ≡ true → Makes o × (is_lending o ≡ true)
+makes_by (ops.Map label buf off len dir chan) kind plain is = (OneMap label buf off len dir chan refl, refl)
+makes_by (ops.MapSg label es dir chan) kind plain is = (ListMap label es dir chan refl, refl)
+makes_by (ops.Calloc label count chan) kind plain is = absurd (no_area_kind kind plain is)
+makes_by (ops.Unmap label) kind plain is = absurd cc
+makes_by (ops.ToCpu label) kind plain is = absurd cc
+makes_by (ops.ToDev label) kind plain is = absurd cc
+makes_by (ops.UnmapSg label count) kind plain is = absurd cc
+makes_by (ops.Ld spot off len) kind plain is = absurd cc
+makes_by (ops.St spot off bytes) kind plain is = absurd cc
+makes_by (ops.Cbo op buf off) kind plain is = absurd cc
+makes_by (ops.Fence pred succ) kind plain is = absurd cc
+makes_by (ops.Cgive label) kind plain is = absurd cc
+makes_by (ops.Ctake label) kind plain is = absurd cc
+makes_by (ops.Cfree label) kind plain is = absurd cc
+makes_by (ops.Hand buf to) kind plain is = absurd cc
+makes_by (ops.Take buf) kind plain is = absurd cc
+makes_by (ops.Claim chan) kind plain is = absurd cc
+makes_by (ops.Free chan) kind plain is = absurd cc
+makes_by (ops.Regs chan src dst len cfg) kind plain is = absurd cc
+makes_by (ops.Run chan) kind plain is = absurd cc
+makes_by (ops.Poll chan) kind plain is = absurd cc
+makes_by (ops.Regr chan off width) kind plain is = absurd cc
+makes_by (ops.Regw chan off width value) kind plain is = absurd cc
+makes_by (ops.Copy chan src src_off dst dst_off len cfg) kind plain is = absurd cc
 
 -- ---- the hart that searches
 
@@ -152,21 +169,28 @@ pub record IsSearch (sc : Scenario) (f : List ℕ) (w : WorldState) (h : HartNo)
   pub unlent : WaitsUnlent (driver_of w h.0).lots
   pub waits : some_lot_waits (driver_of w h.0).lots ≡ true
 
-or_wanted : (o : Option Op) (lot : Lot) → IsStillOrMade o lot → IsStillOrWanted lot
-or_wanted o lot (inl still) = inl still
-or_wanted o lot (inr is) = inr is.0
+or_wanted : (f : Fixed) (o : Option Op) (lot : Lot) → IsStillOrMade f o lot → IsStillOrWanted f lot
+or_wanted f o lot (inl still) = inl still
+or_wanted f o lot (inr is) = inr is.0
+
+-- a lot that waits is no area
+waits_plain : (lot : Lot) (area : Bool) → is_area lot.kind ≡ area → (is_area lot.kind ≡ true → lot_waits lot ≡ false) → lot_waits lot ≡ true → is_area lot.kind ≡ false
+waits_plain lot true is placed waits = absurd (both_ways (lot_waits lot) (placed is) waits)
+waits_plain lot false is placed waits = is
 
 pub search_so : (sc : Scenario) (f : List ℕ) (w : WorldState) (h : HartNo) (k : ℕ) (o : Op) → Flatness sc f w → h.0 < length sc.harts → IsTrying (driver_of w h.0) k o → IsSearch sc f w h k o
 search_so sc f w h k o flat lt is =
     let d = driver_of w h.0 in
     let drives = flat.bytes.drives h.0 lt in
     let holds = holds_here sc f w h flat lt in
-    let stand : All (IsStillOrMade (in_hand d)) d.lots = subst (λ (p : Phase). StandsAt d p) is.phase drives.stands in
-    let now : All (IsStillOrMade (Some o)) d.lots = subst (λ (p : Option Op). All (IsStillOrMade p) d.lots) is.hand stand in
+    let fx = d.fixed in
+    let stand : All (IsStillOrMade fx (in_hand d)) d.lots = subst (λ (p : Phase). StandsAt d p) is.phase drives.stands in
+    let now : All (IsStillOrMade fx (Some o)) d.lots = subst (λ (p : Option Op). All (IsStillOrMade fx p) d.lots) is.hand stand in
     let at : IsSearching d k = subst (λ (p : Phase). IsPhase d p) is.phase holds.driver.phase in
     let one = some_waits d.lots at.waits in
     let wanted = all_at (λ (l : Lot). lot_waits l ≡ true → is_wanted l.side ≡ true) d.lots one.0 holds.waits one.1 one.2 in
-    let makes = makes_by o one.0.kind (kind_of o one.0 (all_at (IsStillOrMade (Some o)) d.lots one.0 now one.1) wanted) in
+    let plain = waits_plain one.0 (is_area one.0.kind) refl (area_placed (length w.machine.cache.ram) fx one.0 (all_at (IsLotIn (length w.machine.cache.ram) fx) d.lots one.0 holds.driver.lots one.1)) one.2 in
+    let makes = makes_by o one.0.kind plain (kind_of fx o one.0 (all_at (IsStillOrMade fx (Some o)) d.lots one.0 now one.1) wanted) in
     record {
       call = record {
         flat = flat;
@@ -176,7 +200,7 @@ search_so sc f w h k o flat lt is =
         mappings = drives.lots;
         loans = λ n. refl;
         kept = λ other there lent. there;
-        still = all_to (IsStillOrMade (Some o)) IsStillOrWanted d.lots now (or_wanted (Some o));
+        still = all_to (IsStillOrMade fx (Some o)) (IsStillOrWanted fx) d.lots now (or_wanted fx (Some o));
         now = now;
         hand = is.hand;
         lends = makes.1;
@@ -207,7 +231,7 @@ got_call sc f w h k o s free =
       loans = λ n. ap (option_map (loan_by fx n)) (slot_loans k n d.lots s.unlent);
       kept = λ other there lent. given_kept k d.lots other s.unlent there lent;
       still = c.still;
-      now = given_all (IsStillOrMade (Some o)) k d.lots c.now (still_given (Some o) k);
+      now = given_all (IsStillOrMade fx (Some o)) k d.lots c.now (still_given fx (Some o) k);
       hand = c.hand;
       lends = c.lends;
       idle = c.idle;

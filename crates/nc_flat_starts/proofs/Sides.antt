@@ -1,20 +1,20 @@
 -- The lots of a hart behind a turn of one of them.
-use Rattle.std.specs.Prelude.{All, not, true, false, filter}
+use Rattle.std.specs.Prelude.{All, not, Bool, true, false, filter}
 use Rattle.std.proofs.Common.{◌≡◌, List, [], ◌∷◌, refl, sym, ap, ◌∙◌, inl, inr, subst}
 use Rattle.std.proofs.lemmas.Bool.{cases_Bool, both_ways, cond-true, cond-false, not_from_true, not_from_false}
 use Rattle.std.proofs.lemmas.List.Elements.{All-nil, All-cons, All-head, All-tail}
 use Rattle.nc_plan.specs.Plans.{In}
-use Rattle.nc_rules.specs.declared.lots.Kind.TheVariants.{Single}
+use Rattle.nc_rules.specs.declared.lots.Kind.TheVariants.{Single, Area}
 use Rattle.nc_rules.specs.declared.lots.Lot.{Lot}
 use Rattle.nc_rules.specs.declared.lots.LotId.{LotId}
 use Rattle.nc_rules.specs.declared.lots.Side.{Side}
 use Rattle.nc_rules.specs.declared.lots.Side.TheVariants as sides
 use Rattle.nc_rules.specs.declared.steps.Turn.{Turn}
 use Rattle.nc_rules.specs.declared.steps.Turn.TheVariants as turns
-use Rattle.nc_rules.specs.Lots.{is_lot}
-use Rattle.nc_rules.specs.Turns.{with_side, set_side, lots_after}
+use Rattle.nc_rules.specs.Lots.{Fixed, is_lot}
+use Rattle.nc_rules.specs.Turns.{is_area, with_side, set_side, lots_after}
 use Rattle.nc_scripts.proofs.LotLaws.{its_name}
-use Rattle.nc_flatness.specs.Plans.{IsStill, IsInHand, IsBack}
+use Rattle.nc_flatness.specs.Plans.{IsStill, StillDevice, StillSynced, StillOwn, IsInHand, IsBack, IsAreaBack}
 
 abbrev pub without_lot : LotId → List Lot → List Lot
 without_lot id lots = filter (λ lot. not (is_lot id lot)) lots
@@ -75,19 +75,19 @@ set_others P side id (x ∷ lots) all =
     All-cons Q (with_side side id x) (set_side side id lots) now (set_others P side id lots (All-tail Q x lots all))
 
 -- the turn that opens leaves the lot in hand
-pub hand_set : (side : Side) (lots : List Lot) (lot : Lot) → In lot lots → Others IsStill lot.id lots → IsInHand (set_side side lot.id lots) (turned_lot side lot) side
-hand_set side lots lot here others = record { here = set_here side lots lot here; side_is = refl; others = set_others IsStill side lot.id lots others }
+pub hand_set : (f : Fixed) (side : Side) (area : Bool) (lots : List Lot) (lot : Lot) → In lot lots → is_area lot.kind ≡ area → Others (IsStill f) lot.id lots → IsInHand f (set_side side lot.id lots) (turned_lot side lot) area side
+hand_set f side area lots lot here is others = record { here = set_here side lots lot here; area_is = is; side_is = refl; others = set_others (IsStill f) side lot.id lots others }
 
 -- a side that is still leaves them all still
-pub set_still : (side : Side) (id : LotId) (lots : List Lot) → ((lot : Lot) → In lot lots → is_lot id lot ≡ true → IsStill (turned_lot side lot)) → Others IsStill id lots → All IsStill (set_side side id lots)
-set_still side id [] now all = All-nil IsStill
-set_still side id (x ∷ lots) now all =
-    let P : Lot → Type 0 = λ other. is_lot id other ≡ false → IsStill other in
-    let first : IsStill (with_side side id x) = elim (cases_Bool (is_lot id x)) [
-      | inl is ↦ subst IsStill (sym (cond-true (is_lot id x) (turned_lot side x) x is)) (now x (inl refl) is)
-      | inr off ↦ subst IsStill (sym (cond-false (is_lot id x) (turned_lot side x) x off)) (All-head P x lots all off)
+pub set_still : (f : Fixed) (side : Side) (id : LotId) (lots : List Lot) → ((lot : Lot) → In lot lots → is_lot id lot ≡ true → IsStill f (turned_lot side lot)) → Others (IsStill f) id lots → All (IsStill f) (set_side side id lots)
+set_still f side id [] now all = All-nil (IsStill f)
+set_still f side id (x ∷ lots) now all =
+    let P : Lot → Type 0 = λ other. is_lot id other ≡ false → IsStill f other in
+    let first : IsStill f (with_side side id x) = elim (cases_Bool (is_lot id x)) [
+      | inl is ↦ subst (IsStill f) (sym (cond-true (is_lot id x) (turned_lot side x) x is)) (now x (inl refl) is)
+      | inr off ↦ subst (IsStill f) (sym (cond-false (is_lot id x) (turned_lot side x) x off)) (All-head P x lots all off)
     ] in
-    All-cons IsStill (with_side side id x) (set_side side id lots) first (set_still side id lots (λ lot there is. now lot (inr there) is) (All-tail P x lots all))
+    All-cons (IsStill f) (with_side side id x) (set_side side id lots) first (set_still f side id lots (λ lot there is. now lot (inr there) is) (All-tail P x lots all))
 
 -- ---- without the lot
 
@@ -104,13 +104,24 @@ without_all P id (x ∷ lots) all =
 
 -- ---- the turns that leave all still
 
-pub given_still : (id : LotId) (lots : List Lot) → Others IsStill id lots → All IsStill (lots_after (turns.Give id) lots)
-given_still id lots others = set_still sides.Device id lots (λ lot there is. inl refl) others
+pub given_still : (f : Fixed) (id : LotId) (lots : List Lot) → Others (IsStill f) id lots → All (IsStill f) (lots_after (turns.Give id) lots)
+given_still f id lots others = set_still f sides.Device id lots (λ lot there is. StillDevice refl) others
 
 -- a sync is of a single mapping
 abbrev pub IsSingly : LotId → Turn → List Lot → Type 0
 IsSingly id turn lots = turn ≡ turns.Sync id → (lot : Lot) → In lot lots → is_lot id lot ≡ true → lot.kind ≡ Single
 
-pub back_still : (id : LotId) (turn : Turn) (lots : List Lot) → IsBack id turn → IsSingly id turn lots → Others IsStill id lots → All IsStill (lots_after turn lots)
-back_still id turn lots (inl is) single others = subst (λ (t : Turn). All IsStill (lots_after t lots)) (sym is) (set_still sides.Synced id lots (λ lot there named. inr (refl, single is lot there named)) others)
-back_still id turn lots (inr is) single others = subst (λ (t : Turn). All IsStill (lots_after t lots)) (sym is) (without_all IsStill id lots others)
+pub back_still : (f : Fixed) (id : LotId) (turn : Turn) (lots : List Lot) → IsBack id turn → IsSingly id turn lots → Others (IsStill f) id lots → All (IsStill f) (lots_after turn lots)
+back_still f id turn lots (inl is) single others = subst (λ (t : Turn). All (IsStill f) (lots_after t lots)) (sym is) (set_still f sides.Synced id lots (λ lot there named. StillSynced refl (single is lot there named)) others)
+back_still f id turn lots (inr is) single others = subst (λ (t : Turn). All (IsStill f) (lots_after t lots)) (sym is) (without_all (IsStill f) id lots others)
+
+-- an area is its hart's, or there is none any more
+abbrev pub NamesArea : LotId → List Lot → Type 0
+NamesArea id lots = (lot : Lot) → In lot lots → is_lot id lot ≡ true → lot.kind ≡ Area
+
+pub settled_still : (f : Fixed) (id : LotId) (lots : List Lot) → NamesArea id lots → Others (IsStill f) id lots → All (IsStill f) (lots_after (turns.Settle id) lots)
+settled_still f id lots area others = set_still f sides.Own id lots (λ lot there named. StillOwn refl (area lot there named)) others
+
+pub area_still : (f : Fixed) (id : LotId) (turn : Turn) (lots : List Lot) → IsAreaBack id turn → NamesArea id lots → Others (IsStill f) id lots → All (IsStill f) (lots_after turn lots)
+area_still f id turn lots (inl is) area others = subst (λ (t : Turn). All (IsStill f) (lots_after t lots)) (sym is) (settled_still f id lots area others)
+area_still f id turn lots (inr is) area others = subst (λ (t : Turn). All (IsStill f) (lots_after t lots)) (sym is) (without_all (IsStill f) id lots others)

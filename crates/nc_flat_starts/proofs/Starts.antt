@@ -1,7 +1,7 @@
--- The start of an operation that maps, unmaps or syncs: flat memory's bytes stand behind it.
-use Rattle.std.specs.Prelude.{Option, Some, All, Result, Ok, Err, ◌==◌, true, false, if◌then◌else◌, option_map, flat_map}
+-- The start of an operation that lends or takes back: what it makes, and the ways in which it opens.
+use Rattle.std.specs.Prelude.{Some, All, Result, Ok, Err, true, false, option_map, flat_map}
 use Rattle.std.proofs.Common.{◌≡◌, ◌⊎◌, ℕ, ◌<◌, List, [], ◌∷◌, ◌++◌, length, refl, sym, ap, ◌∙◌, inl, inr, subst, arith}
-use Rattle.std.proofs.lemmas.Bool.{cond-true, cond-false, and_parts}
+use Rattle.std.proofs.lemmas.Bool.{cond-false, and_parts}
 use Rattle.std.proofs.lemmas.List.{append-nil}
 use Rattle.std.proofs.lemmas.List.Folds.{list_any_none}
 use Rattle.std.proofs.lemmas.List.Elements.{All-nil, All-cons, All-append}
@@ -18,31 +18,30 @@ use Rattle.nc_ops.specs.declared.ops.Op.TheVariants as ops
 use Rattle.nc_ops.specs.declared.ops.SgEntry.{SgEntry}
 use Rattle.nc_scen.specs.declared.scenario.Scenario.{Scenario}
 use Rattle.nc_rules.specs.declared.answers.Refusal.{Refusal}
-use Rattle.nc_rules.specs.declared.answers.Refusal.TheVariants as refusals
 use Rattle.nc_rules.specs.declared.lots.Kind.{Kind}
 use Rattle.nc_rules.specs.declared.lots.Kind.TheVariants as kinds
 use Rattle.nc_rules.specs.declared.lots.Lot.{Lot}
 use Rattle.nc_rules.specs.declared.lots.Side.TheVariants as sides
 use Rattle.nc_rules.specs.declared.steps.Phase.{Phase}
 use Rattle.nc_rules.specs.declared.steps.Phase.TheVariants.{Steps}
-use Rattle.nc_rules.specs.declared.steps.Step.{Step}
 use Rattle.nc_rules.specs.declared.steps.Turn.{Turn}
 use Rattle.nc_rules.specs.declared.steps.Turn.TheVariants as turns
-use Rattle.nc_rules.specs.Lots.{Fixed, lot_id, lot_named, is_lot, is_named, is_labelled, is_synced, is_wanted, same_kind, lot_waits, some_lot_waits, slots_held, ranges_lot}
-use Rattle.nc_rules.specs.Refusals.{◌>>=◌, wanted, all_some, ranges_of, unused, named, owned_from, lendable, placeable}
+use Rattle.nc_rules.specs.Lots.{Fixed, lot_id, lot_named, is_lot, is_named, is_labelled, is_wanted, same_kind, lot_waits, some_lot_waits, slots_held, ranges_lot}
+use Rattle.nc_rules.specs.Turns.{is_area}
+use Rattle.nc_rules.specs.Refusals.{◌>>=◌, all_some, ranges_of, unused, owned_from, lendable, placeable}
 use Rattle.nc_rules.specs.Plans.{lend_steps, return_steps, ending}
 use Rattle.nc_rules.specs.Mappings as mappings
 use Rattle.nc_rules.specs.Mappings.{with_lot, needs_lot, unmap_turn, unmap_steps, to_cpu_turn, to_cpu_steps, to_dev_turn, to_dev_steps}
 use Rattle.nc_rules.specs.ScatterLists as lists
 use Rattle.nc_rules.specs.ScatterLists.{some_entries, unmap_sg_begin, unmap_sg_turn, unmap_sg_steps}
-use Rattle.nc_rules.specs.Operations.{meaning, has_start, begin, opening, plan_of, step_at}
-use Rattle.nc_rules.specs.Driver.{DriverState, Went, in_hand, stays, searches, with_lots, opened, placed, begun, started, started_of, refused_step, steps_done}
+use Rattle.nc_rules.specs.Operations.{meaning, begin, opening, plan_of}
+use Rattle.nc_rules.specs.Driver.{DriverState, Went, in_hand, stays, searches, with_lots, opened, placed, begun}
 use Rattle.nc_rules.specs.World.{WorldState, driver_of}
 use Rattle.nc_scripts.specs.Drivers.{IsSettled, AreMade, IsPhase}
 use Rattle.nc_scripts.proofs.DriverSteps.{passed}
 use Rattle.nc_scripts.proofs.EveryDriver.{in_hand_is}
 use Rattle.nc_scripts.proofs.Lists.{all_in, all_to, found}
-use Rattle.nc_scripts.proofs.NewLots.{ranges_begin, behind_ranges, behind_test, sg_none, some_is, placeable_is, new_is}
+use Rattle.nc_scripts.proofs.NewLots.{ranges_begin, behind_ranges, placeable_is, new_is}
 use Rattle.nc_holds.specs.Changes.{Made, MayMake}
 use Rattle.nc_holds.specs.Holds.{held_of, DriverHolds}
 use Rattle.nc_holds.specs.Rests.{RestAt}
@@ -60,9 +59,9 @@ use Rattle.nc_flatness.proofs.Loans.{entry_loan}
 use Rattle.nc_flatness.proofs.Outcomes.{gone}
 use Rattle.nc_flat_starts.proofs.Bases.{IsBase}
 use Rattle.nc_flat_starts.proofs.Calls.{wanted_side, IsCall, call_base, gives_bytes, opened_so, Makes, OneMap, ListMap, placed_bytes}
-use Rattle.nc_flat_starts.proofs.Lendings.{lending_starts}
 use Rattle.nc_flat_starts.proofs.Lots.{more_wanted}
-use Rattle.nc_flat_starts.proofs.OpenRows.{AreKnown, lend_opens, return_opens}
+use Rattle.nc_flat_starts.proofs.OpenRows.{lend_opens}
+use Rattle.nc_flat_starts.proofs.BackRows.{AreKnown, return_opens}
 use Rattle.nc_flat_starts.proofs.Opens.{opens_bytes}
 use Rattle.nc_flat_starts.proofs.Quiets.{quiet_bytes, end_bytes}
 
@@ -74,7 +73,7 @@ pub record IsStart (sc : Scenario) (f : List ℕ) (w : WorldState) (h : HartNo) 
   pub full : (driver_of w h.0).fixed.light ≡ false
   pub hand : in_hand (driver_of w h.0) ≡ Some o
   pub lends : is_lending o ≡ true
-  pub still : All IsStill (driver_of w h.0).lots
+  pub still : All (IsStill (driver_of w h.0).fixed) (driver_of w h.0).lots
   pub idle : (driver_of w h.0).rest ≡ []
   pub settled : All IsSettled (driver_of w h.0).lots
 
@@ -100,10 +99,10 @@ at_steps sc f w h o n flat lt full hand lends phase =
     }
 
 -- the lots that it has
-as_wanted : (lots : List Lot) → All IsStill lots → All IsStillOrWanted lots
-as_wanted lots all = all_to IsStill IsStillOrWanted lots all (λ lot is. inl is)
+pub as_wanted : (f : Fixed) (lots : List Lot) → All (IsStill f) lots → All (IsStillOrWanted f) lots
+as_wanted f lots all = all_to (IsStill f) (IsStillOrWanted f) lots all (λ lot is. inl is)
 
-here_call : (sc : Scenario) (f : List ℕ) (w : WorldState) (h : HartNo) (o : Op) → IsStart sc f w h o → IsCall sc f w h o (driver_of w h.0).lots
+pub here_call : (sc : Scenario) (f : List ℕ) (w : WorldState) (h : HartNo) (o : Op) → IsStart sc f w h o → IsCall sc f w h o (driver_of w h.0).lots
 here_call sc f w h o s =
     let d = driver_of w h.0 in
     record {
@@ -114,8 +113,8 @@ here_call sc f w h o s =
       mappings = (s.flat.bytes.drives h.0 s.lt).lots;
       loans = λ k. refl;
       kept = λ other there lent. there;
-      still = as_wanted d.lots s.still;
-      now = all_to IsStill (IsStillOrMade (Some o)) d.lots s.still (λ lot is. inl is);
+      still = as_wanted d.fixed d.lots s.still;
+      now = all_to (IsStill d.fixed) (IsStillOrMade d.fixed (Some o)) d.lots s.still (λ lot is. inl is);
       hand = s.hand;
       lends = s.lends;
       idle = s.idle;
@@ -197,9 +196,9 @@ made_call sc f w h o new s makes e =
         mappings = All-append (IsMapping fx) d.lots new (s.flat.bytes.drives h.0 s.lt).lots (its.mapping fx s.full);
         loans = λ k. ap (option_map (loan_by fx k)) (more_wanted k d.lots new n.wanted);
         kept = λ other there lent. in_left other d.lots new there;
-        still = as_wanted d.lots s.still;
-        now = All-append (IsStillOrMade (Some o)) d.lots new (all_to IsStill (IsStillOrMade (Some o)) d.lots s.still (λ lot is. inl is))
-            (all_in (IsStillOrMade (Some o)) new (λ lot there. inr (wanted_side lot.side (all_at (λ (l : Lot). is_wanted l.side ≡ true) new lot n.wanted there), all_at (λ (l : Lot). makes_kind o l.kind ≡ true) new lot its.made there)));
+        still = as_wanted fx d.lots s.still;
+        now = All-append (IsStillOrMade fx (Some o)) d.lots new (all_to (IsStill fx) (IsStillOrMade fx (Some o)) d.lots s.still (λ lot is. inl is))
+            (all_in (IsStillOrMade fx (Some o)) new (λ lot there. inr (wanted_side lot.side (all_at (λ (l : Lot). is_wanted l.side ≡ true) new lot n.wanted there), all_at (λ (l : Lot). makes_kind o l.kind ≡ true) new lot its.made there)));
         hand = s.hand;
         lends = s.lends;
         idle = s.idle;
@@ -207,17 +206,17 @@ made_call sc f w h o new s makes e =
       record { old = d.lots; new = new; all = refl; settled = s.settled; names = n.names; wanted = n.wanted },
     )
 
-map_bytes : (sc : Scenario) (f : List ℕ) (w : WorldState) (h : HartNo) (o : Op) (r : Result (List Lot) Refusal) → IsStart sc f w h o → Makes o → begin (driver_of w h.0).fixed (driver_of w h.0).lots w.owners w.pages o ≡ r → BytesStand sc f (gone w h w.machine (begun (driver_of w h.0) o r))
-map_bytes sc f w h o (Err r) s makes e = gives_bytes sc f w h o r s.flat s.lt s.idle (as_wanted (driver_of w h.0).lots s.still)
+pub map_bytes : (sc : Scenario) (f : List ℕ) (w : WorldState) (h : HartNo) (o : Op) (r : Result (List Lot) Refusal) → IsStart sc f w h o → Makes o → begin (driver_of w h.0).fixed (driver_of w h.0).lots w.owners w.pages o ≡ r → BytesStand sc f (gone w h w.machine (begun (driver_of w h.0) o r))
+map_bytes sc f w h o (Err r) s makes e = gives_bytes sc f w h o r s.flat s.lt s.idle (as_wanted (driver_of w h.0).fixed (driver_of w h.0).lots s.still)
 map_bytes sc f w h o (Ok new) s makes e = let c = made_call sc f w h o new s makes e in placed_bytes sc f w h o ((driver_of w h.0).lots ++ new) makes c.0 c.1
 
 -- ---- the others
 
 -- a lot that is found
-record IsThere (sc : Scenario) (f : List ℕ) (w : WorldState) (h : HartNo) (lot : Lot) (label : Label) (kind : Kind) : Type 0 where
-  base : IsBase sc f w h (driver_of w h.0).lots lot
-  its_kind : lot.kind ≡ kind
-  still : IsStill lot
+pub record IsThere (sc : Scenario) (f : List ℕ) (w : WorldState) (h : HartNo) (lot : Lot) (label : Label) (kind : Kind) : Type 0 where
+  pub base : IsBase sc f w h (driver_of w h.0).lots lot
+  pub its_kind : lot.kind ≡ kind
+  pub still : IsStill (driver_of w h.0).fixed lot
 
 kind_is : (a b : Kind) → same_kind a b ≡ true → b ≡ a
 kind_is kinds.Single kinds.Single e = refl
@@ -237,32 +236,32 @@ kind_is kinds.Copy kinds.Single e = absurd cc
 kind_is kinds.Copy kinds.List e = absurd cc
 kind_is kinds.Copy kinds.Area e = absurd cc
 
-there_so : (sc : Scenario) (f : List ℕ) (w : WorldState) (h : HartNo) (o : Op) (lot : Lot) (label : Label) (kind : Kind) → IsStart sc f w h o → lot_named (driver_of w h.0).lots label kind ≡ Some lot → IsThere sc f w h lot label kind
+pub there_so : (sc : Scenario) (f : List ℕ) (w : WorldState) (h : HartNo) (o : Op) (lot : Lot) (label : Label) (kind : Kind) → IsStart sc f w h o → lot_named (driver_of w h.0).lots label kind ≡ Some lot → IsThere sc f w h lot label kind
 there_so sc f w h o lot label kind s is =
     let d = driver_of w h.0 in
     let it = found (λ (l : Lot). In l d.lots) (is_named label kind) d.lots lot (all_in (λ (l : Lot). In l d.lots) d.lots (λ l there. there)) is in
     record {
-      base = call_base sc f w h o d.lots lot (here_call sc f w h o s) it.is (all_at IsSettled d.lots lot s.settled it.is).placed (all_to IsStill (λ other. is_lot lot.id other ≡ false → IsStill other) d.lots s.still (λ other is far. is));
+      base = call_base sc f w h o d.lots lot (here_call sc f w h o s) it.is (all_at IsSettled d.lots lot s.settled it.is).placed (all_to (IsStill d.fixed) (λ other. is_lot lot.id other ≡ false → IsStill d.fixed other) d.lots s.still (λ other is far. is));
       its_kind = kind_is kind lot.kind (and_parts (is_labelled label lot) (same_kind kind lot.kind) it.passes).1;
-      still = all_at IsStill d.lots lot s.still it.is;
+      still = all_at (IsStill d.fixed) d.lots lot s.still it.is;
     }
 
 -- its mappings
-known_now : (sc : Scenario) (f : List ℕ) (w : WorldState) (h : HartNo) (lot : Lot) → IsBase sc f w h (driver_of w h.0).lots lot → is_wanted lot.side ≡ false → AreKnown w h lot
+pub known_now : (sc : Scenario) (f : List ℕ) (w : WorldState) (h : HartNo) (lot : Lot) → IsBase sc f w h (driver_of w h.0).lots lot → is_wanted lot.side ≡ false → AreKnown w h lot
 known_now sc f w h lot b lent i e there = entry_loan sc f w h.0 lot i e b.flat (record { lot_in = b.here; entry = there }) lent
 
-none_waits : (sc : Scenario) (f : List ℕ) (w : WorldState) (h : HartNo) (o : Op) → IsStart sc f w h o → some_lot_waits (driver_of w h.0).lots ≡ false
+pub none_waits : (sc : Scenario) (f : List ℕ) (w : WorldState) (h : HartNo) (o : Op) → IsStart sc f w h o → some_lot_waits (driver_of w h.0).lots ≡ false
 none_waits sc f w h o s = list_any_none lot_waits (driver_of w h.0).lots (all_to IsSettled (λ (lot : Lot). lot_waits lot ≡ false) (driver_of w h.0).lots s.settled (λ lot is. is.placed))
 
 -- no lot is made
-as_made : (sc : Scenario) (f : List ℕ) (w : WorldState) (h : HartNo) (o : Op) (new : List Lot) → IsStart sc f w h o → [] ≡ new → BytesStand sc f (gone w h w.machine (opened (with_lots (driver_of w h.0) (driver_of w h.0).lots) o)) → BytesStand sc f (gone w h w.machine (placed (with_lots (driver_of w h.0) ((driver_of w h.0).lots ++ new)) o))
+pub as_made : (sc : Scenario) (f : List ℕ) (w : WorldState) (h : HartNo) (o : Op) (new : List Lot) → IsStart sc f w h o → [] ≡ new → BytesStand sc f (gone w h w.machine (opened (with_lots (driver_of w h.0) (driver_of w h.0).lots) o)) → BytesStand sc f (gone w h w.machine (placed (with_lots (driver_of w h.0) ((driver_of w h.0).lots ++ new)) o))
 as_made sc f w h o new s none bytes =
     let d = driver_of w h.0 in
     subst (λ (ls : List Lot). BytesStand sc f (gone w h w.machine (placed (with_lots d ls) o))) (sym (append-nil d.lots) ∙ ap (λ (ls : List Lot). d.lots ++ ls) none)
     (subst (λ (went : Went). BytesStand sc f (gone w h w.machine went)) (sym (cond-false (some_lot_waits d.lots) (stays (searches (with_lots d d.lots) 0)) (opened (with_lots d d.lots) o) (none_waits sc f w h o s))) bytes)
 
 -- the ways in which a lot's operation opens
-stays_bytes : (sc : Scenario) (f : List ℕ) (w : WorldState) (h : HartNo) (o : Op) → IsStart sc f w h o → opening (driver_of w h.0).fixed (driver_of w h.0).lots o ≡ turns.Stay → plan_of (driver_of w h.0).fixed (driver_of w h.0).lots o ≡ []
+pub stays_bytes : (sc : Scenario) (f : List ℕ) (w : WorldState) (h : HartNo) (o : Op) → IsStart sc f w h o → opening (driver_of w h.0).fixed (driver_of w h.0).lots o ≡ turns.Stay → plan_of (driver_of w h.0).fixed (driver_of w h.0).lots o ≡ []
     → BytesStand sc f (gone w h w.machine (opened (with_lots (driver_of w h.0) (driver_of w h.0).lots) o))
 stays_bytes sc f w h o s first steps =
     let d = driver_of w h.0 in
@@ -272,7 +271,7 @@ stays_bytes sc f w h o s first steps =
       flat = s.flat;
       lt = s.lt;
       idle = s.idle;
-      still = as_wanted d.lots s.still;
+      still = as_wanted d.fixed d.lots s.still;
       rest = ap (λ (k : DriverState). k.rest) so.driver;
       transfers = so.transfers;
       fixed = ap (λ (k : DriverState). k.fixed) so.driver;
@@ -280,155 +279,29 @@ stays_bytes sc f w h o s first steps =
       drives = subst (λ (k : DriverState). Drives k) (sym so.driver) (record { lots = (s.flat.bytes.drives h.0 s.lt).lots; stands = s.still; idle = refl });
     })
 
-lends_bytes : (sc : Scenario) (f : List ℕ) (w : WorldState) (h : HartNo) (o : Op) (lot : Lot) (label : Label) (kind : Kind) → IsStart sc f w h o → IsThere sc f w h lot label kind → lot.side ≡ sides.Synced → opening (driver_of w h.0).fixed (driver_of w h.0).lots o ≡ turns.Lend lot.id
+pub lends_bytes : (sc : Scenario) (f : List ℕ) (w : WorldState) (h : HartNo) (o : Op) (lot : Lot) (label : Label) (kind : Kind) → IsStart sc f w h o → IsThere sc f w h lot label kind → is_area kind ≡ false → lot.side ≡ sides.Synced → opening (driver_of w h.0).fixed (driver_of w h.0).lots o ≡ turns.Lend lot.id
     → plan_of (driver_of w h.0).fixed (driver_of w h.0).lots o ≡ lend_steps (driver_of w h.0).fixed lot → BytesStand sc f (gone w h w.machine (opened (with_lots (driver_of w h.0) (driver_of w h.0).lots) o))
-lends_bytes sc f w h o lot label kind s t synced first steps =
+lends_bytes sc f w h o lot label kind s t plain synced first steps =
     let d = driver_of w h.0 in
     let went = opened (with_lots d d.lots) o in
     let so = opened_so d o d.lots (turns.Lend lot.id) (lend_steps d.fixed lot) first steps in
-    opens_bytes sc f w h o went d.lots lot sides.Lending (lend_steps d.fixed lot) (lend_opens sc f w h o went d.lots lot t.base s.hand s.lends (inr synced) so.driver so.transfers)
+    opens_bytes sc f w h o went d.lots lot sides.Lending (lend_steps d.fixed lot) (lend_opens sc f w h o went d.lots lot t.base (ap is_area t.its_kind ∙ plain) s.hand s.lends (inr synced) so.driver so.transfers)
 
-returns_bytes : (sc : Scenario) (f : List ℕ) (w : WorldState) (h : HartNo) (o : Op) (lot : Lot) (label : Label) (kind : Kind) (turn : Turn) → IsStart sc f w h o → IsThere sc f w h lot label kind → lot.side ≡ sides.Device → IsBack lot.id turn → (turn ≡ turns.Sync lot.id → kind ≡ kinds.Single)
+pub returns_bytes : (sc : Scenario) (f : List ℕ) (w : WorldState) (h : HartNo) (o : Op) (lot : Lot) (label : Label) (kind : Kind) (turn : Turn) → IsStart sc f w h o → IsThere sc f w h lot label kind → is_area kind ≡ false → lot.side ≡ sides.Device → IsBack lot.id turn → (turn ≡ turns.Sync lot.id → kind ≡ kinds.Single)
     → opening (driver_of w h.0).fixed (driver_of w h.0).lots o ≡ turns.Return lot.id → plan_of (driver_of w h.0).fixed (driver_of w h.0).lots o ≡ ending turn (return_steps (driver_of w h.0).fixed lot)
     → BytesStand sc f (gone w h w.machine (opened (with_lots (driver_of w h.0) (driver_of w h.0).lots) o))
-returns_bytes sc f w h o lot label kind turn s t device back single first steps =
+returns_bytes sc f w h o lot label kind turn s t plain device back single first steps =
     let d = driver_of w h.0 in
     let went = opened (with_lots d d.lots) o in
     let plan = ending turn (return_steps d.fixed lot) in
     let so = opened_so d o d.lots (turns.Return lot.id) plan first steps in
     opens_bytes sc f w h o went d.lots lot sides.Returning plan
-    (return_opens sc f w h o went d.lots lot turn t.base s.hand s.lends device (known_now sc f w h lot t.base (ap is_wanted device)) back (λ sync. t.its_kind ∙ single sync) so.driver so.transfers)
+    (return_opens sc f w h o went d.lots lot turn t.base (ap is_area t.its_kind ∙ plain) s.hand s.lends device (known_now sc f w h lot t.base (ap is_wanted device)) back (λ sync. t.its_kind ∙ single sync) so.driver so.transfers)
 
-ends_bytes : (sc : Scenario) (f : List ℕ) (w : WorldState) (h : HartNo) (o : Op) (lot : Lot) (label : Label) (kind : Kind) → IsStart sc f w h o → IsThere sc f w h lot label kind → lot.side ≡ sides.Synced → opening (driver_of w h.0).fixed (driver_of w h.0).lots o ≡ turns.End lot.id
+pub ends_bytes : (sc : Scenario) (f : List ℕ) (w : WorldState) (h : HartNo) (o : Op) (lot : Lot) (label : Label) (kind : Kind) → IsStart sc f w h o → IsThere sc f w h lot label kind → is_area kind ≡ false → lot.side ≡ sides.Synced → opening (driver_of w h.0).fixed (driver_of w h.0).lots o ≡ turns.End lot.id
     → plan_of (driver_of w h.0).fixed (driver_of w h.0).lots o ≡ [] → BytesStand sc f (gone w h w.machine (opened (with_lots (driver_of w h.0) (driver_of w h.0).lots) o))
-ends_bytes sc f w h o lot label kind s t synced first steps =
+ends_bytes sc f w h o lot label kind s t plain synced first steps =
     let d = driver_of w h.0 in
     let went = opened (with_lots d d.lots) o in
     let so = opened_so d o d.lots (turns.End lot.id) [] first steps in
-    end_bytes sc f w h went d.lots lot (record { base = t.base; synced = synced; driver = so.driver; transfers = so.transfers })
-
--- ---- each of them
-
-lot_begins : (lots new : List Lot) (label : Label) → needs_lot (named lots label kinds.Single) ≡ Ok new → (lot : Lot) × (lot_named lots label kinds.Single ≡ Some lot) × ([] ≡ new)
-lot_begins lots new label e =
-    let p = passed (named lots label kinds.Single) (λ lot. Ok []) new e in
-    (p.value, some_is refusals.NoLabel (lot_named lots label kinds.Single) p.value p.first, behind_test (named lots label kinds.Single) new e)
-
-list_begins : (lots new : List Lot) (label : Label) (count : ℕ) → unmap_sg_begin lots label count ≡ Ok new → (lot : Lot) × (lot_named lots label kinds.List ≡ Some lot) × ([] ≡ new)
-list_begins lots new label count e =
-    let p = passed (named lots label kinds.List) (λ lot. wanted (refusals.BadCount (length lot.list.entries)) (length lot.list.entries == count) >>= λ _. Ok []) new e in
-    (p.value, some_is refusals.NoLabel (lot_named lots label kinds.List) p.value p.first, sg_none lots new label count e)
-
-if_synced : {A : Type 0} (lot : Lot) (x y : A) → lot.side ≡ sides.Synced → (if is_synced lot.side then x else y) ≡ x
-if_synced lot x y is = cond-true (is_synced lot.side) x y (ap is_synced is)
-
-if_device : {A : Type 0} (lot : Lot) (x y : A) → lot.side ≡ sides.Device → (if is_synced lot.side then x else y) ≡ y
-if_device lot x y is = cond-false (is_synced lot.side) x y (ap is_synced is)
-
-dev_bytes : (sc : Scenario) (f : List ℕ) (w : WorldState) (h : HartNo) (label : Label) (r : Result (List Lot) Refusal) → IsStart sc f w h (ops.ToDev label) → begin (driver_of w h.0).fixed (driver_of w h.0).lots w.owners w.pages (ops.ToDev label) ≡ r
-    → BytesStand sc f (gone w h w.machine (begun (driver_of w h.0) (ops.ToDev label) r))
-unfolding begin opening plan_of meaning mappings.sync_for_device
-dev_bytes sc f w h label (Err r) s e = gives_bytes sc f w h (ops.ToDev label) r s.flat s.lt s.idle (as_wanted (driver_of w h.0).lots s.still)
-dev_bytes sc f w h label (Ok new) s e =
-    let d = driver_of w h.0 in
-    let o = ops.ToDev label in
-    let b = lot_begins d.lots new label e in
-    let t = there_so sc f w h o b.0 label kinds.Single s b.1 in
-    let first : (turn : Turn) → to_dev_turn b.0 ≡ turn → with_lot turns.Stay to_dev_turn (lot_named d.lots label kinds.Single) ≡ turn = λ turn is. ap (with_lot turns.Stay to_dev_turn) b.1 ∙ is in
-    let steps : (plan : List Step) → to_dev_steps d.fixed b.0 ≡ plan → with_lot [] (to_dev_steps d.fixed) (lot_named d.lots label kinds.Single) ≡ plan = λ plan is. ap (with_lot [] (to_dev_steps d.fixed)) b.1 ∙ is in
-    as_made sc f w h o new s b.2
-    (elim t.still [
-      | inl device ↦ stays_bytes sc f w h o s (first turns.Stay (if_device b.0 (turns.Lend b.0.id) turns.Stay device)) (steps [] (if_device b.0 (lend_steps d.fixed b.0) [] device))
-      | inr synced ↦ lends_bytes sc f w h o b.0 label kinds.Single s t synced.0 (first (turns.Lend b.0.id) (if_synced b.0 (turns.Lend b.0.id) turns.Stay synced.0)) (steps (lend_steps d.fixed b.0) (if_synced b.0 (lend_steps d.fixed b.0) [] synced.0))
-    ])
-
-cpu_bytes : (sc : Scenario) (f : List ℕ) (w : WorldState) (h : HartNo) (label : Label) (r : Result (List Lot) Refusal) → IsStart sc f w h (ops.ToCpu label) → begin (driver_of w h.0).fixed (driver_of w h.0).lots w.owners w.pages (ops.ToCpu label) ≡ r
-    → BytesStand sc f (gone w h w.machine (begun (driver_of w h.0) (ops.ToCpu label) r))
-unfolding begin opening plan_of meaning mappings.sync_for_cpu
-cpu_bytes sc f w h label (Err r) s e = gives_bytes sc f w h (ops.ToCpu label) r s.flat s.lt s.idle (as_wanted (driver_of w h.0).lots s.still)
-cpu_bytes sc f w h label (Ok new) s e =
-    let d = driver_of w h.0 in
-    let o = ops.ToCpu label in
-    let b = lot_begins d.lots new label e in
-    let t = there_so sc f w h o b.0 label kinds.Single s b.1 in
-    let turn = turns.Sync b.0.id in
-    let plan = ending turn (return_steps d.fixed b.0) in
-    let first : (k : Turn) → to_cpu_turn b.0 ≡ k → with_lot turns.Stay to_cpu_turn (lot_named d.lots label kinds.Single) ≡ k = λ k is. ap (with_lot turns.Stay to_cpu_turn) b.1 ∙ is in
-    let steps : (p : List Step) → to_cpu_steps d.fixed b.0 ≡ p → with_lot [] (to_cpu_steps d.fixed) (lot_named d.lots label kinds.Single) ≡ p = λ p is. ap (with_lot [] (to_cpu_steps d.fixed)) b.1 ∙ is in
-    as_made sc f w h o new s b.2
-    (elim t.still [
-      | inl device ↦ returns_bytes sc f w h o b.0 label kinds.Single turn s t device (inl refl) (λ sync. refl) (first (turns.Return b.0.id) (if_device b.0 turns.Stay (turns.Return b.0.id) device)) (steps plan (if_device b.0 [] plan device))
-      | inr synced ↦ stays_bytes sc f w h o s (first turns.Stay (if_synced b.0 turns.Stay (turns.Return b.0.id) synced.0)) (steps [] (if_synced b.0 [] plan synced.0))
-    ])
-
-unmap_bytes : (sc : Scenario) (f : List ℕ) (w : WorldState) (h : HartNo) (label : Label) (r : Result (List Lot) Refusal) → IsStart sc f w h (ops.Unmap label) → begin (driver_of w h.0).fixed (driver_of w h.0).lots w.owners w.pages (ops.Unmap label) ≡ r
-    → BytesStand sc f (gone w h w.machine (begun (driver_of w h.0) (ops.Unmap label) r))
-unfolding begin opening plan_of meaning mappings.unmap_single
-unmap_bytes sc f w h label (Err r) s e = gives_bytes sc f w h (ops.Unmap label) r s.flat s.lt s.idle (as_wanted (driver_of w h.0).lots s.still)
-unmap_bytes sc f w h label (Ok new) s e =
-    let d = driver_of w h.0 in
-    let o = ops.Unmap label in
-    let b = lot_begins d.lots new label e in
-    let t = there_so sc f w h o b.0 label kinds.Single s b.1 in
-    let turn = turns.End b.0.id in
-    let plan = ending turn (return_steps d.fixed b.0) in
-    let first : (k : Turn) → unmap_turn b.0 ≡ k → with_lot turns.Stay unmap_turn (lot_named d.lots label kinds.Single) ≡ k = λ k is. ap (with_lot turns.Stay unmap_turn) b.1 ∙ is in
-    let steps : (p : List Step) → unmap_steps d.fixed b.0 ≡ p → with_lot [] (unmap_steps d.fixed) (lot_named d.lots label kinds.Single) ≡ p = λ p is. ap (with_lot [] (unmap_steps d.fixed)) b.1 ∙ is in
-    as_made sc f w h o new s b.2
-    (elim t.still [
-      | inl device ↦ returns_bytes sc f w h o b.0 label kinds.Single turn s t device (inr refl) (λ sync. refl) (first (turns.Return b.0.id) (if_device b.0 (turns.End b.0.id) (turns.Return b.0.id) device)) (steps plan (if_device b.0 [] plan device))
-      | inr synced ↦ ends_bytes sc f w h o b.0 label kinds.Single s t synced.0 (first turn (if_synced b.0 (turns.End b.0.id) (turns.Return b.0.id) synced.0)) (steps [] (if_synced b.0 [] plan synced.0))
-    ])
-
-list_bytes : (sc : Scenario) (f : List ℕ) (w : WorldState) (h : HartNo) (label : Label) (count : ℕ) (r : Result (List Lot) Refusal) → IsStart sc f w h (ops.UnmapSg label count) → begin (driver_of w h.0).fixed (driver_of w h.0).lots w.owners w.pages (ops.UnmapSg label count) ≡ r
-    → BytesStand sc f (gone w h w.machine (begun (driver_of w h.0) (ops.UnmapSg label count) r))
-unfolding begin opening plan_of meaning lists.unmap_sg
-list_bytes sc f w h label count (Err r) s e = gives_bytes sc f w h (ops.UnmapSg label count) r s.flat s.lt s.idle (as_wanted (driver_of w h.0).lots s.still)
-list_bytes sc f w h label count (Ok new) s e =
-    let d = driver_of w h.0 in
-    let o = ops.UnmapSg label count in
-    let b = list_begins d.lots new label count e in
-    let t = there_so sc f w h o b.0 label kinds.List s b.1 in
-    let turn = turns.End b.0.id in
-    let plan = ending turn (return_steps d.fixed b.0) in
-    as_made sc f w h o new s b.2
-    (elim t.still [
-      | inl device ↦ returns_bytes sc f w h o b.0 label kinds.List turn s t device (inr refl) (λ sync. absurd cc) (ap (with_lot turns.Stay unmap_sg_turn) b.1) (ap (with_lot [] (unmap_sg_steps d.fixed)) b.1)
-      | inr synced ↦ let no : kinds.Single ≡ kinds.List = sym synced.1 ∙ t.its_kind in absurd cc
-    ])
-
--- ---- all
-
-begun_bytes : (sc : Scenario) (f : List ℕ) (w : WorldState) (h : HartNo) (o : Op) → IsStart sc f w h o → is_lending o ≡ true → BytesStand sc f (gone w h w.machine (begun (driver_of w h.0) o (begin (driver_of w h.0).fixed (driver_of w h.0).lots w.owners w.pages o)))
-begun_bytes sc f w h (ops.Map label buf off len dir chan) s is = map_bytes sc f w h (ops.Map label buf off len dir chan) (begin (driver_of w h.0).fixed (driver_of w h.0).lots w.owners w.pages (ops.Map label buf off len dir chan)) s (OneMap label buf off len dir chan refl) refl
-begun_bytes sc f w h (ops.MapSg label es dir chan) s is = map_bytes sc f w h (ops.MapSg label es dir chan) (begin (driver_of w h.0).fixed (driver_of w h.0).lots w.owners w.pages (ops.MapSg label es dir chan)) s (ListMap label es dir chan refl) refl
-begun_bytes sc f w h (ops.Unmap label) s is = unmap_bytes sc f w h label (begin (driver_of w h.0).fixed (driver_of w h.0).lots w.owners w.pages (ops.Unmap label)) s refl
-begun_bytes sc f w h (ops.ToCpu label) s is = cpu_bytes sc f w h label (begin (driver_of w h.0).fixed (driver_of w h.0).lots w.owners w.pages (ops.ToCpu label)) s refl
-begun_bytes sc f w h (ops.ToDev label) s is = dev_bytes sc f w h label (begin (driver_of w h.0).fixed (driver_of w h.0).lots w.owners w.pages (ops.ToDev label)) s refl
-begun_bytes sc f w h (ops.UnmapSg label count) s is = list_bytes sc f w h label count (begin (driver_of w h.0).fixed (driver_of w h.0).lots w.owners w.pages (ops.UnmapSg label count)) s refl
-begun_bytes sc f w h (ops.Ld spot off len) s is = absurd cc
-begun_bytes sc f w h (ops.St spot off bytes) s is = absurd cc
-begun_bytes sc f w h (ops.Cbo op buf off) s is = absurd cc
-begun_bytes sc f w h (ops.Fence pred succ) s is = absurd cc
-begun_bytes sc f w h (ops.Calloc label count chan) s is = absurd cc
-begun_bytes sc f w h (ops.Cgive label) s is = absurd cc
-begun_bytes sc f w h (ops.Ctake label) s is = absurd cc
-begun_bytes sc f w h (ops.Cfree label) s is = absurd cc
-begun_bytes sc f w h (ops.Hand buf to) s is = absurd cc
-begun_bytes sc f w h (ops.Take buf) s is = absurd cc
-begun_bytes sc f w h (ops.Claim chan) s is = absurd cc
-begun_bytes sc f w h (ops.Free chan) s is = absurd cc
-begun_bytes sc f w h (ops.Regs chan src dst len cfg) s is = absurd cc
-begun_bytes sc f w h (ops.Run chan) s is = absurd cc
-begun_bytes sc f w h (ops.Poll chan) s is = absurd cc
-begun_bytes sc f w h (ops.Regr chan off width) s is = absurd cc
-begun_bytes sc f w h (ops.Regw chan off width value) s is = absurd cc
-begun_bytes sc f w h (ops.Copy chan src src_off dst dst_off len cfg) s is = absurd cc
-
-pub start_bytes : (sc : Scenario) (f : List ℕ) (w : WorldState) (h : HartNo) (o : Op) → IsStart sc f w h o → BytesStand sc f (gone w h w.machine (started (driver_of w h.0) w.owners w.pages))
-unfolding started
-start_bytes sc f w h o s =
-    let d = driver_of w h.0 in
-    subst (λ (k : Option Op). BytesStand sc f (gone w h w.machine (started_of d w.owners w.pages k))) (sym s.hand)
-    (subst (λ (went : Went). BytesStand sc f (gone w h w.machine went)) (sym (cond-true (has_start o) (begun d o (begin d.fixed d.lots w.owners w.pages o)) (refused_step d o (step_at d.fixed d.lots o (steps_done d.phase))) (lending_starts o s.lends)))
-    (begun_bytes sc f w h o s s.lends))
+    end_bytes sc f w h went d.lots lot (record { base = t.base; synced = synced; plain = ap is_area t.its_kind ∙ plain; driver = so.driver; transfers = so.transfers })

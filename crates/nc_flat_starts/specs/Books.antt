@@ -1,5 +1,5 @@
 -- What a row is read with beside the machine, before and behind a driver's call, as statements.
-use Rattle.std.specs.Prelude.{ℕ, ◌≡◌, false, Option, Some, None}
+use Rattle.std.specs.Prelude.{ℕ, ◌≡◌, Option, Some, None}
 use Rattle.nc_num.specs.declared.names.MapId.{MapId}
 use Rattle.nc_model.specs.declared.owners.Owner.{Owner}
 use Rattle.nc_model.specs.declared.owners.Owner.TheVariants.{Thread, Passing, Lending, Device, Returning, Synced, Pool}
@@ -25,10 +25,6 @@ ReadsAlike a c (Device n) x = c.loan n ≡ a.loan n
 ReadsAlike a c (Returning n) x = (c.loan n ≡ a.loan n) × SameLoan a c n (a.loan n)
 ReadsAlike a c (Synced n) x = c.loan n ≡ a.loan n
 ReadsAlike a c Pool x = Unit {0}
-
--- no mapping is an area
-abbrev pub HasNoArea : Book → Type 0
-HasNoArea a = (n : MapId) (l : Loan) → a.loan n ≡ Some l → l.area ≡ false
 
 pub record BooksCarry : Type 0 where
   pub row : (a c : Book) (o : Owner) (v : ℕ) (m : MachineState) (x : ℕ) → ReadsAlike a c o x → Row a o v m x → Row c o v m x

@@ -1,4 +1,5 @@
-//! Flat memory through the starts of mappings and scatter lists: map, unmap and the syncs, and the search for slots.
+//! Flat memory through the starts of mappings, scatter lists and coherent areas: those that make one, lend it, take it
+//! back or end it, and the search for slots.
 //!
 //! The crate has no code. A start makes a lot, or the first turn of one, with which its plan is in hand; where an entry
 //! waits for a slot its driver searches first. The contract for the layers above: `starts_go`, that flat memory's bytes

@@ -15,6 +15,7 @@ use Rattle.nc_model.specs.declared.owners.Owner.{Owner}
 use Rattle.nc_model.specs.declared.owners.Owner.TheVariants.{Thread, Passing, Lending, Device, Returning, Synced, Pool}
 use Rattle.nc_scen.specs.declared.scenario.Scenario.{Scenario}
 use Rattle.nc_rules.specs.declared.lots.Lot.{Lot}
+use Rattle.nc_rules.specs.declared.lots.LotId.{LotId}
 use Rattle.nc_rules.specs.declared.steps.Step.{Step}
 use Rattle.nc_rules.specs.Driver.{DriverState, Went}
 use Rattle.nc_rules.specs.Lots.{Fixed}
@@ -26,11 +27,13 @@ use Rattle.nc_calls.specs.PlaceLaws.{NotHeld}
 use Rattle.nc_scripts.proofs.Lists.{all_to}
 use Rattle.nc_holds.specs.Held.{AreRegions}
 use Rattle.nc_rows.specs.Rows.{Loan, Book, LentRow, DeviceRow, BackRow, SyncedRow, Row}
-use Rattle.nc_rows.specs.Laws.{place_of, seen_at}
+use Rattle.nc_rows.specs.Laws.{place_of, seen_at, area_of, is_lent_area}
+use Rattle.nc_rows.specs.Ahead.{settling}
 use Rattle.nc_rows.specs.Parts.{IsDropped, IsZeroed, OpIsQueued, IsQueued, Queued, IsAllocating, MayBeHeld, Uncached}
-use Rattle.nc_flatness.specs.Books.{number_in, loan_of, book_of}
+use Rattle.nc_flatness.specs.Books.{number_in, loan_of, book_of, mapping_in}
 use Rattle.nc_flatness.specs.Flatness.{IsUnseen, Flatness}
-use Rattle.nc_flatness.proofs.Loans.{loan_is}
+use Rattle.nc_flatness.proofs.Owned.{IsMapped, mapped, owned_ram}
+use Rattle.nc_flatness.proofs.Rests.{settling_ends, IsAtPlan, at_plan}
 use Rattle.nc_flatness.proofs.Outcomes.{gone}
 
 -- ---- the number of a buffer
@@ -178,32 +181,86 @@ pub queued_to : (a b : Book) (ws us : ℕ → Owner) (m : MachineState) → ((h 
 queued_to a b ws us m drops zeroes q h =
     all_to (IsQueued a ws m.pool m.size h) (IsQueued b us m.pool m.size h) (queue_of m h) (q h) (λ e is. entry_to a b ws us m.pool m.size h e (drops h) (zeroes h) is)
 
--- nobody allocates an area
-none_zeroed_by : (sc : Scenario) (f : List ℕ) (w : WorldState) (n : MapId) (l : Loan) → Flatness sc f w → (book_of w).loan n ≡ Some l → l.area ≡ true → ⊥
-none_zeroed_by sc f w n l flat e area = false≢true (sym (loan_is sc f w n l flat e).area ∙ area)
+-- the areas that hart h allocates are so by another book and other owners
+pub record StillAllocates (a b : Book) (ws us : ℕ → Owner) (h : ℕ) : Type 0 where
+  pub loans : (n : MapId) (l : Loan) → n.hart.0 ≡ h → a.loan n ≡ Some l → l.area ≡ true → settling l.lot (a.rest n.hart.0) ≡ true → (b.loan n ≡ Some l) × (settling l.lot (b.rest n.hart.0) ≡ true)
+  pub owners : (n : MapId) (x : ℕ) → n.hart.0 ≡ h → ws x ≡ Lending n → us x ≡ Lending n
 
-pub none_zeroed : (sc : Scenario) (f : List ℕ) (w : WorldState) (ws : ℕ → Owner) (s h k : ℕ) → Flatness sc f w → IsZeroed (book_of w) ws s h k → ⊥
-none_zeroed sc f w ws s h k flat is = none_zeroed_by sc f w is.id is.loan flat is.lent is.area
+pub zeroed_to : (a b : Book) (ws us : ℕ → Owner) (s h k : ℕ) → StillAllocates a b ws us h → IsZeroed a ws s h k → IsZeroed b us s h k
+zeroed_to a b ws us s h k still is =
+    let loan = still.loans is.id is.loan is.own is.lent is.area is.ahead in
+    record { id = is.id; loan = is.loan; lent = loan.0; own = is.own; area = is.area; ahead = loan.1; owned = λ x same. still.owners is.id x is.own (is.owned x same) }
 
-allocating_by : (sc : Scenario) (f : List ℕ) (w : WorldState) (n : MapId) (o : Option Loan) → Flatness sc f w → (book_of w).loan n ≡ o → IsAllocating (book_of w) n o → ⊥
-allocating_by sc f w n None flat e is = is
-allocating_by sc f w n (Some l) flat e is = none_zeroed_by sc f w n l flat e is.0
+pub may_to : (a b : Book) (ws us : ℕ → Owner) (n : MapId) (x : ℕ) → StillAllocates a b ws us n.hart.0 → ws x ≡ Lending n → MayBeHeld a (ws x) → MayBeHeld b (us x)
+may_to a b ws us n x still e may = subst (MayBeHeld b) (sym (still.owners n x refl e)) (loan_to (a.loan n) refl (subst (MayBeHeld a) e may))
+  where
+    loan_to : (o : Option Loan) → a.loan n ≡ o → IsAllocating a n o → IsAllocating b n (b.loan n)
+    loan_to None known is = absurd is
+    loan_to (Some l) known is = let so = still.loans n l refl known is.0 is.1 in subst (IsAllocating b n) (sym so.0) (is.0, so.1)
 
-held_by_none : (sc : Scenario) (f : List ℕ) (w : WorldState) (o : Owner) → Flatness sc f w → MayBeHeld (book_of w) o → ⊥
-held_by_none sc f w (Lending n) flat may = allocating_by sc f w n ((book_of w).loan n) flat refl may
-held_by_none sc f w (Thread h) flat may = may
-held_by_none sc f w (Passing h g) flat may = may
-held_by_none sc f w (Device n) flat may = may
-held_by_none sc f w (Returning n) flat may = may
-held_by_none sc f w (Synced n) flat may = may
-held_by_none sc f w Pool flat may = may
+-- ---- copies of the coherent pool
 
--- so no copy of the coherent pool is there
-pub pool_unheld : (sc : Scenario) (f : List ℕ) (w : WorldState) (x : ℕ) → Flatness sc f w → covers w.machine.pool x ≡ true → NotHeld w.machine x
-pool_unheld sc f w x flat on = elim (flat.bytes.uncached x on) [
+-- a place that may be held is of an area that is being lent
+pub held_lent : (a : Book) (o : Owner) → MayBeHeld a o → is_lent_area a o ≡ true
+held_lent a (Lending n) may = lent_by (a.loan n) may
+  where
+    lent_by : (o : Option Loan) → IsAllocating a n o → area_of o ≡ true
+    lent_by None is = absurd is
+    lent_by (Some l) is = is.0
+held_lent a (Thread h) may = absurd may
+held_lent a (Passing h g) may = absurd may
+held_lent a (Device n) may = absurd may
+held_lent a (Returning n) may = absurd may
+held_lent a (Synced n) may = absurd may
+held_lent a Pool may = absurd may
+
+-- else there is none
+pub pool_unheld : (sc : Scenario) (f : List ℕ) (w : WorldState) (x : ℕ) → Flatness sc f w → covers w.machine.pool x ≡ true → (MayBeHeld (book_of w) (owner_of w x) → ⊥) → NotHeld w.machine x
+pool_unheld sc f w x flat on never = elim (flat.bytes.uncached x on) [
   | inl none ↦ none
-  | inr may ↦ absurd (held_by_none sc f w (owner_of w x) flat may)
+  | inr may ↦ absurd (never may)
 ]
+
+-- as of each place that is of no area that is being lent
+pub unlent_unheld : (sc : Scenario) (f : List ℕ) (w : WorldState) (x : ℕ) → Flatness sc f w → covers w.machine.pool x ≡ true → is_lent_area (book_of w) (owner_of w x) ≡ false → NotHeld w.machine x
+unlent_unheld sc f w x flat on off = pool_unheld sc f w x flat on (λ may. false≢true (sym off ∙ held_lent (book_of w) (owner_of w x) may))
+
+-- an area that is allocated is the lot in hand of its hart, which has its end in the rest
+pub record IsAllocated (w : WorldState) (x : ℕ) : Type 0 where
+  pub id : MapId
+  pub owner : owner_of w x ≡ Lending id
+  pub is : IsMapped w id x
+  pub area : is.loan.area ≡ true
+  pub settles : settling is.is.lot.id (driver_of w id.hart.0).rest ≡ true
+  pub plan : IsAtPlan (driver_of w id.hart.0)
+
+allocated_by : (sc : Scenario) (f : List ℕ) (w : WorldState) (x : ℕ) (n : MapId) → Flatness sc f w → owner_of w x ≡ Lending n → IsAllocating (book_of w) n ((book_of w).loan n) → IsAllocated w x
+allocated_by sc f w x n flat e may =
+    let at : mapping_in (owner_of w x) ≡ Some n = ap mapping_in e in
+    let m = mapped sc f w n x flat (owned_ram sc f w x n flat at) at in
+    let is = subst (IsAllocating (book_of w) n) m.known may in
+    let settles = subst (λ (id : LotId). settling id (driver_of w n.hart.0).rest ≡ true) m.is.lot_is is.1 in
+    let lt : n.hart.0 < length sc.harts = omega (arith, m.is.hart, flat.world.of_scenario.harts) in
+    record {
+      id = n;
+      owner = e;
+      is = m;
+      area = is.0;
+      settles = settles;
+      plan = at_plan (driver_of w n.hart.0) m.is.lot.id (flat.bytes.drives n.hart.0 lt) (settling_ends m.is.lot.id (driver_of w n.hart.0).rest settles);
+    }
+
+allocating_of : (sc : Scenario) (f : List ℕ) (w : WorldState) (x : ℕ) (o : Owner) → Flatness sc f w → owner_of w x ≡ o → MayBeHeld (book_of w) o → IsAllocated w x
+allocating_of sc f w x (Lending n) flat e may = allocated_by sc f w x n flat e may
+allocating_of sc f w x (Thread h) flat e may = absurd may
+allocating_of sc f w x (Passing h g) flat e may = absurd may
+allocating_of sc f w x (Device n) flat e may = absurd may
+allocating_of sc f w x (Returning n) flat e may = absurd may
+allocating_of sc f w x (Synced n) flat e may = absurd may
+allocating_of sc f w x Pool flat e may = absurd may
+
+pub allocating : (sc : Scenario) (f : List ℕ) (w : WorldState) (x : ℕ) → Flatness sc f w → MayBeHeld (book_of w) (owner_of w x) → IsAllocated w x
+allocating sc f w x flat may = allocating_of sc f w x (owner_of w x) flat refl may
 
 pub uncached_of : (a : Book) (ws : ℕ → Owner) (m : MachineState) → ((x : ℕ) → covers m.pool x ≡ true → NotHeld m x) → Uncached a ws m
 uncached_of a ws m none x on = inl (none x on)

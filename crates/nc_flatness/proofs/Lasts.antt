@@ -159,11 +159,11 @@ buffer_ends sc f w n l flat is =
     let len = ap (λ (s : Span). s.len) is.buffer in
     omega (arith, lt, at, len, flat.world.of_scenario.ram)
 
--- flat memory is the same where mappings are lent or taken back
-abbrev pub SameLent : WorldState → List ℕ → List ℕ → Type 0
-SameLent w f g = (x : ℕ) (n : MapId) → (owner_of w x ≡ Lending n) ⊎ (owner_of w x ≡ Returning n) → byte g x ≡ byte f x
+-- flat memory is the same where mappings of the hart are lent or taken back
+abbrev pub SameLent : WorldState → ℕ → List ℕ → List ℕ → Type 0
+SameLent w h f g = (x : ℕ) (n : MapId) → n.hart.0 ≡ h → (owner_of w x ≡ Lending n) ⊎ (owner_of w x ≡ Returning n) → byte g x ≡ byte f x
 
-piece_stays : (sc : Scenario) (f g : List ℕ) (w : WorldState) (b : Book) (h : ℕ) (span : Span) (bytes : List ℕ) → Flatness sc f w → length g ≡ sc.ram → ((n : MapId) → n.hart.0 ≡ h → b.loan n ≡ (book_of w).loan n) → SameLent w f g
+piece_stays : (sc : Scenario) (f g : List ℕ) (w : WorldState) (b : Book) (h : ℕ) (span : Span) (bytes : List ℕ) → Flatness sc f w → length g ≡ sc.ram → ((n : MapId) → n.hart.0 ≡ h → b.loan n ≡ (book_of w).loan n) → SameLent w h f g
     → rest_last ((book_of w).rest h) ≡ Some span → IsPiece (book_of w) f h span bytes → IsPiece b g h span bytes
 piece_stays sc f g w b h span bytes flat long loans same e p =
     let ends = buffer_ends sc f w p.id p.loan flat (loan_is sc f w p.id p.loan flat p.lent) in
@@ -178,17 +178,17 @@ piece_stays sc f g w b h span bytes flat long loans same e p =
       bytes_are =
           p.bytes_are
           ∙ span_same f g p.from span.len (omega (arith, ends, p.inside.1, flat.bytes.flat_size)) (omega (arith, ends, p.inside.1, long))
-          (λ x from before. same x p.id (last_lent sc f w h span bytes flat e p x from before));
+          (λ x from before. same x p.id p.own (last_lent sc f w h span bytes flat e p x from before));
     }
 
-last_by : (sc : Scenario) (f g : List ℕ) (w : WorldState) (b : Book) (h : ℕ) (bytes : List ℕ) (o : Option Span) → Flatness sc f w → length g ≡ sc.ram → ((n : MapId) → n.hart.0 ≡ h → b.loan n ≡ (book_of w).loan n) → SameLent w f g
+last_by : (sc : Scenario) (f g : List ℕ) (w : WorldState) (b : Book) (h : ℕ) (bytes : List ℕ) (o : Option Span) → Flatness sc f w → length g ≡ sc.ram → ((n : MapId) → n.hart.0 ≡ h → b.loan n ≡ (book_of w).loan n) → SameLent w h f g
     → rest_last ((book_of w).rest h) ≡ o → LastIs (book_of w) f h bytes o → LastIs b g h bytes o
 last_by sc f g w b h bytes None flat long loans same e is = tt
 last_by sc f g w b h bytes (Some span) flat long loans same e is = piece_stays sc f g w b h span bytes flat long loans same e is
 
 -- a hart whose rest, last load and mappings are as they were
 pub last_stays : (sc : Scenario) (f g : List ℕ) (w : WorldState) (b : Book) (k : MachineState) (h : ℕ) → Flatness sc f w → length g ≡ sc.ram → b.rest h ≡ (book_of w).rest h → (hart_of k h).last ≡ (hart_of w.machine h).last
-    → ((n : MapId) → n.hart.0 ≡ h → b.loan n ≡ (book_of w).loan n) → SameLent w f g → LastIs b g h (hart_of k h).last (rest_last (b.rest h))
+    → ((n : MapId) → n.hart.0 ≡ h → b.loan n ≡ (book_of w).loan n) → SameLent w h f g → LastIs b g h (hart_of k h).last (rest_last (b.rest h))
 last_stays sc f g w b k h flat long rest last loans same =
     let stays = last_by sc f g w b h (hart_of w.machine h).last (rest_last ((book_of w).rest h)) flat long loans same refl (flat.bytes.lasts h) in
     subst (λ (bytes : List ℕ). LastIs b g h bytes (rest_last (b.rest h))) (sym last) (subst (λ (r : List Step). LastIs b g h (hart_of w.machine h).last (rest_last r)) (sym rest) stays)

@@ -3,9 +3,13 @@ pub mod FlatBytes
 pub mod Outcomes
 pub mod Loans
 pub mod Owned
+pub mod Areas
 pub mod WholeBlocks
 pub mod Seen
 pub mod Rests
+pub mod Tokens
+pub mod Lents
+pub mod Stands
 pub mod Lasts
 pub mod Worlds
 pub mod BookReads

@@ -1,7 +1,7 @@
 -- What a mapping of a book is: an entry of a lot of its hart.
 use Rattle.std.proofs.Common.{◌≡◌, ℕ, ◌+◌, ◌<◌, ◌≤◌, cond, Bool, true, false, List, [], ◌∷◌, length, refl, sym, ap, ◌∙◌, inl, inr, subst, arith, Option, Some, None}
 use Rattle.std.specs.Prelude.{◌-◌, ◌==◌, ◌&&◌, nat_le, nat_lt, not, find, option_map, slice_get, slice_index_or}
-use Rattle.std.proofs.lemmas.Bool.{and_parts, and_from, cases_lt, false≢true}
+use Rattle.std.proofs.lemmas.Bool.{and_parts, and_from, cases_lt, false_from_ne_true, false≢true}
 use Rattle.std.proofs.lemmas.Bool.Decides.{nat_tests}
 use Rattle.std.proofs.lemmas.List.{get_or_past}
 use Rattle.std.proofs.lemmas.Option.{get_or_from_slice_get, slice_get-get_or, slice_get_past}
@@ -27,6 +27,7 @@ use Rattle.nc_holds.specs.Held.{IsEntryOf}
 use Rattle.nc_holds.specs.Holds.{Holds}
 use Rattle.nc_holds.proofs.ListsA.{all_at}
 use Rattle.nc_holds.proofs.OwnerLots.{same_named}
+use Rattle.nc_holds.proofs.OwnerLots as lots
 use Rattle.nc_rows.specs.Rows.{Loan}
 use Rattle.nc_flatness.specs.Books.{is_entry_of, loan_by, book_of}
 use Rattle.nc_flatness.specs.Flatness.{is_mapping, IsMapping, Flatness}
@@ -55,13 +56,7 @@ lot_of sc f w h lot flat here =
     let drives = flat.bytes.drives h (subst (λ k. h < k) flat.world.of_scenario.harts lt) in
     all_at (IsMapping (driver_of w h).fixed) (driver_of w h).lots lot drives.lots here
 
--- a mapping is no area, and has a script's name
-pub mapping_area : (k : Kind) → is_mapping k ≡ true → is_area k ≡ false
-mapping_area kinds.Single is = refl
-mapping_area kinds.List is = refl
-mapping_area kinds.Area is = absurd (false≢true is)
-mapping_area kinds.Copy is = refl
-
+-- a mapping has a script's name
 mapping_named : (pool : Span) (k : Kind) (id : LotId) (es : List Entry) → is_mapping k ≡ true → FitsKind pool k id es → IsNamed id
 mapping_named pool kinds.Single id es is fits = fits.0
 mapping_named pool kinds.List id es is fits = fits.0
@@ -80,6 +75,13 @@ one_lot sc f w h a b flat here there same =
     let lt = hart_of_lot w h a flat.world.holds here in
     same_named (driver_of w h).lots b.id a b (flat.world.holds.each h lt).driver.apart here there (label_lot a b.id same (lot_first sc f w h a flat here ∙ sym (lot_first sc f w h b flat there))) (its_name b b.id refl)
 
+-- an area never bounces
+pub area_direct : (sc : Scenario) (f : List ℕ) (w : WorldState) (h : ℕ) (lot : Lot) (i : ℕ) (e : Entry) → Flatness sc f w → IsEntryOf (driver_of w h).lots lot i e → is_area lot.kind ≡ true → e.bounced ≡ false
+area_direct sc f w h lot i e flat here area = lots.area_direct (length w.machine.cache.ram) (driver_of w h).fixed lot i e (lot_in sc f w h lot flat here.lot_in) area here.entry
+
+pub bounced_area : (sc : Scenario) (f : List ℕ) (w : WorldState) (h : ℕ) (lot : Lot) (i : ℕ) (e : Entry) → Flatness sc f w → IsEntryOf (driver_of w h).lots lot i e → e.bounced ≡ true → is_area lot.kind ≡ false
+bounced_area sc f w h lot i e flat here bounced = false_from_ne_true (is_area lot.kind) (λ area. false≢true (sym (area_direct sc f w h lot i e flat here area) ∙ bounced))
+
 -- ---- a mapping of the book
 
 -- mapping n is entry i of this lot
@@ -97,7 +99,7 @@ pub record IsLoan (w : WorldState) (n : MapId) (l : Loan) : Type 0 where
   pub lent : is_wanted lot.side ≡ false
   pub loan : l ≡ loan_by (driver_of w n.hart.0).fixed n lot
   pub lot_is : l.lot ≡ lot.id
-  pub area : l.area ≡ false
+  pub area : l.area ≡ is_area lot.kind
   pub buffer : l.grant.buffer ≡ entry.span
   pub device : l.grant.device ≡ sg.device (driver_of w n.hart.0).fixed.slots_at entry
   pub dir : l.grant.dir ≡ lot.list.dir
@@ -151,7 +153,7 @@ loan_is sc f w n l flat e =
       lent = named.lent;
       loan = some.2;
       lot_is = ap (λ (k : Loan). k.lot) some.2;
-      area = ap (λ (k : Loan). k.area) some.2 ∙ mapping_area lot.kind kind;
+      area = ap (λ (k : Loan). k.area) some.2;
       buffer = ap (λ (k : Loan). k.grant.buffer) some.2 ∙ ap (λ (e : Entry). e.span) at;
       device = ap (λ (k : Loan). k.grant.device) some.2 ∙ ap (sg.device d.fixed.slots_at) at;
       dir = ap (λ (k : Loan). k.grant.dir) some.2;
@@ -192,7 +194,7 @@ get_below xs i x e = elim (cases_lt i (length xs)) [
 
 -- the loan of an entry of a lot that is not wanted
 pub entry_loan : (sc : Scenario) (f : List ℕ) (w : WorldState) (h : ℕ) (lot : Lot) (i : ℕ) (e : Entry) → Flatness sc f w → IsEntryOf (driver_of w h).lots lot i e → is_wanted lot.side ≡ false
-    → (book_of w).loan (map_id (hart h) lot.id i) ≡ Some (record { grant = grant_of (driver_of w h).fixed.slots_at lot (map_id (hart h) lot.id i) e; lot = lot.id; area = false })
+    → (book_of w).loan (map_id (hart h) lot.id i) ≡ Some (record { grant = grant_of (driver_of w h).fixed.slots_at lot (map_id (hart h) lot.id i) e; lot = lot.id; area = is_area lot.kind })
 entry_loan sc f w h lot i e flat here lent =
     let d = driver_of w h in
     let n = map_id (hart h) lot.id i in
@@ -201,8 +203,7 @@ entry_loan sc f w h lot i e flat here lent =
     let number : (lot.id.first + i) - lot.id.first ≡ i = omega arith in
     let entry : slice_index_or lot.list.entries ((lot.id.first + i) - lot.id.first) no_entry ≡ e =
     ap (λ (j : ℕ). slice_index_or lot.list.entries j no_entry) number ∙ get_or_from_slice_get lot.list.entries i e no_entry here.entry in
-    let area = mapping_area lot.kind (lot_of sc f w h lot flat here.lot_in).kind in
-    ap (option_map (loan_by d.fixed n)) one ∙ ap (λ (c : Entry). Some (loan_with c (is_area lot.kind))) entry ∙ ap (λ (t : Bool). Some (loan_with e t)) area
+    ap (option_map (loan_by d.fixed n)) one ∙ ap (λ (c : Entry). Some (loan_with c)) entry
   where
-    loan_with : Entry → Bool → Loan
-    loan_with c t = record { grant = grant_of (driver_of w h).fixed.slots_at lot (map_id (hart h) lot.id i) c; lot = lot.id; area = t }
+    loan_with : Entry → Loan
+    loan_with c = record { grant = grant_of (driver_of w h).fixed.slots_at lot (map_id (hart h) lot.id i) c; lot = lot.id; area = is_area lot.kind }

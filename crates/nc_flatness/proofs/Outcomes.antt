@@ -44,6 +44,7 @@ stand_as sc f w v s = record {
   unfenced = s.unfenced;
   uncached = s.uncached;
   lasts = s.lasts;
+  tokens = s.tokens;
 }
 
 goes_as : (sc : Scenario) (f : List ℕ) (ms : List Mark) (w v : WorldState) → GoesTo sc f ms (record v { machine = w.machine; drivers = w.drivers; owners = w.owners }) → GoesTo sc f ms w

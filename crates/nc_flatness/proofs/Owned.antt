@@ -18,7 +18,7 @@ use Rattle.nc_scen.specs.declared.scenario.Scenario.{Scenario}
 use Rattle.nc_rules.specs.declared.lots.Lot.{Lot}
 use Rattle.nc_rules.specs.Driver.{in_hand}
 use Rattle.nc_rules.specs.Lots.{Fixed, map_id, owner_of_side}
-use Rattle.nc_rules.specs.Start.{hart_spec, no_hart_spec}
+use Rattle.nc_rules.specs.Start.{fixed_of, hart_spec, no_hart_spec}
 use Rattle.nc_rules.specs.Watched.{owner_of}
 use Rattle.nc_rules.specs.World.{WorldState, driver_of, hart}
 use Rattle.nc_holds.specs.Held.{IsEntryOf}
@@ -35,6 +35,9 @@ use Rattle.nc_flatness.proofs.Loans.{IsLoan, hart_of_lot, lot_in, loan_is}
 
 pub me_is : (w : WorldState) (h : ℕ) → Holds w → h < length w.machine.harts → (driver_of w h).fixed.me ≡ hart h
 me_is w h k lt = let e = (k.each h lt).me in λ i. record { 0 = e i }
+
+pub fixed_is : (sc : Scenario) (f : List ℕ) (w : WorldState) (h : ℕ) → Flatness sc f w → h < length w.machine.harts → (driver_of w h).fixed ≡ fixed_of sc (hart h) (hart_spec sc h)
+fixed_is sc f w h flat lt = flat.world.fixed h (omega (arith, lt, flat.world.of_scenario.harts))
 
 -- its bytes have the owner that its lot's side says
 pub entry_owned : (sc : Scenario) (f : List ℕ) (w : WorldState) (h : ℕ) (lot : Lot) (i : ℕ) (e : Entry) (x : ℕ) → Flatness sc f w → IsEntryOf (driver_of w h).lots lot i e → covers e.span x ≡ true

@@ -12,13 +12,13 @@ use Rattle.nc_model.specs.declared.owners.Owner.TheVariants.{Thread, Passing, Le
 use Rattle.nc_model.proofs.Faults.{covers-from, covers-low, covers-high}
 use Rattle.nc_sg.specs.Lists as sg
 use Rattle.nc_sg.specs.declared.list.Entry.{Entry}
-use Rattle.nc_scen.specs.Regions.{slots_of}
+use Rattle.nc_scen.specs.Regions.{slots_of, pool_of}
 use Rattle.nc_scen.specs.declared.scenario.Scenario.{Scenario}
 use Rattle.nc_rules.specs.declared.lots.Lot.{Lot}
 use Rattle.nc_rules.specs.declared.lots.Side.{Side}
 use Rattle.nc_rules.specs.declared.lots.Side.TheVariants as sides
+use Rattle.nc_rules.specs.Turns.{is_area}
 use Rattle.nc_rules.specs.Lots.{Fixed, is_wanted, lot_waits, map_id, owner_of_side}
-use Rattle.nc_rules.specs.Start.{fixed_of, hart_spec}
 use Rattle.nc_rules.specs.Watched.{owner_of}
 use Rattle.nc_rules.specs.World.{WorldState, driver_of, hart}
 use Rattle.nc_scripts.proofs.Lists.{position_any}
@@ -30,8 +30,9 @@ use Rattle.nc_rows.specs.Rows.{Loan, device_place}
 use Rattle.nc_rows.specs.Laws.{place_of, seen_at}
 use Rattle.nc_flatness.specs.Books.{book_of, mapping_in}
 use Rattle.nc_flatness.specs.Flatness.{IsUnseen, Flatness}
-use Rattle.nc_flatness.proofs.Loans.{IsLoan, hart_of_lot, lot_in, lot_of, mapping_area}
-use Rattle.nc_flatness.proofs.Owned.{IsMapped, mapped, owned_ram}
+use Rattle.nc_flatness.proofs.Loans.{IsLoan, hart_of_lot, lot_in, area_direct}
+use Rattle.nc_flatness.proofs.Owned.{fixed_is, IsMapped, mapped, owned_ram}
+use Rattle.nc_flatness.proofs.Areas.{entry_pooled}
 use Rattle.nc_flatness.proofs.WholeBlocks.{in_whole, whole_slots, mapped_block}
 
 -- where the channel of a place sees it
@@ -43,9 +44,6 @@ abbrev pub slot_at : Scenario → ℕ → Span
 slot_at sc k = record { at = sc.slots_at + 2048 * k; len = 2048 }
 
 -- ---- what drivers know of the slots
-
-fixed_is : (sc : Scenario) (f : List ℕ) (w : WorldState) (h : ℕ) → Flatness sc f w → h < length w.machine.harts → (driver_of w h).fixed ≡ fixed_of sc (hart h) (hart_spec sc h)
-fixed_is sc f w h flat lt = flat.world.fixed h (omega (arith, lt, flat.world.of_scenario.harts))
 
 pub slots_at_is : (sc : Scenario) (f : List ℕ) (w : WorldState) (h : ℕ) → Flatness sc f w → h < length w.machine.harts → (driver_of w h).fixed.slots_at ≡ sc.slots_at
 slots_at_is sc f w h flat lt = ap (λ (k : Fixed). k.slots_at) (fixed_is sc f w h flat lt)
@@ -224,6 +222,10 @@ device_same w n l x is direct on =
     let at : l.grant.device.at ≡ l.grant.buffer.at = ap (λ (s : Span). s.at) (is.device ∙ direct_is (driver_of w n.hart.0).fixed.slots_at is.entry direct ∙ sym is.buffer) in
     omega (arith, at, covers-low l.grant.buffer x on)
 
+-- as those of an area
+pub area_place : (sc : Scenario) (f : List ℕ) (w : WorldState) (n : MapId) (l : Loan) (x : ℕ) → Flatness sc f w → IsLoan w n l → l.area ≡ true → covers l.grant.buffer x ≡ true → device_place l x ≡ x
+area_place sc f w n l x flat is area on = device_same w n l x is (area_direct sc f w n.hart.0 is.lot is.i is.entry flat is.here (sym is.area ∙ area)) on
+
 -- and where it bounces, in the slots
 pub device_slots : (sc : Scenario) (f : List ℕ) (w : WorldState) (n : MapId) (l : Loan) (x : ℕ) → Flatness sc f w → (is : IsLoan w n l) → is.entry.bounced ≡ true → covers l.grant.buffer x ≡ true → covers (slots_of sc) (device_place l x) ≡ true
 device_slots sc f w n l x flat is bounced on =
@@ -249,14 +251,19 @@ pub entry_unslotted : (sc : Scenario) (f : List ℕ) (w : WorldState) (h : ℕ) 
 entry_unslotted sc f w h lot i e x flat here on =
     let lt = hart_of_lot w h lot flat.world.holds here.lot_in in
     let holds = flat.world.holds.each h lt in
+    let slots : covers (slots_span (driver_of w h).fixed) x ≡ covers (slots_of sc) x = ap (λ (k : Fixed). covers (slots_span k) x) (fixed_is sc f w h flat lt) in
+    let pool : covers (driver_of w h).fixed.pool x ≡ covers (pool_of sc) x = ap (λ (k : Fixed). covers k.pool x) (fixed_is sc f w h flat lt) in
     let fits = all_at (FitsSide (driver_of w h).fixed) (driver_of w h).lots lot holds.agrees.sides here.lot_in in
-    let area = mapping_area lot.kind (lot_of sc f w h lot flat here.lot_in).kind in
-    let inside = all_at (λ (d : Entry). LiesInBuffer (driver_of w h).fixed d.span) lot.list.entries e (fits.in_buffer area) (at_get lot.list.entries i e here.entry) in
-    let span : covers (slots_span (driver_of w h).fixed) x ≡ covers (slots_of sc) x = ap (λ (k : Fixed). covers (slots_span k) x) (fixed_is sc f w h flat lt) in
-    elim (cases_Bool (covers (slots_of sc) x)) [
-      | inl over ↦ absurd (holds.regions.buffers_off_slots inside.0 x (inside.1 x on) (span ∙ over))
-      | inr off ↦ off
-    ]
+    off_by (covers (slots_of sc) x) (λ over. elim (cases_Bool (is_area lot.kind)) [
+      | inl area ↦ holds.regions.slots_off_pool x (slots ∙ over) (pool ∙ entry_pooled sc f w h lot i e x flat here area on)
+      | inr area ↦
+          let inside = all_at (λ (d : Entry). LiesInBuffer (driver_of w h).fixed d.span) lot.list.entries e (fits.in_buffer area) (at_get lot.list.entries i e here.entry) in
+          holds.regions.buffers_off_slots inside.0 x (inside.1 x on) (slots ∙ over)
+    ])
+  where
+    off_by : (t : Bool) → (t ≡ true → ⊥) → t ≡ false
+    off_by true never = absurd (never refl)
+    off_by false never = refl
 
 -- ---- where a place is seen
 

@@ -20,6 +20,7 @@ use Rattle.nc_own.specs.Books.{owner_in}
 use Rattle.nc_scen.specs.Accepted.{IsAccepted}
 use Rattle.nc_scen.specs.Regions.{slots_of, pool_of}
 use Rattle.nc_scen.specs.declared.scenario.Scenario.{Scenario}
+use Rattle.nc_rules.specs.declared.lots.Lot.{Lot}
 use Rattle.nc_rules.specs.declared.steps.Step.{Step}
 use Rattle.nc_rules.specs.Driver.{DriverState}
 use Rattle.nc_rules.specs.Machine.{MachineState, hart_of, queue_of}
@@ -35,6 +36,7 @@ use Rattle.nc_rows.specs.Parts.{IsQueued, Queued, rest_last, LastIs, Lasts}
 use Rattle.nc_flatness.specs.Books.{book_of, mapping_in}
 use Rattle.nc_flatness.specs.Flatness.{IsMapping, Drives, BytesStand}
 use Rattle.nc_flatness.specs.Plans.{IsStill}
+use Rattle.nc_flatness.specs.Tokens.{TokenStands}
 use Rattle.nc_flatness.specs.Steps.{StartIsFlat}
 use Rattle.nc_flatness.proofs.Regions.{buffer_at, pool_off, slots_off}
 use Rattle.nc_flatness.proofs.BookReads.{uncached_of}
@@ -107,7 +109,7 @@ row_by a sc (Synced k) x plain = absurd plain
 
 drives_first : (sc : Scenario) (h : ℕ) → Drives (first_driver sc (hart h))
 unfolding first_driver
-drives_first sc h = record { lots = All-nil (IsMapping _); stands = All-nil IsStill; idle = refl }
+drives_first sc h = record { lots = All-nil (IsMapping _); stands = All-nil (IsStill _); idle = refl }
 
 drives_start : (sc : Scenario) (h : ℕ) → h < length sc.harts → Drives (driver_of (start sc) h)
 drives_start sc h lt = subst (λ (d : DriverState). Drives d) (sym (driver_start sc h lt)) (drives_first sc h)
@@ -133,6 +135,17 @@ rest_start sc h a = elim (cases_lt h (length sc.harts)) [
   | inr past ↦ no_rest (start sc) h (omega (arith, past, count_start sc a))
 ]
 
+lots_first : (sc : Scenario) (h : ℕ) → (first_driver sc (hart h)).lots ≡ []
+unfolding first_driver
+lots_first sc h = refl
+
+lots_start : (sc : Scenario) (h : ℕ) → h < length sc.harts → (driver_of (start sc) h).lots ≡ []
+lots_start sc h lt = ap (λ (d : DriverState). d.lots) (driver_start sc h lt) ∙ lots_first sc h
+
+-- no token is queued
+none_sent : (d : DriverState) (q : List Entry) → d.lots ≡ [] → All (TokenStands d.rest q) d.lots
+none_sent d q none = subst (λ (lots : List Lot). All (TokenStands d.rest q) lots) (sym none) (All-nil (TokenStands d.rest q))
+
 -- no copy is under way
 lasts_start : (sc : Scenario) → IsAccepted sc → Lasts (book_of (start sc)) (memory sc) (start sc).machine
 lasts_start sc a h = last_none (book_of (start sc)) (memory sc) h (hart_of (start sc).machine h).last (driver_of (start sc) h).rest (rest_start sc h a)
@@ -144,7 +157,7 @@ bytes_start sc a =
       flat_size = start_is_empty.long sc a;
       drives = λ h lt. drives_start sc h lt;
       placed = λ x n lt e. absurd (none_mapped (owner_of (start sc) x) n (no_mapping (owner_of (start sc) x) (plain_here sc x lt)) e);
-      pooled = λ x over. pooled_first sc x a over;
+      pooled = λ x over. inl (pooled_first sc x a over);
       slotted = λ x over. slotted_first sc x a over;
       rows = λ x lt off. subst (λ (k : MachineState). Row (book_of (start sc)) (owner_of (start sc) x) (byte (memory sc) x) k x) m (row_by (book_of (start sc)) sc (owner_of (start sc) x) x (plain_here sc x lt));
       calm = λ z on none. subst (λ (k : MachineState). CalmRow k z) m (calm_first sc z);
@@ -152,6 +165,7 @@ bytes_start sc a =
       unfenced = λ h. subst (λ (k : MachineState). list_any is_full (queue_of k h) ≡ false) m (ap (list_any is_full) (start_is_empty.queues sc h));
       uncached = uncached_of (book_of (start sc)) (owner_of (start sc)) (start sc).machine (λ x on. subst (λ (k : MachineState). NotHeld k x) m (start_is_empty.not_held sc x));
       lasts = lasts_start sc a;
+      tokens = λ h lt light. none_sent (driver_of (start sc) h) (queue_of (start sc).machine h) (lots_start sc h lt);
     }
   where
     none_mapped : (o : Owner) (n : MapId) → mapping_in o ≡ None → mapping_in o ≡ Some n → ⊥

@@ -1,7 +1,7 @@
 -- A range that its device may write has the whole block of each of its places, where it does not bounce.
-use Rattle.std.specs.Prelude.{◌&&◌, ◌||◌, ◌==◌, ◌/◌, ◌%◌, ◌⊎◌, nat_lt, not}
+use Rattle.std.specs.Prelude.{◌&&◌, ◌||◌, ◌==◌, ◌/◌, ◌%◌, ◌⊎◌, nat_lt, not, length}
 use Rattle.std.proofs.Common.{◌≡◌, ℕ, ◌+◌, ◌<◌, ◌≤◌, Bool, true, false, List, sym, ap, ◌∙◌, inl, inr, subst, arith}
-use Rattle.std.proofs.lemmas.Bool.{and_parts, or_parts, not-false, eqb-true}
+use Rattle.std.proofs.lemmas.Bool.{and_parts, or_parts, not-false, eqb-true, cases_Bool}
 use Rattle.nc_num.specs.Sizes.{IsBlockSize}
 use Rattle.nc_num.specs.Places.{covers}
 use Rattle.nc_num.specs.declared.names.ChanNo.{ChanNo}
@@ -21,8 +21,9 @@ use Rattle.nc_rules.specs.World.{WorldState, driver_of}
 use Rattle.nc_scripts.specs.Drivers.{BouncesSo}
 use Rattle.nc_holds.specs.Held.{IsEntryOf}
 use Rattle.nc_holds.proofs.ListsA.{all_at, at_get}
+use Rattle.nc_holds.proofs.OwnerLots.{area_in}
 use Rattle.nc_flatness.specs.Flatness.{Flatness}
-use Rattle.nc_flatness.proofs.Loans.{hart_of_lot, lot_in, lot_of, mapping_area}
+use Rattle.nc_flatness.proofs.Loans.{hart_of_lot, lot_in}
 use Rattle.nc_flatness.proofs.Owned.{IsMapped, of_buffer, entry_owned}
 
 -- ---- whole blocks
@@ -62,26 +63,53 @@ whole_by f kind dir chan e so mapping direct back =
     let both = (or_parts (comes_back dir && not (is_whole f.size e.span)) (nat_lt (reach_of f chan) (e.span.at + e.span.len)) none).0 in
     not-false (is_whole f.size e.span) (sym (ap (λ (t : Bool). t && not (is_whole f.size e.span)) back) ∙ both)
 
+-- the one range of an area is whole blocks
+area_block : (sc : Scenario) (f : List ℕ) (w : WorldState) (h : ℕ) (lot : Lot) (i : ℕ) (e : Entry) (x y : ℕ) → Flatness sc f w → IsEntryOf (driver_of w h).lots lot i e → is_area lot.kind ≡ true → y / w.machine.size ≡ x / w.machine.size
+    → covers e.span x ≡ true → covers e.span y ≡ true
+area_block sc f w h lot i e x y flat here area same over =
+    let lt = hart_of_lot w h lot flat.world.holds here.lot_in in
+    let size = flat.world.machine.block_size in
+    let fixed = (flat.world.holds.each h lt).driver.fixed in
+    let p = area_in (length w.machine.cache.ram) (driver_of w h).fixed lot i e (lot_in sc f w h lot flat here.lot_in) area here.entry in
+    let low : e.span.at % 2048 ≡ 0 = omega (arith, fixed.pool_whole, p.starts, p.aligned) in
+    let long : e.span.len % 2048 ≡ 0 = omega (arith, p.whole) in
+    in_whole {s = w.machine.size} e.span x y size (whole_slots w.machine.size e.span.at size low) (whole_slots w.machine.size e.span.len size long) same over
+
 -- an entry that does not bounce has each place of a block of which it has one
 pub entry_block : (sc : Scenario) (f : List ℕ) (w : WorldState) (h : ℕ) (lot : Lot) (i : ℕ) (e : Entry) (x y : ℕ) → Flatness sc f w → IsEntryOf (driver_of w h).lots lot i e → e.bounced ≡ false → comes_back lot.list.dir ≡ true
     → y / w.machine.size ≡ x / w.machine.size → covers e.span x ≡ true → covers e.span y ≡ true
 entry_block sc f w h lot i e x y flat here direct back same over =
-    let d = driver_of w h in
-    let lt = hart_of_lot w h lot flat.world.holds here.lot_in in
-    let fits = lot_in sc f w h lot flat here.lot_in in
-    let so = all_at (BouncesSo d.fixed lot.kind lot.list.dir lot.chan) lot.list.entries e fits.bounce (at_get lot.list.entries i e here.entry) in
-    let area = mapping_area lot.kind (lot_of sc f w h lot flat here.lot_in).kind in
-    let whole : is_whole w.machine.size e.span ≡ true =
-    subst (λ (s : ℕ). is_whole s e.span ≡ true) (sym (flat.world.holds.each h lt).setting.block) (whole_by d.fixed lot.kind lot.list.dir lot.chan e so area direct back) in
-    in_blocks {s = w.machine.size} e.span x y flat.world.machine.block_size whole same over
+    elim (cases_Bool (is_area lot.kind)) [
+      | inl area ↦ area_block sc f w h lot i e x y flat here area same over
+      | inr area ↦
+          let d = driver_of w h in
+          let lt = hart_of_lot w h lot flat.world.holds here.lot_in in
+          let fits = lot_in sc f w h lot flat here.lot_in in
+          let so = all_at (BouncesSo d.fixed lot.kind lot.list.dir lot.chan) lot.list.entries e fits.bounce (at_get lot.list.entries i e here.entry) in
+          let whole : is_whole w.machine.size e.span ≡ true =
+          subst (λ (s : ℕ). is_whole s e.span ≡ true) (sym (flat.world.holds.each h lt).setting.block) (whole_by d.fixed lot.kind lot.list.dir lot.chan e so area direct back) in
+          in_blocks {s = w.machine.size} e.span x y flat.world.machine.block_size whole same over
+    ]
 
--- the whole block of a mapping's place has the owner of its side
+-- a place of the same entry has the owner of its side
+same_entry : (sc : Scenario) (f : List ℕ) (w : WorldState) (n : MapId) (x y : ℕ) → Flatness sc f w → (is : IsMapped w n x) → covers is.is.entry.span y ≡ true → (covers is.loan.grant.buffer y ≡ true) × (owner_of w y ≡ owner_of w x)
+same_entry sc f w n x y flat is there =
+    let l = is.is in
+    let owned : owner_of w y ≡ owner_of_side n l.lot.side =
+    entry_owned sc f w n.hart.0 l.lot l.i l.entry y flat l.here there ∙ ap (λ (k : MapId). owner_of_side k l.lot.side) (sym l.name) in
+    (subst (λ (s : Span). covers s y ≡ true) (sym l.buffer) there, owned ∙ sym is.owner)
+
+-- so has the whole block of a mapping's place
 pub mapped_block : (sc : Scenario) (f : List ℕ) (w : WorldState) (n : MapId) (x y : ℕ) → Flatness sc f w → (is : IsMapped w n x) → is.is.entry.bounced ≡ false → comes_back is.loan.grant.dir ≡ true → y / w.machine.size ≡ x / w.machine.size
     → (covers is.loan.grant.buffer y ≡ true) × (owner_of w y ≡ owner_of w x)
 mapped_block sc f w n x y flat is direct back same =
     let l = is.is in
-    let here = of_buffer w n is.loan x l is.on in
-    let there = entry_block sc f w n.hart.0 l.lot l.i l.entry x y flat l.here direct (subst (λ (k : Dir). comes_back k ≡ true) l.dir back) same here in
-    let owned : owner_of w y ≡ owner_of_side n l.lot.side =
-    entry_owned sc f w n.hart.0 l.lot l.i l.entry y flat l.here there ∙ ap (λ (k : MapId). owner_of_side k l.lot.side) (sym l.name) in
-    (subst (λ (s : Span). covers s y ≡ true) (sym l.buffer) there, owned ∙ sym is.owner)
+    same_entry sc f w n x y flat is
+    (entry_block sc f w n.hart.0 l.lot l.i l.entry x y flat l.here direct (subst (λ (k : Dir). comes_back k ≡ true) l.dir back) same (of_buffer w n is.loan x l is.on))
+
+-- and that of an area's
+pub area_whole : (sc : Scenario) (f : List ℕ) (w : WorldState) (n : MapId) (x y : ℕ) → Flatness sc f w → (is : IsMapped w n x) → is.loan.area ≡ true → y / w.machine.size ≡ x / w.machine.size
+    → (covers is.loan.grant.buffer y ≡ true) × (owner_of w y ≡ owner_of w x)
+area_whole sc f w n x y flat is area same =
+    let l = is.is in
+    same_entry sc f w n x y flat is (area_block sc f w n.hart.0 l.lot l.i l.entry x y flat l.here (sym l.area ∙ area) same (of_buffer w n is.loan x l is.on))

@@ -1,6 +1,6 @@
 -- The book of a world, with which rows are read: what each mapping is, what each hart's plan is still to do, and which
 -- buffer a place is of. This project's own.
-use Rattle.std.specs.Prelude.{ℕ, suc, ◌≡◌, ◌+◌, ◌-◌, ◌==◌, ◌&&◌, nat_le, nat_lt, not, Bool, true, if◌then◌else◌, List, [], ◌∷◌, length, Option, Some, None, option_map, slice_index_or}
+use Rattle.std.specs.Prelude.{ℕ, suc, ◌≡◌, ◌⊎◌, ◌+◌, ◌-◌, ◌==◌, ◌&&◌, nat_le, nat_lt, not, Bool, true, if◌then◌else◌, List, [], ◌∷◌, length, Option, Some, None, option_map, slice_index_or}
 use Rattle.std.specs.List.{find}
 use Rattle.nc_num.specs.Places.{covers}
 use Rattle.nc_num.specs.declared.names.MapId.{MapId}
@@ -52,3 +52,17 @@ mapping_in Pool = None
 abbrev pub LiesIn : Option Loan → ℕ → Type 0
 LiesIn None x = ⊥
 LiesIn (Some l) x = covers l.grant.buffer x ≡ true
+
+-- ---- the coherent pool
+
+-- an area has the place, be it its hart's or its channel's
+pub record IsOfArea (a : Book) (x : ℕ) : Type 0 where
+  pub id : MapId
+  pub loan : Loan
+  pub lent : a.loan id ≡ Some loan
+  pub area : loan.area ≡ true
+  pub on : covers loan.grant.buffer x ≡ true
+
+-- a place of the pool, with this owner: nobody's, or of an area
+abbrev pub IsPooled : Book → Owner → ℕ → Type 0
+IsPooled a o x = (o ≡ Pool) ⊎ IsOfArea a x

@@ -38,8 +38,9 @@ use Rattle.nc_rows.specs.Laws.{seen_at}
 use Rattle.nc_rows.specs.Places.{CalmRow}
 use Rattle.nc_rows.specs.Rows.{Book, Row}
 use Rattle.nc_rows.specs.Parts.{Queued, Uncached, Lasts}
-use Rattle.nc_flatness.specs.Books.{book_of, mapping_in, LiesIn}
-use Rattle.nc_flatness.specs.Plans.{IsStill, PlanGoes}
+use Rattle.nc_flatness.specs.Books.{book_of, mapping_in, LiesIn, IsPooled}
+use Rattle.nc_flatness.specs.Plans.{IsStill, PlanGoes, EndsOne}
+use Rattle.nc_flatness.specs.Tokens.{TokenStands}
 
 -- ---- the world
 
@@ -60,11 +61,11 @@ pub record IsWorldOf (sc : Scenario) (w : WorldState) : Type 0 where
 
 -- ---- the drivers
 
--- a single mapping or a scatter list
+-- all but an end of a copy
 abbrev pub is_mapping : Kind → Bool
 is_mapping kinds.Single = true
 is_mapping kinds.List = true
-is_mapping kinds.Area = false
+is_mapping kinds.Area = true
 is_mapping kinds.Copy = false
 
 -- where fences are full
@@ -73,13 +74,14 @@ pub record IsMapping (f : Fixed) (lot : Lot) : Type 0 where
   pub full : f.light ≡ false
 
 -- it is still, or waits for its slots
-abbrev pub IsStillOrWanted : Lot → Type 0
-IsStillOrWanted lot = IsStill lot ⊎ (lot.side ≡ sides.Wanted)
+abbrev pub IsStillOrWanted : Fixed → Lot → Type 0
+IsStillOrWanted f lot = IsStill f lot ⊎ (lot.side ≡ sides.Wanted)
 
 -- the operation makes lots of this kind
 abbrev pub makes_kind : Op → Kind → Bool
 makes_kind (ops.Map label buf off len dir chan) kind = same_kind kinds.Single kind
 makes_kind (ops.MapSg label entries dir chan) kind = same_kind kinds.List kind
+makes_kind (ops.Calloc label pages chan) kind = same_kind kinds.Area kind
 makes_kind _ kind = false
 
 abbrev pub IsMadeBy : Option Op → Lot → Type 0
@@ -87,8 +89,8 @@ IsMadeBy None lot = ⊥
 IsMadeBy (Some o) lot = makes_kind o lot.kind ≡ true
 
 -- the same, where what waits is what the operation in hand makes
-abbrev pub IsStillOrMade : Option Op → Lot → Type 0
-IsStillOrMade o lot = IsStill lot ⊎ ((lot.side ≡ sides.Wanted) × IsMadeBy o lot)
+abbrev pub IsStillOrMade : Fixed → Option Op → Lot → Type 0
+IsStillOrMade f o lot = IsStill f lot ⊎ ((lot.side ≡ sides.Wanted) × IsMadeBy o lot)
 
 abbrev pub mail_step : ℕ → HartNo → Step
 mail_step buf to = hart_step (hart_ops.IoStore (io.Mail buf to))
@@ -96,10 +98,12 @@ mail_step buf to = hart_step (hart_ops.IoStore (io.Mail buf to))
 -- the marker and the message of a buffer are left, or the message alone, while each lot is still
 pub record IsHanding (d : DriverState) (buf : ℕ) (to : HartNo) : Type 0 where
   pub left : (d.rest ≡ hand_steps buf to) ⊎ (d.rest ≡ mail_step buf to ∷ [])
-  pub still : All IsStill d.lots
+  pub still : All (IsStill d.fixed) d.lots
 
-abbrev pub PlanLeft : DriverState → Type 0
-PlanLeft d = PlanGoes d.fixed d.lots d.rest
+-- what is left goes through; with light fences it ends the stay of lots of one label alone
+pub record PlanLeft (d : DriverState) : Type 0 where
+  pub goes : PlanGoes d.fixed d.lots d.rest
+  pub one : d.fixed.light ≡ true → EndsOne d.rest
 
 abbrev pub PlanIs : DriverState → Op → Type 0
 PlanIs d (ops.Hand buf to) = IsHanding d buf to
@@ -121,10 +125,10 @@ PlanIs d (ops.Run chan) = ⊥
 PlanIs d (ops.Poll chan) = ⊥
 PlanIs d (ops.Regr chan off width) = ⊥
 PlanIs d (ops.Regw chan off width value) = ⊥
-PlanIs d (ops.Calloc label pages chan) = ⊥
-PlanIs d (ops.Cgive label) = ⊥
-PlanIs d (ops.Ctake label) = ⊥
-PlanIs d (ops.Cfree label) = ⊥
+PlanIs d (ops.Calloc label pages chan) = PlanLeft d
+PlanIs d (ops.Cgive label) = PlanLeft d
+PlanIs d (ops.Ctake label) = PlanLeft d
+PlanIs d (ops.Cfree label) = PlanLeft d
 PlanIs d (ops.Copy chan src src_off dst dst_off len cfg) = ⊥
 
 abbrev pub PlanOf : DriverState → Option Op → Type 0
@@ -133,8 +137,8 @@ PlanOf d (Some o) = PlanIs d o
 
 -- while slots are searched for, the lots that are made wait, and no other is lent or taken back
 abbrev pub StandsAt : DriverState → Phase → Type 0
-StandsAt d (Steps n) = All IsStill d.lots
-StandsAt d (Search k) = All (IsStillOrMade (in_hand d)) d.lots
+StandsAt d (Steps n) = All (IsStill d.fixed) d.lots
+StandsAt d (Search k) = All (IsStillOrMade d.fixed (in_hand d)) d.lots
 StandsAt d Work = PlanOf d (in_hand d)
 
 pub record Drives (d : DriverState) : Type 0 where
@@ -154,8 +158,8 @@ pub record BytesStand (sc : Scenario) (f : List ℕ) (w : WorldState) : Type 0 w
   pub drives : (h : ℕ) → h < length sc.harts → Drives (driver_of w h)
   -- a mapping's places are those of its buffer
   pub placed : (x : ℕ) (n : MapId) → x < sc.ram → mapping_in (owner_of w x) ≡ Some n → LiesIn ((book_of w).loan n) x
-  -- nobody has an area, and the slots are nobody's
-  pub pooled : (x : ℕ) → covers (pool_of sc) x ≡ true → owner_of w x ≡ Pool
+  -- what no area has of the coherent pool is nobody's, and so are the slots
+  pub pooled : (x : ℕ) → covers (pool_of sc) x ≡ true → IsPooled (book_of w) (owner_of w x) x
   pub slotted : (x : ℕ) → covers (slots_of sc) x ≡ true → owner_of w x ≡ Pool
   pub rows : (x : ℕ) → x < sc.ram → covers (slots_of sc) x ≡ false → Row (book_of w) (owner_of w x) (byte f x) w.machine x
   -- where no channel uses a byte of a slot, every copy of it is as memory
@@ -165,6 +169,8 @@ pub record BytesStand (sc : Scenario) (f : List ℕ) (w : WorldState) : Type 0 w
   pub unfenced : (h : ℕ) → list_any is_full (queue_of w.machine h) ≡ false
   pub uncached : Uncached (book_of w) (owner_of w) w.machine
   pub lasts : Lasts (book_of w) f w.machine
+  -- with light fences alone there are tokens
+  pub tokens : (h : ℕ) → h < length sc.harts → (driver_of w h).fixed.light ≡ true → All (TokenStands (driver_of w h).rest (queue_of w.machine h)) (driver_of w h).lots
 
 pub record Flatness (sc : Scenario) (f : List ℕ) (w : WorldState) : Type 0 where
   pub world : IsWorldOf sc w

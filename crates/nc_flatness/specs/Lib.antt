@@ -1,5 +1,6 @@
 pub mod Covered
 pub mod Books
 pub mod Plans
+pub mod Tokens
 pub mod Flatness
 pub mod Steps

@@ -1,6 +1,6 @@
--- What is left of the plan of a mapping, step by step: what each step is for, and that behind all of them each lot of the
--- hart is with its channel or synced. This project's own.
-use Rattle.std.specs.Prelude.{ℕ, ◌≡◌, ◌⊎◌, ◌≤◌, ◌+◌, ◌/◌, Bool, true, false, List, [], ◌∷◌, Some, None, All}
+-- What is left of the plan of a mapping or an area, step by step: what each step is for, and that behind all of them each
+-- lot of the hart is still. This project's own.
+use Rattle.std.specs.Prelude.{ℕ, ◌≡◌, ◌⊎◌, ◌≤◌, ◌+◌, ◌/◌, Bool, true, false, List, [], ◌∷◌, length, Some, None, All}
 use Rattle.std.specs.List.{list_any}
 use Rattle.nc_num.specs.Places.{covers}
 use Rattle.nc_num.specs.declared.names.MapId.{MapId}
@@ -8,15 +8,17 @@ use Rattle.nc_num.specs.declared.names.MemType.TheVariants.{Pma}
 use Rattle.nc_num.specs.declared.places.Block.{Block}
 use Rattle.nc_num.specs.declared.places.Span.{Span}
 use Rattle.nc_env.specs.declared.CboOp.{CboOp}
-use Rattle.nc_queue.specs.Entries.{writes_back}
+use Rattle.nc_env.specs.declared.CboOp.TheVariants as cbos
+use Rattle.nc_queue.specs.Entries.{has_op, is_zero, writes_back}
 use Rattle.nc_lines.specs.Lines.{gives_at}
 use Rattle.nc_plan.specs.Parts.{comes_back}
 use Rattle.nc_plan.specs.Plans.{In, full, moved}
 use Rattle.nc_plan.specs.declared.ops.HartOp.TheVariants as hart_ops
+use Rattle.nc_plan.specs.declared.ops.IoTarget.TheVariants as io
 use Rattle.nc_plan.specs.declared.ops.Payload.TheVariants.{Last}
 use Rattle.nc_sg.specs.Lists as sg
 use Rattle.nc_sg.specs.declared.list.Entry.{Entry}
-use Rattle.nc_rules.specs.declared.lots.Kind.TheVariants.{Single}
+use Rattle.nc_rules.specs.declared.lots.Kind.TheVariants.{Single, Area}
 use Rattle.nc_rules.specs.declared.lots.Lot.{Lot}
 use Rattle.nc_rules.specs.declared.lots.LotId.{LotId}
 use Rattle.nc_rules.specs.declared.lots.Side.{Side}
@@ -27,23 +29,28 @@ use Rattle.nc_rules.specs.declared.steps.Turn.{Turn}
 use Rattle.nc_rules.specs.declared.steps.Turn.TheVariants as turns
 use Rattle.nc_rules.specs.Lots.{Fixed, is_lot}
 use Rattle.nc_rules.specs.Plans.{hart_step, turning}
-use Rattle.nc_rules.specs.Turns.{lots_after}
+use Rattle.nc_rules.specs.Turns.{is_area, lots_after}
 use Rattle.nc_calls.specs.PlaceLaws.{drops_copies}
 use Rattle.nc_holds.specs.Held.{IsEntryOf}
-use Rattle.nc_rows.specs.Ahead.{coming, is_full}
+use Rattle.nc_rows.specs.Ahead.{ends, settling, coming, is_full}
 use Rattle.nc_rows.specs.Parts.{rest_last}
 
 -- ---- the lots of a hart
 
--- it is with its channel, or synced: there is no sync of a scatter list
-abbrev pub IsStill : Lot → Type 0
-IsStill lot = (lot.side ≡ sides.Device) ⊎ ((lot.side ≡ sides.Synced) × (lot.kind ≡ Single))
+-- no plan is at it: it is with its channel; a single mapping is synced, or an area is the hart's own; or, with light
+-- fences, its token is queued
+pub data IsStill (f : Fixed) (lot : Lot) : Type 0 where
+  StillDevice : lot.side ≡ sides.Device → IsStill f lot
+  StillSynced : lot.side ≡ sides.Synced → lot.kind ≡ Single → IsStill f lot
+  StillOwn : lot.side ≡ sides.Own → lot.kind ≡ Area → IsStill f lot
+  StillSent : lot.side ≡ sides.Lending → f.light ≡ true → IsStill f lot
 
--- the plan is of this lot, which has this side, and each other lot is still
-pub record IsInHand (lots : List Lot) (lot : Lot) (side : Side) : Type 0 where
+-- the plan is of this lot, which is an area or none and has this side, and each other lot is still
+pub record IsInHand (f : Fixed) (lots : List Lot) (lot : Lot) (area : Bool) (side : Side) : Type 0 where
   pub here : In lot lots
+  pub area_is : is_area lot.kind ≡ area
   pub side_is : lot.side ≡ side
-  pub others : All (λ other. is_lot lot.id other ≡ false → IsStill other) lots
+  pub others : All (λ other. is_lot lot.id other ≡ false → IsStill f other) lots
 
 -- the range by which the channel sees an entry
 abbrev pub device_of : Fixed → Entry → Span
@@ -58,6 +65,13 @@ LoadsFirst rest = rest_last rest ≡ None
 abbrev pub HasFull : LotId → List Step → Bool → Type 0
 HasFull id rest t = (n : MapId) → list_any is_full (coming n id rest) ≡ t
 
+abbrev pub HasZero : LotId → List Step → ℕ → Bool → Type 0
+HasZero id rest b t = (n : MapId) → list_any (has_op is_zero b) (coming n id rest) ≡ t
+
+-- the step that ends the stay of the lot is still to come
+abbrev pub HasEnd : LotId → List Step → Type 0
+HasEnd id rest = list_any (ends id) rest ≡ true
+
 abbrev pub HasByte : Fixed → LotId → List Step → ℕ → Bool → Type 0
 HasByte f id rest x t = (n : MapId) → list_any (gives_at f.size x) (coming n id rest) ≡ t
 
@@ -67,13 +81,14 @@ abbrev pub IsWithin : Span → Span → Type 0
 IsWithin span range = (range.at ≤ span.at) × (span.at + span.len ≤ range.at + range.len)
 
 -- a range of the lot goes into its slot before the lot is lent, and comes out of it again behind the full fence
-pub record GoesIn (f : Fixed) (lots : List Lot) (lot : Lot) (e : Entry) (from to : Span) : Type 0 where
-  pub hand : IsInHand lots lot sides.Lending
+pub record GoesIn (f : Fixed) (lots : List Lot) (lot : Lot) (e : Entry) (rest : List Step) (from to : Span) : Type 0 where
+  pub hand : IsInHand f lots lot false sides.Lending
+  pub later : HasEnd lot.id rest
   pub from_is : from ≡ e.span
   pub to_is : to ≡ device_of f e
 
 pub record ComesOut (f : Fixed) (lots : List Lot) (lot : Lot) (e : Entry) (rest : List Step) (from to : Span) : Type 0 where
-  pub hand : IsInHand lots lot sides.Returning
+  pub hand : IsInHand f lots lot false sides.Returning
   pub back : comes_back lot.list.dir ≡ true
   pub fenced : HasFull lot.id rest false
   pub from_is : from ≡ device_of f e
@@ -86,7 +101,7 @@ pub record IsCopied (f : Fixed) (lots : List Lot) (rest : List Step) (from to : 
   pub entry : Entry
   pub here : IsEntryOf lots lot i entry
   pub bounced : entry.bounced ≡ true
-  pub way : GoesIn f lots lot entry from to ⊎ ComesOut f lots lot entry rest from to
+  pub way : GoesIn f lots lot entry rest from to ⊎ ComesOut f lots lot entry rest from to
 
 -- a piece is loaded, of which the store comes next
 pub record IsLoad (f : Fixed) (lots : List Lot) (s : Step) (rest : List Step) : Type 0 where
@@ -120,17 +135,18 @@ pub record IsStore (f : Fixed) (lots : List Lot) (s : Step) (rest : List Step) :
 -- a block is written back before the lot is lent
 pub record IsWriteBack (f : Fixed) (lots : List Lot) (s : Step) (rest : List Step) : Type 0 where
   pub lot : Lot
-  pub hand : IsInHand lots lot sides.Lending
+  pub hand : IsInHand f lots lot false sides.Lending
   pub op : CboOp
   pub block : Block
   pub step : s ≡ hart_step (hart_ops.Cbo op block)
   pub writes : writes_back op ≡ true
+  pub later : HasEnd lot.id rest
   pub next : LoadsFirst rest
 
 -- a block that the device may have written is dropped before the full fence
 pub record IsDrop (f : Fixed) (lots : List Lot) (s : Step) (rest : List Step) : Type 0 where
   pub lot : Lot
-  pub hand : IsInHand lots lot sides.Returning
+  pub hand : IsInHand f lots lot false sides.Returning
   pub back : comes_back lot.list.dir ≡ true
   pub op : CboOp
   pub block : Block
@@ -150,14 +166,14 @@ pub record IsDrop (f : Fixed) (lots : List Lot) (s : Step) (rest : List Step) : 
 -- the lot is its channel's
 pub record IsGive (f : Fixed) (lots : List Lot) (s : Step) (rest : List Step) : Type 0 where
   pub lot : Lot
-  pub hand : IsInHand lots lot sides.Lending
+  pub hand : IsInHand f lots lot false sides.Lending
   pub step : s ≡ turning (turns.Give lot.id) (hart_step full)
   pub over : rest ≡ []
 
 -- what bounces comes out of its slot behind it
 pub record IsFence (f : Fixed) (lots : List Lot) (s : Step) (rest : List Step) : Type 0 where
   pub lot : Lot
-  pub hand : IsInHand lots lot sides.Returning
+  pub hand : IsInHand f lots lot false sides.Returning
   pub step : s ≡ hart_step full
   pub only : HasFull lot.id rest false
   pub next : LoadsFirst rest
@@ -166,12 +182,86 @@ pub record IsFence (f : Fixed) (lots : List Lot) (s : Step) (rest : List Step) :
 -- nothing comes out of a slot, and the lot is back
 pub record IsEnd (f : Fixed) (lots : List Lot) (s : Step) (rest : List Step) : Type 0 where
   pub lot : Lot
-  pub hand : IsInHand lots lot sides.Returning
+  pub hand : IsInHand f lots lot false sides.Returning
   pub turn : Turn
   pub is_back : IsBack lot.id turn
   pub step : s ≡ turning turn (hart_step full)
   pub over : rest ≡ []
   pub straight : comes_back lot.list.dir ≡ true → All (λ e. e.bounced ≡ false) lot.list.entries
+
+-- ---- areas
+
+-- a block of an area that is allocated is zeroed, and not again: flat memory has zeros there
+pub record IsZero (f : Fixed) (lots : List Lot) (s : Step) (rest : List Step) : Type 0 where
+  pub lot : Lot
+  pub hand : IsInHand f lots lot true sides.Lending
+  pub block : Block
+  pub step : s ≡ hart_step (hart_ops.Cbo cbos.Zero block)
+  pub i : ℕ
+  pub entry : Entry
+  pub here : IsEntryOf lots lot i entry
+  pub whole : (x : ℕ) → x / f.size ≡ block.0 → covers entry.span x ≡ true
+  pub once : HasZero lot.id rest block.0 false
+  pub settles : settling lot.id rest ≡ true
+  pub next : LoadsFirst rest
+
+-- a block of it is flushed, behind the zeros
+pub record IsFlush (f : Fixed) (lots : List Lot) (s : Step) (rest : List Step) : Type 0 where
+  pub lot : Lot
+  pub hand : IsInHand f lots lot true sides.Lending
+  pub block : Block
+  pub step : s ≡ hart_step (hart_ops.Cbo cbos.Flush block)
+  pub settles : settling lot.id rest ≡ true
+  pub next : LoadsFirst rest
+
+-- the area that was allocated is its hart's
+pub record IsSettle (f : Fixed) (lots : List Lot) (s : Step) (rest : List Step) : Type 0 where
+  pub lot : Lot
+  pub hand : IsInHand f lots lot true sides.Lending
+  pub step : s ≡ turning (turns.Settle lot.id) (hart_step full)
+  pub over : rest ≡ []
+
+-- an area is its channel's
+pub record IsAreaGive (f : Fixed) (lots : List Lot) (s : Step) (rest : List Step) : Type 0 where
+  pub lot : Lot
+  pub hand : IsInHand f lots lot true sides.Lending
+  pub step : s ≡ turning (turns.Give lot.id) (hart_step full)
+  pub over : rest ≡ []
+
+-- the turn with which an area has come back: it is its hart's, or there is none any more
+abbrev pub IsAreaBack : LotId → Turn → Type 0
+IsAreaBack id turn = (turn ≡ turns.Settle id) ⊎ (turn ≡ turns.End id)
+
+-- an area has come back
+pub record IsTakeBack (f : Fixed) (lots : List Lot) (s : Step) (rest : List Step) : Type 0 where
+  pub lot : Lot
+  pub hand : IsInHand f lots lot true sides.Returning
+  pub turn : Turn
+  pub is_back : IsAreaBack lot.id turn
+  pub step : s ≡ turning turn (hart_step full)
+  pub over : rest ≡ []
+
+-- ---- light fences
+
+-- the step that queues the token of a lot
+abbrev pub token_step : Lot → Step
+token_step lot = hart_step (hart_ops.IoStore (io.Lend lot.id.label lot.id.first (length lot.list.entries)))
+
+-- a marker is queued, behind which the token comes next
+pub record IsMark (f : Fixed) (lots : List Lot) (s : Step) (rest : List Step) : Type 0 where
+  pub lot : Lot
+  pub hand : IsInHand f lots lot (is_area lot.kind) sides.Lending
+  pub light : f.light ≡ true
+  pub step : s ≡ hart_step (hart_ops.Mark 1 4)
+  pub left : rest ≡ token_step lot ∷ []
+
+-- the token is queued, and the plan is over
+pub record IsPost (f : Fixed) (lots : List Lot) (s : Step) (rest : List Step) : Type 0 where
+  pub lot : Lot
+  pub hand : IsInHand f lots lot (is_area lot.kind) sides.Lending
+  pub light : f.light ≡ true
+  pub step : s ≡ token_step lot
+  pub over : rest ≡ []
 
 -- ---- all steps
 
@@ -183,7 +273,18 @@ pub data StepGoes (f : Fixed) (lots : List Lot) (s : Step) (rest : List Step) : 
   Gives : IsGive f lots s rest → StepGoes f lots s rest
   Fences : IsFence f lots s rest → StepGoes f lots s rest
   Ends : IsEnd f lots s rest → StepGoes f lots s rest
+  Zeroes : IsZero f lots s rest → StepGoes f lots s rest
+  Flushes : IsFlush f lots s rest → StepGoes f lots s rest
+  Settles : IsSettle f lots s rest → StepGoes f lots s rest
+  GivesArea : IsAreaGive f lots s rest → StepGoes f lots s rest
+  TakesBack : IsTakeBack f lots s rest → StepGoes f lots s rest
+  Marks : IsMark f lots s rest → StepGoes f lots s rest
+  Posts : IsPost f lots s rest → StepGoes f lots s rest
 
 abbrev pub PlanGoes : Fixed → List Lot → List Step → Type 0
-PlanGoes f lots [] = All IsStill lots
+PlanGoes f lots [] = All (IsStill f) lots
 PlanGoes f lots (s ∷ rest) = StepGoes f lots s rest × PlanGoes f (lots_after s.last lots) rest
+
+-- it ends the stay of the lots of one label alone
+abbrev pub EndsOne : List Step → Type 0
+EndsOne rest = (a b : LotId) → HasEnd a rest → HasEnd b rest → a.label.0 ≡ b.label.0

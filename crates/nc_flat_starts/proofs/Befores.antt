@@ -1,0 +1,182 @@
+-- The lots of a hart just before a turn of one of them, with no plan in hand: what stays beside that lot.
+use Rattle.std.specs.Prelude.{Option, Some, None, All, true, false, slice_get}
+use Rattle.std.specs.List.{list_any}
+use Rattle.std.proofs.Common.{◌≡◌, ℕ, ◌<◌, List, [], length, refl, sym, ap, ◌∙◌, inl, inr, subst, arith}
+use Rattle.std.proofs.lemmas.Bool.{both_ways}
+use Rattle.nc_num.specs.Places.{covers}
+use Rattle.nc_num.specs.declared.names.HartNo.{HartNo}
+use Rattle.nc_num.specs.declared.names.MapId.{MapId}
+use Rattle.nc_num.specs.declared.places.Span.{Span}
+use Rattle.nc_env.specs.declared.CboOp.TheVariants as cbos
+use Rattle.nc_queue.specs.declared.entry.Entry.{Entry as QueueEntry}
+use Rattle.nc_queue.specs.declared.entry.Entry.TheVariants as entries
+use Rattle.nc_model.specs.declared.owners.Owner.{Owner}
+use Rattle.nc_model.specs.declared.owners.Owner.TheVariants.{Thread, Passing, Lending, Device, Returning, Synced, Pool}
+use Rattle.nc_plan.specs.Plans.{In}
+use Rattle.nc_scen.specs.declared.scenario.Scenario.{Scenario}
+use Rattle.nc_rules.specs.declared.lots.Lot.{Lot}
+use Rattle.nc_rules.specs.declared.lots.Side.{Side}
+use Rattle.nc_rules.specs.declared.steps.Step.{Step}
+use Rattle.nc_rules.specs.Lots.{Fixed, is_wanted, owner_of_side}
+use Rattle.nc_rules.specs.Machine.{queue_of}
+use Rattle.nc_rules.specs.Watched.{owner_of}
+use Rattle.nc_rules.specs.World.{WorldState, driver_of}
+use Rattle.nc_scripts.specs.Drivers.{IsLotIn, AreApart}
+use Rattle.nc_scripts.proofs.Lists.{all_to}
+use Rattle.nc_holds.specs.Held.{EntriesAreApart}
+use Rattle.nc_holds.proofs.ListsA.{all_at}
+use Rattle.nc_holds.proofs.OwnerSides.{OthersOwn}
+use Rattle.nc_calls.specs.PlaceLaws.{NotHeld}
+use Rattle.nc_rows.specs.Ahead.{is_full, settling, coming}
+use Rattle.nc_rows.specs.Laws.{seen_at, place_of}
+use Rattle.nc_rows.specs.Rows.{Loan, Book, ahead_of}
+use Rattle.nc_rows.specs.Parts.{IsQueued, IsAllocating, MayBeHeld}
+use Rattle.nc_flatness.specs.Books.{loan_of, book_of, mapping_in}
+use Rattle.nc_flatness.specs.Flatness.{IsMapping, IsStillOrWanted, Flatness}
+use Rattle.nc_flatness.specs.Plans.{IsStill, StillDevice, StillSynced, StillOwn, StillSent}
+use Rattle.nc_flatness.proofs.BookReads.{pool_unheld}
+use Rattle.nc_flatness.proofs.Loans.{IsLoan, lot_of}
+use Rattle.nc_flatness.proofs.Owned.{mapped}
+use Rattle.nc_flat_starts.proofs.Bases.{IsBase, me_of, mapping_first, label_one}
+use Rattle.nc_flat_starts.proofs.Frames.{IsOff, IsRestful}
+use Rattle.nc_flat_starts.proofs.Lots.{loan_in}
+use Rattle.nc_flat_starts.proofs.Sides.{Others}
+
+-- ---- the lots
+
+pub record IsBefore (sc : Scenario) (f : List ℕ) (w : WorldState) (h : HartNo) (lots : List Lot) (lot : Lot) : Type 0 where
+  pub flat : Flatness sc f w
+  pub lt : h.0 < length sc.harts
+  pub me : (driver_of w h.0).fixed.me ≡ h
+  pub there : All (IsLotIn (length w.machine.cache.ram) (driver_of w h.0).fixed) lots
+  pub names : AreApart lots
+  pub apart : EntriesAreApart lots
+  pub theirs : OthersOwn (driver_of w h.0).fixed.me w.owners lot.id lots
+  pub mappings : All (IsMapping (driver_of w h.0).fixed) lots
+  pub here : In lot lots
+  pub loans : (k : MapId) → (k.label.0 ≡ lot.id.label.0 → ⊥) → loan_in (driver_of w h.0).fixed lots k ≡ loan_of (driver_of w h.0) k
+  pub kept : (other : Lot) → In other (driver_of w h.0).lots → is_wanted other.side ≡ false → In other lots
+  pub still : All (IsStillOrWanted (driver_of w h.0).fixed) (driver_of w h.0).lots
+  pub others : Others (IsStill (driver_of w h.0).fixed) lot.id lots
+  pub idle : (driver_of w h.0).rest ≡ []
+
+pub base_before : (sc : Scenario) (f : List ℕ) (w : WorldState) (h : HartNo) (lots : List Lot) (lot : Lot) → IsBase sc f w h lots lot → IsBefore sc f w h lots lot
+base_before sc f w h lots lot b = record {
+  flat = b.flat;
+  lt = b.lt;
+  me = me_of w h b.each.me;
+  there = b.each.knows.lots;
+  names = b.each.knows.names;
+  apart = b.each.mine.apart;
+  theirs = λ other i e x off here on. b.each.mine.owners other i e x here on;
+  mappings = b.mappings;
+  here = b.here;
+  loans = b.loans;
+  kept = b.kept;
+  still = b.still;
+  others = b.others;
+  idle = b.idle;
+}
+
+pub driven : (sc : Scenario) (f : List ℕ) (w : WorldState) (h : HartNo) → Flatness sc f w → h.0 < length sc.harts → h.0 < length w.drivers
+driven sc f w h flat lt = omega (arith, lt, flat.world.of_scenario.harts, flat.world.holds.drivers)
+
+pub its_mapping : (sc : Scenario) (f : List ℕ) (w : WorldState) (h : HartNo) (lots : List Lot) (lot : Lot) → IsBefore sc f w h lots lot → IsMapping (driver_of w h.0).fixed lot
+its_mapping sc f w h lots lot b = all_at (IsMapping (driver_of w h.0).fixed) lots lot b.mappings b.here
+
+pub its_first : (sc : Scenario) (f : List ℕ) (w : WorldState) (h : HartNo) (lots : List Lot) (lot : Lot) → IsBefore sc f w h lots lot → lot.id.first ≡ 0
+its_first sc f w h lots lot b =
+    let fx = (driver_of w h.0).fixed in
+    mapping_first fx.pool lot.kind lot.id lot.list.entries (its_mapping sc f w h lots lot b).kind (all_at (IsLotIn (length w.machine.cache.ram) fx) lots lot b.there b.here).kind
+
+-- one of this label is the lot
+pub its_only : (sc : Scenario) (f : List ℕ) (w : WorldState) (h : HartNo) (lots : List Lot) (lot other : Lot) → IsBefore sc f w h lots lot → In other lots → other.id.label.0 ≡ lot.id.label.0 → other ≡ lot
+its_only sc f w h lots lot other b there same = label_one (length w.machine.cache.ram) (driver_of w h.0).fixed lots other lot b.there b.mappings b.names there b.here same
+
+-- ---- the hart's other mappings
+
+-- the side of a lot that is lent and is not in hand
+pub still_rest : (k : MapId) (f : Fixed) (lot : Lot) → is_wanted lot.side ≡ false → f.light ≡ false → IsStillOrWanted f lot → IsRestful (owner_of_side k lot.side)
+still_rest k f lot lent full (inl (StillDevice is)) = subst (λ (s : Side). IsRestful (owner_of_side k s)) (sym is) tt
+still_rest k f lot lent full (inl (StillSynced is kind)) = subst (λ (s : Side). IsRestful (owner_of_side k s)) (sym is) tt
+still_rest k f lot lent full (inl (StillOwn is kind)) = subst (λ (s : Side). IsRestful (owner_of_side k s)) (sym is) tt
+still_rest k f lot lent full (inl (StillSent is light)) = absurd (both_ways f.light full light)
+still_rest k f lot lent full (inr is) = absurd (both_ways (is_wanted lot.side) lent (ap is_wanted is))
+
+-- of a place beside the lot
+pub mapping_rest : (sc : Scenario) (f : List ℕ) (w : WorldState) (h : HartNo) (x : ℕ) (k : MapId) → Flatness sc f w → All (IsStillOrWanted (driver_of w h.0).fixed) (driver_of w h.0).lots → x < sc.ram → mapping_in (owner_of w x) ≡ Some k → k.hart.0 ≡ h.0 → IsRestful (owner_of w x)
+mapping_rest sc f w h x k flat still there is own =
+    let fx = (driver_of w h.0).fixed in
+    let m = mapped sc f w k x flat there is in
+    let here : In m.is.lot (driver_of w h.0).lots = subst (λ (g : ℕ). In m.is.lot (driver_of w g).lots) own m.is.here.lot_in in
+    subst IsRestful (sym m.owner) (still_rest k fx m.is.lot m.is.lent (lot_of sc f w h.0 m.is.lot flat here).full (all_at (IsStillOrWanted fx) (driver_of w h.0).lots m.is.lot still here))
+
+-- a mapping with a place beside the lot has another label
+pub far_loan : (sc : Scenario) (f : List ℕ) (w : WorldState) (h : HartNo) (lots : List Lot) (lot : Lot) (x : ℕ) (k : MapId) (l : Loan) → IsBefore sc f w h lots lot → IsOff lot x → k.hart.0 ≡ h.0 → IsLoan w k l → covers l.grant.buffer x ≡ true → k.label.0 ≡ lot.id.label.0 → ⊥
+far_loan sc f w h lots lot x k l b off own is on same =
+    let here : In is.lot (driver_of w h.0).lots = subst (λ (g : ℕ). In is.lot (driver_of w g).lots) own is.here.lot_in in
+    let one = its_only sc f w h lots lot is.lot b (b.kept is.lot here is.lent) (is.label ∙ same) in
+    off is.i is.entry (record { entry = subst (λ (j : Lot). slice_get j.list.entries is.i ≡ Some is.entry) one is.here.entry; on = subst (λ (s : Span). covers s x ≡ true) is.buffer on })
+
+pub far_mapping : (sc : Scenario) (f : List ℕ) (w : WorldState) (h : HartNo) (lots : List Lot) (lot : Lot) (x : ℕ) (k : MapId) → IsBefore sc f w h lots lot → x < sc.ram → IsOff lot x → mapping_in (owner_of w x) ≡ Some k → k.hart.0 ≡ h.0 → k.label.0 ≡ lot.id.label.0 → ⊥
+far_mapping sc f w h lots lot x k b there off is own =
+    let m = mapped sc f w k x b.flat there is in
+    far_loan sc f w h lots lot x k m.loan b off own m.is m.on
+
+-- what the book knows of a mapping of the hart
+pub known_here : (w : WorldState) (h : HartNo) (k : MapId) (l : Loan) → k.hart.0 ≡ h.0 → (book_of w).loan k ≡ Some l → loan_of (driver_of w h.0) k ≡ Some l
+known_here w h k l own known = ap (λ (g : ℕ). loan_of (driver_of w g) k) (sym own) ∙ known
+
+-- ---- with nothing to come
+
+-- no invalidate and no zero of the hart is queued that its mappings or areas tell, whatever its owners and mappings become
+pub queue_idle : (w : WorldState) (h : HartNo) (c : Book) (owner : ℕ → Owner) (pool : Span) (s : ℕ) (e : QueueEntry) → (book_of w).rest h.0 ≡ [] → IsQueued (book_of w) (owner_of w) pool s h.0 e → IsQueued c owner pool s h.0 e
+queue_idle w h c owner pool s (entries.Store span bytes kind) idle is = is
+queue_idle w h c owner pool s (entries.Cbo block cbos.Clean) idle is = tt
+queue_idle w h c owner pool s (entries.Cbo block cbos.Flush) idle is = tt
+queue_idle w h c owner pool s (entries.Cbo block cbos.Inval) idle is =
+    let rest : (book_of w).rest is.id.hart.0 ≡ [] = ap (λ (g : ℕ). (book_of w).rest g) is.own ∙ idle in
+    absurd (both_ways (list_any is_full (ahead_of (book_of w) is.id is.loan)) (ap (λ (ss : List Step). list_any is_full (coming is.id is.loan.lot ss)) rest) is.ahead)
+queue_idle w h c owner pool s (entries.Cbo block cbos.Zero) idle (inl beside) = inl beside
+queue_idle w h c owner pool s (entries.Cbo block cbos.Zero) idle (inr is) =
+    let rest : (book_of w).rest is.id.hart.0 ≡ [] = ap (λ (g : ℕ). (book_of w).rest g) is.own ∙ idle in
+    absurd (both_ways (settling is.loan.lot ((book_of w).rest is.id.hart.0)) (ap (settling is.loan.lot) rest) is.ahead)
+queue_idle w h c owner pool s (entries.Reg chan off width value) idle is = tt
+queue_idle w h c owner pool s (entries.Mail buf to) idle is = tt
+queue_idle w h c owner pool s (entries.Lend label first count) idle is = tt
+queue_idle w h c owner pool s (entries.Mark pred succ) idle is = tt
+
+pub all_idle : (sc : Scenario) (f : List ℕ) (w : WorldState) (h : HartNo) (c : Book) (owner : ℕ → Owner) → Flatness sc f w → (driver_of w h.0).rest ≡ [] → All (IsQueued c owner w.machine.pool w.machine.size h.0) (queue_of w.machine h.0)
+all_idle sc f w h c owner flat idle =
+    let m = w.machine in
+    all_to (IsQueued (book_of w) (owner_of w) m.pool m.size h.0) (IsQueued c owner m.pool m.size h.0) (queue_of m h.0) (flat.bytes.queued h.0) (λ e is. queue_idle w h c owner m.pool m.size e idle is)
+
+-- no area of it is being allocated
+unallocated : (a : Book) (n : MapId) (o : Option Loan) → a.rest n.hart.0 ≡ [] → IsAllocating a n o → ⊥
+unallocated a n None idle is = is
+unallocated a n (Some l) idle is = both_ways (settling l.lot (a.rest n.hart.0)) (ap (settling l.lot) idle) is.1
+
+none_held : (a : Book) (o : Owner) → ((k : MapId) → mapping_in o ≡ Some k → a.rest k.hart.0 ≡ []) → MayBeHeld a o → ⊥
+none_held a (Lending n) idle may = unallocated a n (a.loan n) (idle n refl) may
+none_held a (Thread h) idle may = may
+none_held a (Passing h g) idle may = may
+none_held a (Device n) idle may = may
+none_held a (Returning n) idle may = may
+none_held a (Synced n) idle may = may
+none_held a Pool idle may = may
+
+-- so no copy is there of a place of the pool that is no other hart's
+pub idle_free : (sc : Scenario) (f : List ℕ) (w : WorldState) (h : HartNo) (x : ℕ) → Flatness sc f w → (driver_of w h.0).rest ≡ [] → ((k : MapId) → mapping_in (owner_of w x) ≡ Some k → k.hart.0 ≡ h.0) → covers w.machine.pool x ≡ true → NotHeld w.machine x
+idle_free sc f w h x flat idle mine over = pool_unheld sc f w x flat over (none_held (book_of w) (owner_of w x) (λ k is. ap (λ (g : ℕ). (driver_of w g).rest) (mine k is) ∙ idle))
+
+-- ---- where places are seen
+
+-- a place of an owner whose mapping stays is seen where it was
+pub seen_aside : (a c : Book) (o : Owner) (x : ℕ) → ((k : MapId) → mapping_in o ≡ Some k → c.loan k ≡ a.loan k) → seen_at c o x ≡ seen_at a o x
+seen_aside a c (Lending n) x same = ap (λ (l : Option Loan). place_of l x) (same n refl)
+seen_aside a c (Device n) x same = ap (λ (l : Option Loan). place_of l x) (same n refl)
+seen_aside a c (Returning n) x same = ap (λ (l : Option Loan). place_of l x) (same n refl)
+seen_aside a c (Synced n) x same = refl
+seen_aside a c (Thread h) x same = refl
+seen_aside a c (Passing h g) x same = refl
+seen_aside a c Pool x same = refl

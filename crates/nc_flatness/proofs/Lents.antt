@@ -1,0 +1,342 @@
+-- The drain of a token: the lot is its channel's, and what its hart's driver is still to do goes on as it stood.
+use Rattle.std.proofs.Common.{◌≡◌, ℕ, cond, Bool, true, false, List, [], ◌∷◌, refl, sym, ap, ◌∙◌, inl, inr, subst, Option, Some, None}
+use Rattle.std.specs.Prelude.{◌⊎◌, ◌==◌, not, All, filter}
+use Rattle.std.specs.List.{list_any}
+use Rattle.std.proofs.lemmas.Bool.{and_parts, and_from, or_parts, or_left, cond-true, cond-false, eqb-true, eq-eqb, false_from_ne_true, false≢true}
+use Rattle.std.proofs.lemmas.List.Elements.{All-nil, All-cons, All-head, All-tail}
+use Rattle.nc_num.specs.declared.places.Span.{Span}
+use Rattle.nc_plan.specs.Plans.{In}
+use Rattle.nc_sg.specs.declared.list.Entry.{Entry as Range}
+use Rattle.nc_ops.specs.declared.ops.Op.{Op}
+use Rattle.nc_ops.specs.declared.ops.Op.TheVariants as ops
+use Rattle.nc_rules.specs.declared.lots.Lot.{Lot}
+use Rattle.nc_rules.specs.declared.lots.LotId.{LotId}
+use Rattle.nc_rules.specs.declared.lots.Side.{Side}
+use Rattle.nc_rules.specs.declared.lots.Side.TheVariants as sides
+use Rattle.nc_rules.specs.declared.steps.Phase.{Phase}
+use Rattle.nc_rules.specs.declared.steps.Phase.TheVariants.{Steps, Search, Work}
+use Rattle.nc_rules.specs.declared.steps.Step.{Step}
+use Rattle.nc_rules.specs.declared.steps.Turn.{Turn}
+use Rattle.nc_rules.specs.declared.steps.Turn.TheVariants as turns
+use Rattle.nc_rules.specs.Driver.{DriverState, in_hand, with_lots}
+use Rattle.nc_rules.specs.Lots.{Fixed, is_lot}
+use Rattle.nc_rules.specs.Turns.{is_area, with_side, set_side, lots_after}
+use Rattle.nc_scripts.proofs.Lists.{all_filtered}
+use Rattle.nc_holds.specs.Held.{IsEntryOf}
+use Rattle.nc_holds.proofs.ListsA.{all_at}
+use Rattle.nc_rows.specs.Ahead.{same_lot, turns_lot, stores_io, tokens_lot, ends}
+use Rattle.nc_flatness.specs.Plans.{IsStill, StillDevice, IsInHand, HasEnd, GoesIn, ComesOut, IsCopied, token_step, StepGoes, Loads, Stores, WritesBack, Drops, Gives, Fences, Ends, Zeroes, Flushes, Settles, GivesArea, TakesBack, Marks, Posts, PlanGoes}
+use Rattle.nc_flatness.specs.Flatness.{IsMapping, IsStillOrMade, PlanLeft, PlanIs, PlanOf, StandsAt, Drives}
+use Rattle.nc_flatness.proofs.Rests.{kept_in, settling_ends, same_id, behind, by_turn, by_token}
+
+-- ---- a side that lots of a name get
+
+pub all_sided : (P Q : Lot → Type 0) (side : Side) (id : LotId) (lots : List Lot) → All P lots → ((lot : Lot) → P lot → is_lot id lot ≡ true → Q (record lot { side = side })) → ((lot : Lot) → P lot → is_lot id lot ≡ false → Q lot) → All Q (set_side side id lots)
+all_sided P Q side id [] all hit miss = All-nil Q
+all_sided P Q side id (lot ∷ lots) all hit miss =
+    All-cons Q (with_side side id lot) (set_side side id lots) (one (is_lot id lot) refl (All-head P lot lots all)) (all_sided P Q side id lots (All-tail P lot lots all) hit miss)
+  where
+    one : (t : Bool) → is_lot id lot ≡ t → P lot → Q (with_side side id lot)
+    one true is p = subst Q (sym (cond-true (is_lot id lot) (record lot { side = side }) lot is)) (hit lot p is)
+    one false is p = subst Q (sym (cond-false (is_lot id lot) (record lot { side = side }) lot is)) (miss lot p is)
+
+-- each lot stays a mapping
+pub sides_mapping : (f : Fixed) (side : Side) (id : LotId) (lots : List Lot) → All (IsMapping f) lots → All (IsMapping f) (set_side side id lots)
+sides_mapping f side id lots all = all_sided (IsMapping f) (IsMapping f) side id lots all (λ lot is hit. record { kind = is.kind; full = is.full }) (λ lot is miss. is)
+
+-- ---- the channel has it
+
+abbrev pub lent : LotId → List Lot → List Lot
+lent id lots = set_side sides.Device id lots
+
+still_lent : (f : Fixed) (id : LotId) (lots : List Lot) → All (IsStill f) lots → All (IsStill f) (lent id lots)
+still_lent f id lots all = all_sided (IsStill f) (IsStill f) sides.Device id lots all (λ lot is hit. StillDevice refl) (λ lot is miss. is)
+
+hand_lent : (f : Fixed) (lots : List Lot) (lot : Lot) (area : Bool) (side : Side) (id : LotId) → IsInHand f lots lot area side → is_lot id lot ≡ false → IsInHand f (lent id lots) lot area side
+hand_lent f lots lot area side id hand off = record {
+  here = kept_in sides.Device id lots lot off hand.here;
+  area_is = hand.area_is;
+  side_is = hand.side_is;
+  others = all_sided (λ (o : Lot). is_lot lot.id o ≡ false → IsStill f o) (λ (o : Lot). is_lot lot.id o ≡ false → IsStill f o) sides.Device id lots hand.others (λ o is hit named. StillDevice refl) (λ o is miss. is);
+}
+
+entry_lent : (lots : List Lot) (lot : Lot) (i : ℕ) (e : Range) (id : LotId) → IsEntryOf lots lot i e → is_lot id lot ≡ false → IsEntryOf (lent id lots) lot i e
+entry_lent lots lot i e id here off = record { lot_in = kept_in sides.Device id lots lot off here.lot_in; entry = here.entry }
+
+way_lent : (f : Fixed) (lots : List Lot) (lot : Lot) (e : Range) (rest : List Step) (from to : Span) (id : LotId) → GoesIn f lots lot e rest from to ⊎ ComesOut f lots lot e rest from to → is_lot id lot ≡ false
+    → GoesIn f (lent id lots) lot e rest from to ⊎ ComesOut f (lent id lots) lot e rest from to
+way_lent f lots lot e rest from to id (inl goes) off = inl (record { hand = hand_lent f lots lot false sides.Lending id goes.hand off; later = goes.later; from_is = goes.from_is; to_is = goes.to_is })
+way_lent f lots lot e rest from to id (inr comes) off =
+    inr (record { hand = hand_lent f lots lot false sides.Returning id comes.hand off; back = comes.back; fenced = comes.fenced; from_is = comes.from_is; to_is = comes.to_is })
+
+-- ---- a step, of another lot
+
+-- the lot that a step is of is taken back, or lent with its end still to come
+abbrev IsMoving : List Step → Lot → Type 0
+IsMoving steps lot = ((lot.side ≡ sides.Lending) × HasEnd lot.id steps) ⊎ (lot.side ≡ sides.Returning)
+
+abbrev IsApart : LotId → List Lot → List Step → Type 0
+IsApart id lots steps = (lot : Lot) → In lot lots → IsMoving steps lot → is_lot id lot ≡ false
+
+copied_apart : (f : Fixed) (lots : List Lot) (s : Step) (rest : List Step) (from to : Span) (id : LotId) → (c : IsCopied f lots rest from to) → IsApart id lots (s ∷ rest) → is_lot id c.lot ≡ false
+copied_apart f lots s rest from to id c apart = elim c.way [
+  | inl goes ↦ apart c.lot c.here.lot_in (inl (goes.hand.side_is, behind c.lot.id s rest goes.later))
+  | inr comes ↦ apart c.lot c.here.lot_in (inr comes.hand.side_is)
+]
+
+step_lent : (f : Fixed) (lots : List Lot) (s : Step) (rest : List Step) (id : LotId) → StepGoes f lots s rest → IsApart id lots (s ∷ rest) → StepGoes f (lent id lots) s rest
+step_lent f lots s rest id (Loads is) apart =
+    let c = is.copied in
+    let off = copied_apart f lots s rest is.from is.to id c apart in
+    Loads (record {
+      from = is.from;
+      to = is.to;
+      copied = record { lot = c.lot; i = c.i; entry = c.entry; here = entry_lent lots c.lot c.i c.entry id c.here off; bounced = c.bounced; way = way_lent f lots c.lot c.entry rest is.from is.to id c.way off };
+      span = is.span;
+      step = is.step;
+      within = is.within;
+      next = is.next;
+    })
+step_lent f lots s rest id (Stores is) apart =
+    let c = is.copied in
+    let off = copied_apart f lots s rest is.from is.to id c apart in
+    Stores (record {
+      from = is.from;
+      to = is.to;
+      copied = record { lot = c.lot; i = c.i; entry = c.entry; here = entry_lent lots c.lot c.i c.entry id c.here off; bounced = c.bounced; way = way_lent f lots c.lot c.entry rest is.from is.to id c.way off };
+      span = is.span;
+      act = is.act;
+      first = is.first;
+      within = is.within;
+      once = is.once;
+      next = is.next;
+      last = is.last;
+    })
+step_lent f lots s rest id (WritesBack is) apart =
+    let off = apart is.lot is.hand.here (inl (is.hand.side_is, behind is.lot.id s rest is.later)) in
+    WritesBack (record { lot = is.lot; hand = hand_lent f lots is.lot false sides.Lending id is.hand off; op = is.op; block = is.block; step = is.step; writes = is.writes; later = is.later; next = is.next })
+step_lent f lots s rest id (Drops is) apart =
+    let off = apart is.lot is.hand.here (inr is.hand.side_is) in
+    Drops (record {
+      lot = is.lot;
+      hand = hand_lent f lots is.lot false sides.Returning id is.hand off;
+      back = is.back;
+      op = is.op;
+      block = is.block;
+      step = is.step;
+      drops = is.drops;
+      i = is.i;
+      entry = is.entry;
+      here = entry_lent lots is.lot is.i is.entry id is.here off;
+      place = is.place;
+      covered = is.covered;
+      met = is.met;
+      ahead = is.ahead;
+      next = is.next;
+    })
+step_lent f lots s rest id (Gives is) apart =
+    let off = apart is.lot is.hand.here (inl (is.hand.side_is, by_turn is.lot.id s rest (turns.Give is.lot.id) (ap (λ (t : Step). t.last) is.step) (same_id is.lot.id))) in
+    Gives (record { lot = is.lot; hand = hand_lent f lots is.lot false sides.Lending id is.hand off; step = is.step; over = is.over })
+step_lent f lots s rest id (Fences is) apart =
+    let off = apart is.lot is.hand.here (inr is.hand.side_is) in
+    Fences (record {
+      lot = is.lot;
+      hand = hand_lent f lots is.lot false sides.Returning id is.hand off;
+      step = is.step;
+      only = is.only;
+      next = is.next;
+      out = λ i e x here bounced back on. is.out i e x (record { lot_in = is.hand.here; entry = here.entry }) bounced back on;
+    })
+step_lent f lots s rest id (Ends is) apart =
+    let off = apart is.lot is.hand.here (inr is.hand.side_is) in
+    Ends (record { lot = is.lot; hand = hand_lent f lots is.lot false sides.Returning id is.hand off; turn = is.turn; is_back = is.is_back; step = is.step; over = is.over; straight = is.straight })
+step_lent f lots s rest id (Zeroes is) apart =
+    let off = apart is.lot is.hand.here (inl (is.hand.side_is, behind is.lot.id s rest (settling_ends is.lot.id rest is.settles))) in
+    Zeroes (record {
+      lot = is.lot;
+      hand = hand_lent f lots is.lot true sides.Lending id is.hand off;
+      block = is.block;
+      step = is.step;
+      i = is.i;
+      entry = is.entry;
+      here = entry_lent lots is.lot is.i is.entry id is.here off;
+      whole = is.whole;
+      once = is.once;
+      settles = is.settles;
+      next = is.next;
+    })
+step_lent f lots s rest id (Flushes is) apart =
+    let off = apart is.lot is.hand.here (inl (is.hand.side_is, behind is.lot.id s rest (settling_ends is.lot.id rest is.settles))) in
+    Flushes (record { lot = is.lot; hand = hand_lent f lots is.lot true sides.Lending id is.hand off; block = is.block; step = is.step; settles = is.settles; next = is.next })
+step_lent f lots s rest id (Settles is) apart =
+    let off = apart is.lot is.hand.here (inl (is.hand.side_is, by_turn is.lot.id s rest (turns.Settle is.lot.id) (ap (λ (t : Step). t.last) is.step) (same_id is.lot.id))) in
+    Settles (record { lot = is.lot; hand = hand_lent f lots is.lot true sides.Lending id is.hand off; step = is.step; over = is.over })
+step_lent f lots s rest id (GivesArea is) apart =
+    let off = apart is.lot is.hand.here (inl (is.hand.side_is, by_turn is.lot.id s rest (turns.Give is.lot.id) (ap (λ (t : Step). t.last) is.step) (same_id is.lot.id))) in
+    GivesArea (record { lot = is.lot; hand = hand_lent f lots is.lot true sides.Lending id is.hand off; step = is.step; over = is.over })
+step_lent f lots s rest id (TakesBack is) apart =
+    let off = apart is.lot is.hand.here (inr is.hand.side_is) in
+    TakesBack (record { lot = is.lot; hand = hand_lent f lots is.lot true sides.Returning id is.hand off; turn = is.turn; is_back = is.is_back; step = is.step; over = is.over })
+step_lent f lots s rest id (Marks is) apart =
+    let ended : HasEnd is.lot.id rest = ap (list_any (ends is.lot.id)) is.left ∙ or_left (ends is.lot.id (token_step is.lot)) false (by_token is.lot) in
+    let off = apart is.lot is.hand.here (inl (is.hand.side_is, behind is.lot.id s rest ended)) in
+    Marks (record { lot = is.lot; hand = hand_lent f lots is.lot (is_area is.lot.kind) sides.Lending id is.hand off; light = is.light; step = is.step; left = is.left })
+step_lent f lots s rest id (Posts is) apart =
+    let ended : HasEnd is.lot.id (s ∷ rest) = or_left (ends is.lot.id s) (list_any (ends is.lot.id) rest) (ap (ends is.lot.id) is.step ∙ by_token is.lot) in
+    let off = apart is.lot is.hand.here (inl (is.hand.side_is, ended)) in
+    Posts (record { lot = is.lot; hand = hand_lent f lots is.lot (is_area is.lot.kind) sides.Lending id is.hand off; light = is.light; step = is.step; over = is.over })
+
+-- ---- a turn of another lot
+
+named_both : (id to : LotId) (lot : Lot) → is_lot id lot ≡ true → is_lot to lot ≡ true → same_lot id to ≡ true
+named_both id to lot a b =
+    let p = and_parts (lot.id.label.0 == id.label.0) (lot.id.first == id.first) a in
+    let q = and_parts (lot.id.label.0 == to.label.0) (lot.id.first == to.first) b in
+    and_from (id.label.0 == to.label.0) (id.first == to.first)
+    (eq-eqb id.label.0 to.label.0 (sym (eqb-true lot.id.label.0 id.label.0 p.0) ∙ eqb-true lot.id.label.0 to.label.0 q.0))
+    (eq-eqb id.first to.first (sym (eqb-true lot.id.first id.first p.1) ∙ eqb-true lot.id.first to.first q.1))
+
+hit : (side : Side) (id : LotId) (lot : Lot) → is_lot id lot ≡ true → with_side side id lot ≡ record lot { side = side }
+hit side id lot is = cond-true (is_lot id lot) (record lot { side = side }) lot is
+
+miss : (side : Side) (id : LotId) (lot : Lot) → is_lot id lot ≡ false → with_side side id lot ≡ lot
+miss side id lot off = cond-false (is_lot id lot) (record lot { side = side }) lot off
+
+sided_twice : (side : Side) (id to : LotId) (lot : Lot) (a b : Bool) → is_lot id lot ≡ a → is_lot to lot ≡ b → same_lot id to ≡ false → with_side side to (with_side sides.Device id lot) ≡ with_side sides.Device id (with_side side to lot)
+sided_twice side id to lot true true e d off = absurd (false≢true (sym off ∙ named_both id to lot e d))
+sided_twice side id to lot true false e d off =
+    let here = hit sides.Device id lot e in
+    let there = miss side to lot d in
+    ap (with_side side to) here ∙ miss side to (record lot { side = sides.Device }) d ∙ sym (ap (with_side sides.Device id) there ∙ here)
+sided_twice side id to lot false true e d off =
+    let here = miss sides.Device id lot e in
+    let there = hit side to lot d in
+    ap (with_side side to) here ∙ there ∙ sym (ap (with_side sides.Device id) there ∙ miss sides.Device id (record lot { side = side }) e)
+sided_twice side id to lot false false e d off =
+    let here = miss sides.Device id lot e in
+    let there = miss side to lot d in
+    ap (with_side side to) here ∙ there ∙ sym (ap (with_side sides.Device id) there ∙ here)
+
+sides_twice : (side : Side) (id to : LotId) (lots : List Lot) → same_lot id to ≡ false → set_side side to (lent id lots) ≡ lent id (set_side side to lots)
+sides_twice side id to [] off = refl
+sides_twice side id to (lot ∷ lots) off =
+    ap (λ (k : Lot). k ∷ set_side side to (lent id lots)) (sided_twice side id to lot (is_lot id lot) (is_lot to lot) refl refl off)
+    ∙ ap (λ (ls : List Lot). with_side sides.Device id (with_side side to lot) ∷ ls) (sides_twice side id to lots off)
+
+named_sided : (id to : LotId) (lot : Lot) (t : Bool) → is_lot id lot ≡ t → is_lot to (with_side sides.Device id lot) ≡ is_lot to lot
+named_sided id to lot true e = rw e refl
+named_sided id to lot false e = rw e refl
+
+left_by : (id to : LotId) (lot : Lot) (lots more : List Lot) (t : Bool) → lots ≡ lent id more → cond t (with_side sides.Device id lot ∷ lots) lots ≡ lent id (cond t (lot ∷ more) more)
+left_by id to lot lots more true e = ap (λ (ls : List Lot). with_side sides.Device id lot ∷ ls) e
+left_by id to lot lots more false e = e
+
+left_twice : (id to : LotId) (lots : List Lot) → filter (λ lot. not (is_lot to lot)) (lent id lots) ≡ lent id (filter (λ lot. not (is_lot to lot)) lots)
+left_twice id to [] = refl
+left_twice id to (lot ∷ lots) =
+    let left = filter (λ (l : Lot). not (is_lot to l)) (lent id lots) in
+    ap (λ (t : Bool). cond (not t) (with_side sides.Device id lot ∷ left) left) (named_sided id to lot (is_lot id lot) refl)
+    ∙ left_by id to lot left (filter (λ (l : Lot). not (is_lot to l)) lots) (not (is_lot to lot)) (left_twice id to lots)
+
+pub turn_lent : (id : LotId) (t : Turn) (lots : List Lot) → turns_lot id t ≡ false → lots_after t (lent id lots) ≡ lent id (lots_after t lots)
+turn_lent id turns.Stay lots off = refl
+turn_lent id (turns.Pass range to) lots off = refl
+turn_lent id (turns.Own range) lots off = refl
+turn_lent id (turns.Lend to) lots off = sides_twice sides.Lending id to lots off
+turn_lent id (turns.Give to) lots off = sides_twice sides.Device id to lots off
+turn_lent id (turns.Return to) lots off = sides_twice sides.Returning id to lots off
+turn_lent id (turns.Sync to) lots off = sides_twice sides.Synced id to lots off
+turn_lent id (turns.Settle to) lots off = sides_twice sides.Own id to lots off
+turn_lent id (turns.End to) lots off = left_twice id to lots
+
+-- the lots of a name are being lent
+abbrev pub AreLending : LotId → List Lot → Type 0
+AreLending id lots = All (λ lot. is_lot id lot ≡ true → lot.side ≡ sides.Lending) lots
+
+lending_sided : (side : Side) (id to : LotId) (lots : List Lot) → same_lot id to ≡ false → AreLending id lots → AreLending id (set_side side to lots)
+lending_sided side id to lots off all =
+    all_sided (λ (lot : Lot). is_lot id lot ≡ true → lot.side ≡ sides.Lending) (λ (lot : Lot). is_lot id lot ≡ true → lot.side ≡ sides.Lending) side to lots all
+    (λ lot is hit named. absurd (false≢true (sym off ∙ named_both id to lot named hit))) (λ lot is miss. is)
+
+turn_lending : (id : LotId) (t : Turn) (lots : List Lot) → turns_lot id t ≡ false → AreLending id lots → AreLending id (lots_after t lots)
+turn_lending id turns.Stay lots off all = all
+turn_lending id (turns.Pass range to) lots off all = all
+turn_lending id (turns.Own range) lots off all = all
+turn_lending id (turns.Lend to) lots off all = lending_sided sides.Lending id to lots off all
+turn_lending id (turns.Give to) lots off all = lending_sided sides.Device id to lots off all
+turn_lending id (turns.Return to) lots off all = lending_sided sides.Returning id to lots off all
+turn_lending id (turns.Sync to) lots off all = lending_sided sides.Synced id to lots off all
+turn_lending id (turns.Settle to) lots off all = lending_sided sides.Own id to lots off all
+turn_lending id (turns.End to) lots off all =
+    all_filtered (λ (lot : Lot). is_lot id lot ≡ true → lot.side ≡ sides.Lending) (λ (lot : Lot). is_lot id lot ≡ true → lot.side ≡ sides.Lending) (λ lot. not (is_lot to lot)) lots all (λ lot is stays. is)
+
+-- ---- what is left of a plan
+
+named_id : (id : LotId) (lot : Lot) → is_lot id lot ≡ true → lot.id ≡ id
+named_id id lot is =
+    let both = and_parts (lot.id.label.0 == id.label.0) (lot.id.first == id.first) is in
+    let label : lot.id.label.0 ≡ id.label.0 = eqb-true lot.id.label.0 id.label.0 both.0 in
+    let first : lot.id.first ≡ id.first = eqb-true lot.id.first id.first both.1 in
+    λ i. record { label = record { 0 = label i }; first = first i }
+
+moves_apart : (id : LotId) (lots : List Lot) (steps : List Step) → list_any (ends id) steps ≡ false → AreLending id lots → IsApart id lots steps
+moves_apart id lots steps none all lot here (inl lends) =
+    false_from_ne_true (is_lot id lot) (λ named. false≢true (sym none ∙ subst (λ (k : LotId). HasEnd k steps) (named_id id lot named) lends.1))
+moves_apart id lots steps none all lot here (inr returns) =
+    false_from_ne_true (is_lot id lot) (λ named. let both : sides.Returning ≡ sides.Lending = sym returns ∙ all_at (λ (l : Lot). is_lot id l ≡ true → l.side ≡ sides.Lending) lots lot all here named in absurd (cc))
+
+pub plan_lent : (f : Fixed) (lots : List Lot) (rest : List Step) (id : LotId) → PlanGoes f lots rest → list_any (ends id) rest ≡ false → AreLending id lots → PlanGoes f (lent id lots) rest
+plan_lent f lots [] id goes none all = still_lent f id lots goes
+plan_lent f lots (s ∷ rest) id goes none all =
+    let off = or_parts (ends id s) (list_any (ends id) rest) none in
+    let turn = (or_parts (turns_lot id s.last) (stores_io (tokens_lot id) s.act) off.0).0 in
+    let more = plan_lent f (lots_after s.last lots) rest id goes.1 off.1 (turn_lending id s.last lots turn all) in
+    (step_lent f lots s rest id goes.0 (moves_apart id lots (s ∷ rest) none all), subst (λ (ls : List Lot). PlanGoes f ls rest) (sym (turn_lent id s.last lots turn)) more)
+
+-- ---- the driver
+
+abbrev now : DriverState → LotId → DriverState
+now d id = with_lots d (lent id d.lots)
+
+left_lent : (d : DriverState) (id : LotId) → list_any (ends id) d.rest ≡ false → AreLending id d.lots → PlanLeft d → PlanLeft (now d id)
+left_lent d id none all left = record { goes = plan_lent d.fixed d.lots d.rest id left.goes none all; one = left.one }
+
+op_lent : (d : DriverState) (o : Op) (id : LotId) → list_any (ends id) d.rest ≡ false → AreLending id d.lots → PlanIs d o → PlanIs (now d id) o
+op_lent d (ops.Hand buf to) id none all is = record { left = is.left; still = still_lent d.fixed id d.lots is.still }
+op_lent d (ops.Map label buf off len dir chan) id none all is = left_lent d id none all is
+op_lent d (ops.Unmap label) id none all is = left_lent d id none all is
+op_lent d (ops.ToCpu label) id none all is = left_lent d id none all is
+op_lent d (ops.ToDev label) id none all is = left_lent d id none all is
+op_lent d (ops.MapSg label entries dir chan) id none all is = left_lent d id none all is
+op_lent d (ops.UnmapSg label count) id none all is = left_lent d id none all is
+op_lent d (ops.Calloc label pages chan) id none all is = left_lent d id none all is
+op_lent d (ops.Cgive label) id none all is = left_lent d id none all is
+op_lent d (ops.Ctake label) id none all is = left_lent d id none all is
+op_lent d (ops.Cfree label) id none all is = left_lent d id none all is
+op_lent d (ops.Ld spot off len) id none all is = absurd is
+op_lent d (ops.St spot off bytes) id none all is = absurd is
+op_lent d (ops.Cbo op buf off) id none all is = absurd is
+op_lent d (ops.Fence pred succ) id none all is = absurd is
+op_lent d (ops.Take buf) id none all is = absurd is
+op_lent d (ops.Claim chan) id none all is = absurd is
+op_lent d (ops.Free chan) id none all is = absurd is
+op_lent d (ops.Regs chan src dst len cfg) id none all is = absurd is
+op_lent d (ops.Run chan) id none all is = absurd is
+op_lent d (ops.Poll chan) id none all is = absurd is
+op_lent d (ops.Regr chan off width) id none all is = absurd is
+op_lent d (ops.Regw chan off width value) id none all is = absurd is
+op_lent d (ops.Copy chan src src_off dst dst_off len cfg) id none all is = absurd is
+
+hand_of_lent : (d : DriverState) (o : Option Op) (id : LotId) → list_any (ends id) d.rest ≡ false → AreLending id d.lots → PlanOf d o → PlanOf (now d id) o
+hand_of_lent d None id none all is = absurd is
+hand_of_lent d (Some o) id none all is = op_lent d o id none all is
+
+phase_lent : (d : DriverState) (p : Phase) (id : LotId) → list_any (ends id) d.rest ≡ false → AreLending id d.lots → StandsAt d p → StandsAt (now d id) p
+phase_lent d (Steps n) id none all is = still_lent d.fixed id d.lots is
+phase_lent d (Search k) id none all is =
+    all_sided (IsStillOrMade d.fixed (in_hand d)) (IsStillOrMade d.fixed (in_hand d)) sides.Device id d.lots is (λ lot made hit. inl (StillDevice refl)) (λ lot made miss. made)
+phase_lent d Work id none all is = hand_of_lent d (in_hand d) id none all is
+
+-- a lot of which the rest has no end, and which is being lent, is given
+pub drives_lent : (d : DriverState) (id : LotId) → list_any (ends id) d.rest ≡ false → AreLending id d.lots → Drives d → Drives (with_lots d (lots_after (turns.Give id) d.lots))
+drives_lent d id none all is = record { lots = sides_mapping d.fixed sides.Device id d.lots is.lots; stands = phase_lent d d.phase id none all is.stands; idle = is.idle }
