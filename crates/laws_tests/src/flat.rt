@@ -1,6 +1,6 @@
-//! What no clause says: that the laws are ones that a call meets.
+//! Each law of flat memory is called.
 
-use nc_flat::{events_keep_flat, kept_law, latest_law, runs_keep_flat};
+use nc_flat::{events_keep_flat, kept_law, latest_law, runs_keep_flat, uncached_law};
 use nc_flatness::{start_is_flat, worlds_start, worlds_stay};
 
 #[test]
@@ -12,4 +12,5 @@ fn laws_are_called() {
     runs_keep_flat();
     latest_law();
     kept_law();
+    uncached_law();
 }
