@@ -2,7 +2,7 @@
 use Rattle.std.proofs.Common.{◌≡◌, ℕ, cond, Bool, true, false, List, [], ◌∷◌, refl, sym, ap, ◌∙◌, inl, inr, subst, Option, Some, None}
 use Rattle.std.specs.Prelude.{◌⊎◌, ◌==◌, not, All, filter}
 use Rattle.std.specs.List.{list_any}
-use Rattle.std.proofs.lemmas.Bool.{and_parts, and_from, or_parts, or_left, or_right, cond-true, cond-false, eqb-true, eq-eqb, false_from_ne_true, false≢true}
+use Rattle.std.proofs.lemmas.Bool.{and_parts, and_from, or_parts, or_left, cond-true, cond-false, eqb-true, eq-eqb, false_from_ne_true, false≢true}
 use Rattle.std.proofs.lemmas.List.Elements.{All-nil, All-cons, All-head, All-tail}
 use Rattle.nc_num.specs.declared.places.Span.{Span}
 use Rattle.nc_plan.specs.Plans.{In}
@@ -27,7 +27,7 @@ use Rattle.nc_holds.proofs.ListsA.{all_at}
 use Rattle.nc_rows.specs.Ahead.{same_lot, turns_lot, stores_io, tokens_lot, ends}
 use Rattle.nc_flatness.specs.Plans.{IsStill, StillDevice, IsInHand, HasEnd, GoesIn, ComesOut, IsCopied, token_step, StepGoes, Loads, Stores, WritesBack, Drops, Gives, Fences, Ends, Zeroes, Flushes, Settles, GivesArea, TakesBack, Marks, Posts, PlanGoes}
 use Rattle.nc_flatness.specs.Flatness.{IsMapping, IsStillOrMade, PlanLeft, PlanIs, PlanOf, StandsAt, Drives}
-use Rattle.nc_flatness.proofs.Rests.{kept_in, settling_ends}
+use Rattle.nc_flatness.proofs.Rests.{kept_in, settling_ends, same_id, behind, by_turn, by_token}
 
 -- ---- a side that lots of a name get
 
@@ -77,18 +77,6 @@ IsMoving steps lot = ((lot.side ≡ sides.Lending) × HasEnd lot.id steps) ⊎ (
 
 abbrev IsApart : LotId → List Lot → List Step → Type 0
 IsApart id lots steps = (lot : Lot) → In lot lots → IsMoving steps lot → is_lot id lot ≡ false
-
-same_self : (id : LotId) → same_lot id id ≡ true
-same_self id = and_from (id.label.0 == id.label.0) (id.first == id.first) (eq-eqb id.label.0 id.label.0 refl) (eq-eqb id.first id.first refl)
-
-behind : (id : LotId) (s : Step) (rest : List Step) → HasEnd id rest → HasEnd id (s ∷ rest)
-behind id s rest ended = or_right (ends id s) (list_any (ends id) rest) ended
-
-by_turn : (id : LotId) (s : Step) (rest : List Step) (t : Turn) → s.last ≡ t → turns_lot id t ≡ true → HasEnd id (s ∷ rest)
-by_turn id s rest t last is = or_left (ends id s) (list_any (ends id) rest) (or_left (turns_lot id s.last) (stores_io (tokens_lot id) s.act) (ap (turns_lot id) last ∙ is))
-
-by_token : (lot : Lot) → ends lot.id (token_step lot) ≡ true
-by_token lot = same_self lot.id
 
 copied_apart : (f : Fixed) (lots : List Lot) (s : Step) (rest : List Step) (from to : Span) (id : LotId) → (c : IsCopied f lots rest from to) → IsApart id lots (s ∷ rest) → is_lot id c.lot ≡ false
 copied_apart f lots s rest from to id c apart = elim c.way [
@@ -147,7 +135,7 @@ step_lent f lots s rest id (Drops is) apart =
       next = is.next;
     })
 step_lent f lots s rest id (Gives is) apart =
-    let off = apart is.lot is.hand.here (inl (is.hand.side_is, by_turn is.lot.id s rest (turns.Give is.lot.id) (ap (λ (t : Step). t.last) is.step) (same_self is.lot.id))) in
+    let off = apart is.lot is.hand.here (inl (is.hand.side_is, by_turn is.lot.id s rest (turns.Give is.lot.id) (ap (λ (t : Step). t.last) is.step) (same_id is.lot.id))) in
     Gives (record { lot = is.lot; hand = hand_lent f lots is.lot false sides.Lending id is.hand off; step = is.step; over = is.over })
 step_lent f lots s rest id (Fences is) apart =
     let off = apart is.lot is.hand.here (inr is.hand.side_is) in
@@ -181,10 +169,10 @@ step_lent f lots s rest id (Flushes is) apart =
     let off = apart is.lot is.hand.here (inl (is.hand.side_is, behind is.lot.id s rest (settling_ends is.lot.id rest is.settles))) in
     Flushes (record { lot = is.lot; hand = hand_lent f lots is.lot true sides.Lending id is.hand off; block = is.block; step = is.step; settles = is.settles; next = is.next })
 step_lent f lots s rest id (Settles is) apart =
-    let off = apart is.lot is.hand.here (inl (is.hand.side_is, by_turn is.lot.id s rest (turns.Settle is.lot.id) (ap (λ (t : Step). t.last) is.step) (same_self is.lot.id))) in
+    let off = apart is.lot is.hand.here (inl (is.hand.side_is, by_turn is.lot.id s rest (turns.Settle is.lot.id) (ap (λ (t : Step). t.last) is.step) (same_id is.lot.id))) in
     Settles (record { lot = is.lot; hand = hand_lent f lots is.lot true sides.Lending id is.hand off; step = is.step; over = is.over })
 step_lent f lots s rest id (GivesArea is) apart =
-    let off = apart is.lot is.hand.here (inl (is.hand.side_is, by_turn is.lot.id s rest (turns.Give is.lot.id) (ap (λ (t : Step). t.last) is.step) (same_self is.lot.id))) in
+    let off = apart is.lot is.hand.here (inl (is.hand.side_is, by_turn is.lot.id s rest (turns.Give is.lot.id) (ap (λ (t : Step). t.last) is.step) (same_id is.lot.id))) in
     GivesArea (record { lot = is.lot; hand = hand_lent f lots is.lot true sides.Lending id is.hand off; step = is.step; over = is.over })
 step_lent f lots s rest id (TakesBack is) apart =
     let off = apart is.lot is.hand.here (inr is.hand.side_is) in

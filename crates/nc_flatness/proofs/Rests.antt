@@ -1,9 +1,9 @@
 -- What the rest of a plan is still to do: the end of each lot that is not still, a store of a last load's bytes as it comes
 -- next, and the lot that its next step is of.
 use Rattle.std.proofs.Common.{◌≡◌, ℕ, ◌≤◌, cond, Bool, true, false, List, [], ◌∷◌, length, refl, sym, ap, ◌∙◌, inl, inr, Option, Some, None}
-use Rattle.std.specs.Prelude.{not, ◌||◌, ◌⊎◌, All, find}
+use Rattle.std.specs.Prelude.{◌≢◌, not, ◌==◌, ◌||◌, ◌⊎◌, All, find}
 use Rattle.std.specs.List.{list_any}
-use Rattle.std.proofs.lemmas.Bool.{or_parts, or_right, false≢true}
+use Rattle.std.proofs.lemmas.Bool.{and_from, or_parts, or_left, or_right, eq-eqb, false_from_ne_true, false≢true}
 use Rattle.std.proofs.lemmas.List.{get_or_past}
 use Rattle.nc_num.specs.declared.names.HartNo.{HartNo}
 use Rattle.nc_num.specs.declared.places.Span.{Span}
@@ -26,10 +26,10 @@ use Rattle.nc_rules.specs.World.{WorldState, no_driver, driver_of}
 use Rattle.nc_scripts.proofs.Lists.{all_to}
 use Rattle.nc_holds.proofs.ListsA.{all_at, in_filter, same_some}
 use Rattle.nc_holds.specs.Rests.{RestAt}
-use Rattle.nc_rows.specs.Ahead.{turns_lot, ends, is_settling, settling}
+use Rattle.nc_rows.specs.Ahead.{same_lot, turns_lot, stores_io, tokens_lot, ends, is_settling, settling}
 use Rattle.nc_rows.specs.Parts.{act_last, rest_last}
 use Rattle.nc_flatness.specs.Flatness.{IsMapping, IsHanding, PlanLeft, PlanIs, PlanOf, StandsAt, Drives}
-use Rattle.nc_flatness.specs.Plans.{IsStill, StillDevice, StillSynced, StillOwn, StillSent, IsInHand, HasEnd, IsCopied, IsStore, StepGoes, Loads, Stores, WritesBack, Drops, Gives, Fences, Ends, Zeroes, Flushes, Settles, GivesArea, TakesBack, Marks, Posts, PlanGoes, EndsOne}
+use Rattle.nc_flatness.specs.Plans.{IsStill, StillDevice, StillSynced, StillOwn, StillSent, IsInHand, HasEnd, IsCopied, token_step, IsStore, StepGoes, Loads, Stores, WritesBack, Drops, Gives, Fences, Ends, Zeroes, Flushes, Settles, GivesArea, TakesBack, Marks, Posts, PlanGoes, EndsOne}
 
 -- ---- the end of a lot
 
@@ -94,42 +94,77 @@ settling_ends id (s ∷ rest) is = settles_by id s rest (ends id s) is (settling
 pub ends_one_next : (s : Step) (rest : List Step) → EndsOne (s ∷ rest) → EndsOne rest
 ends_one_next s rest one a b here there = one a b (or_right (ends a s) (list_any (ends a) rest) here) (or_right (ends b s) (list_any (ends b) rest) there)
 
+pub behind : (id : LotId) (s : Step) (rest : List Step) → HasEnd id rest → HasEnd id (s ∷ rest)
+behind id s rest ended = or_right (ends id s) (list_any (ends id) rest) ended
+
+pub same_id : (id : LotId) → same_lot id id ≡ true
+same_id id = and_from (id.label.0 == id.label.0) (id.first == id.first) (eq-eqb id.label.0 id.label.0 refl) (eq-eqb id.first id.first refl)
+
+pub by_turn : (id : LotId) (s : Step) (rest : List Step) (t : Turn) → s.last ≡ t → turns_lot id t ≡ true → HasEnd id (s ∷ rest)
+by_turn id s rest t last is = or_left (ends id s) (list_any (ends id) rest) (or_left (turns_lot id s.last) (stores_io (tokens_lot id) s.act) (ap (turns_lot id) last ∙ is))
+
+pub by_token : (lot : Lot) → ends lot.id (token_step lot) ≡ true
+by_token lot = same_id lot.id
+
+-- where it ends the stay of the lots of one label alone, it ends none of another
+pub ends_others : (steps : List Step) (a b : LotId) → EndsOne steps → HasEnd a steps → a.label.0 ≢ b.label.0 → list_any (ends b) steps ≡ false
+ends_others steps a b one ended other = false_from_ne_true (list_any (ends b) steps) (λ too. other (one a b ended too))
+
 -- ---- the lot in hand
 
--- the lot that the next step of a plan is of: the others are still
-pub record IsWorked (f : Fixed) (lots : List Lot) : Type 0 where
+-- the lot that the next step of a plan is of: the others are still, and where it is lent its end is to come
+pub record IsWorked (f : Fixed) (lots : List Lot) (steps : List Step) : Type 0 where
   pub lot : Lot
   pub here : In lot lots
   pub moves : (lot.side ≡ sides.Lending) ⊎ (lot.side ≡ sides.Returning)
   pub others : All (λ other. is_lot lot.id other ≡ false → IsStill f other) lots
+  pub later : lot.side ≡ sides.Lending → HasEnd lot.id steps
 
-lent_worked : (f : Fixed) (lots : List Lot) (lot : Lot) (area : Bool) → IsInHand f lots lot area sides.Lending → IsWorked f lots
-lent_worked f lots lot area hand = record { lot = lot; here = hand.here; moves = inl hand.side_is; others = hand.others }
+lent_worked : (f : Fixed) (lots : List Lot) (steps : List Step) (lot : Lot) (area : Bool) → IsInHand f lots lot area sides.Lending → HasEnd lot.id steps → IsWorked f lots steps
+lent_worked f lots steps lot area hand later = record { lot = lot; here = hand.here; moves = inl hand.side_is; others = hand.others; later = λ side. later }
 
-back_worked : (f : Fixed) (lots : List Lot) (lot : Lot) (area : Bool) → IsInHand f lots lot area sides.Returning → IsWorked f lots
-back_worked f lots lot area hand = record { lot = lot; here = hand.here; moves = inr hand.side_is; others = hand.others }
+back_worked : (f : Fixed) (lots : List Lot) (steps : List Step) (lot : Lot) (area : Bool) → IsInHand f lots lot area sides.Returning → IsWorked f lots steps
+back_worked f lots steps lot area hand = record {
+  lot = lot;
+  here = hand.here;
+  moves = inr hand.side_is;
+  others = hand.others;
+  later = λ side. let both : sides.Returning ≡ sides.Lending = sym hand.side_is ∙ side in absurd (cc);
+}
 
-copied_worked : (f : Fixed) (lots : List Lot) (rest : List Step) (from to : Span) → IsCopied f lots rest from to → IsWorked f lots
-copied_worked f lots rest from to c = elim c.way [
-  | inl goes ↦ lent_worked f lots c.lot false goes.hand
-  | inr comes ↦ back_worked f lots c.lot false comes.hand
+copied_worked : (f : Fixed) (lots : List Lot) (s : Step) (rest : List Step) (from to : Span) → IsCopied f lots rest from to → IsWorked f lots (s ∷ rest)
+copied_worked f lots s rest from to c = elim c.way [
+  | inl goes ↦ lent_worked f lots (s ∷ rest) c.lot false goes.hand (behind c.lot.id s rest goes.later)
+  | inr comes ↦ back_worked f lots (s ∷ rest) c.lot false comes.hand
 ]
 
-pub worked_of : (f : Fixed) (lots : List Lot) (s : Step) (rest : List Step) → StepGoes f lots s rest → IsWorked f lots
-worked_of f lots s rest (Loads is) = copied_worked f lots rest is.from is.to is.copied
-worked_of f lots s rest (Stores is) = copied_worked f lots rest is.from is.to is.copied
-worked_of f lots s rest (WritesBack is) = lent_worked f lots is.lot false is.hand
-worked_of f lots s rest (Drops is) = back_worked f lots is.lot false is.hand
-worked_of f lots s rest (Gives is) = lent_worked f lots is.lot false is.hand
-worked_of f lots s rest (Fences is) = back_worked f lots is.lot false is.hand
-worked_of f lots s rest (Ends is) = back_worked f lots is.lot false is.hand
-worked_of f lots s rest (Zeroes is) = lent_worked f lots is.lot true is.hand
-worked_of f lots s rest (Flushes is) = lent_worked f lots is.lot true is.hand
-worked_of f lots s rest (Settles is) = lent_worked f lots is.lot true is.hand
-worked_of f lots s rest (GivesArea is) = lent_worked f lots is.lot true is.hand
-worked_of f lots s rest (TakesBack is) = back_worked f lots is.lot true is.hand
-worked_of f lots s rest (Marks is) = lent_worked f lots is.lot (is_area is.lot.kind) is.hand
-worked_of f lots s rest (Posts is) = lent_worked f lots is.lot (is_area is.lot.kind) is.hand
+turned_worked : (f : Fixed) (lots : List Lot) (s : Step) (rest : List Step) (lot : Lot) (area : Bool) (t : Turn) → IsInHand f lots lot area sides.Lending → s.last ≡ t → turns_lot lot.id t ≡ true → IsWorked f lots (s ∷ rest)
+turned_worked f lots s rest lot area t hand last is = lent_worked f lots (s ∷ rest) lot area hand (by_turn lot.id s rest t last is)
+
+pub worked_of : (f : Fixed) (lots : List Lot) (s : Step) (rest : List Step) → StepGoes f lots s rest → IsWorked f lots (s ∷ rest)
+worked_of f lots s rest (Loads is) = copied_worked f lots s rest is.from is.to is.copied
+worked_of f lots s rest (Stores is) = copied_worked f lots s rest is.from is.to is.copied
+worked_of f lots s rest (WritesBack is) = lent_worked f lots (s ∷ rest) is.lot false is.hand (behind is.lot.id s rest is.later)
+worked_of f lots s rest (Drops is) = back_worked f lots (s ∷ rest) is.lot false is.hand
+worked_of f lots s rest (Gives is) = turned_worked f lots s rest is.lot false (turns.Give is.lot.id) is.hand (ap (λ (t : Step). t.last) is.step) (same_id is.lot.id)
+worked_of f lots s rest (Fences is) = back_worked f lots (s ∷ rest) is.lot false is.hand
+worked_of f lots s rest (Ends is) = back_worked f lots (s ∷ rest) is.lot false is.hand
+worked_of f lots s rest (Zeroes is) = lent_worked f lots (s ∷ rest) is.lot true is.hand (behind is.lot.id s rest (settling_ends is.lot.id rest is.settles))
+worked_of f lots s rest (Flushes is) = lent_worked f lots (s ∷ rest) is.lot true is.hand (behind is.lot.id s rest (settling_ends is.lot.id rest is.settles))
+worked_of f lots s rest (Settles is) = turned_worked f lots s rest is.lot true (turns.Settle is.lot.id) is.hand (ap (λ (t : Step). t.last) is.step) (same_id is.lot.id)
+worked_of f lots s rest (GivesArea is) = turned_worked f lots s rest is.lot true (turns.Give is.lot.id) is.hand (ap (λ (t : Step). t.last) is.step) (same_id is.lot.id)
+worked_of f lots s rest (TakesBack is) = back_worked f lots (s ∷ rest) is.lot true is.hand
+worked_of f lots s rest (Marks is) =
+    lent_worked f lots (s ∷ rest) is.lot (is_area is.lot.kind) is.hand (behind is.lot.id s rest (ap (list_any (ends is.lot.id)) is.left ∙ or_left (ends is.lot.id (token_step is.lot)) false (by_token is.lot)))
+worked_of f lots s rest (Posts is) =
+    lent_worked f lots (s ∷ rest) is.lot (is_area is.lot.kind) is.hand (or_left (ends is.lot.id s) (list_any (ends is.lot.id) rest) (ap (ends is.lot.id) is.step ∙ by_token is.lot))
+
+-- so its end is to come, be it lent or taken back
+pub worked_ends : (f : Fixed) (lots : List Lot) (s : Step) (rest : List Step) → (k : IsWorked f lots (s ∷ rest)) → PlanGoes f lots (s ∷ rest) → HasEnd k.lot.id (s ∷ rest)
+worked_ends f lots s rest k goes = elim k.moves [
+  | inl lends ↦ k.later lends
+  | inr returns ↦ ends_later f lots (s ∷ rest) k.lot goes k.here (back_moves f k.lot returns)
+]
 
 -- ---- a store of a last load's bytes
 
