@@ -70,7 +70,8 @@ use Rattle.nc_flat_starts.proofs.Effects.{zeroing}
 use Rattle.nc_flat_starts.proofs.Frames.{IsPlace}
 use Rattle.nc_flat_starts.proofs.FreshAreas.{IsFresh, area_block, fresh_pool, fresh_free, fresh_block, fresh_parts}
 use Rattle.nc_flat_starts.proofs.Lots.{find_only, loan_for, more_wanted}
-use Rattle.nc_flat_starts.proofs.OpenRows.{either_true, unnamed, sizes, went_work}
+use Rattle.nc_flat_starts.proofs.OpenRows.{unnamed, sizes, went_work}
+use Rattle.nc_flat_starts.proofs.BackRows.{either_true}
 use Rattle.nc_flat_starts.proofs.Opens.{Opens, opens_bytes}
 use Rattle.nc_flat_starts.proofs.Sides.{NamesArea, turned_lot, hand_set, set_one}
 use Rattle.nc_flat_starts.proofs.Starts.{IsStart, short, holds_here, as_wanted}

@@ -43,7 +43,7 @@ use Rattle.nc_row_plans.proofs.LendingPlans.{is_plain, Are, cbos_are, stands_som
 use Rattle.nc_row_plans.proofs.PlanBegins.{stands_behind, covered_behind}
 use Rattle.nc_flatness.specs.Plans.{IsInHand, HasZero, LoadsFirst, IsAreaBack, Zeroes, Flushes, Settles, GivesArea, TakesBack, PlanGoes}
 use Rattle.nc_flat_starts.proofs.PlanComes.{plain_ends, ends_behind, silent_ops, comes_ops, ending_last, steps_append, append_steps}
-use Rattle.nc_flat_starts.proofs.PlansGo.{IsPlan, same_id}
+use Rattle.nc_flat_starts.proofs.PlanOps.{IsPlan, same_id}
 use Rattle.nc_flat_starts.proofs.Sides.{NamesArea, given_still, settled_still, area_still}
 
 -- ---- the blocks of a span rise

@@ -42,7 +42,8 @@ use Rattle.nc_flat_starts.proofs.Bases.{IsBase, fixed_is, base_lot, base_mapping
 use Rattle.nc_flat_starts.proofs.Befores.{base_before}
 use Rattle.nc_flat_starts.proofs.Frames.{IsPlace}
 use Rattle.nc_flat_starts.proofs.Lots.{loan_for}
-use Rattle.nc_flat_starts.proofs.OpenRows.{AreKnown, either_true, either_false, unnamed, went_work}
+use Rattle.nc_flat_starts.proofs.OpenRows.{either_false, unnamed, went_work}
+use Rattle.nc_flat_starts.proofs.BackRows.{AreKnown, either_true}
 use Rattle.nc_flat_starts.proofs.Opens.{Opens, base_owner, side_mine}
 use Rattle.nc_flat_starts.proofs.Sides.{NamesArea, turned_lot, hand_set, set_one}
 

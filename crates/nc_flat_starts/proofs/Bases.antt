@@ -42,7 +42,7 @@ use Rattle.nc_flatness.specs.Flatness.{is_mapping, IsMapping, IsStillOrWanted, I
 use Rattle.nc_flatness.proofs.Seen.{slot_at, seen, seen_ways, slot_slots, has_slot, of_device}
 use Rattle.nc_flatness.specs.Plans.{IsStill}
 use Rattle.nc_flat_starts.proofs.Lots.{loan_in}
-use Rattle.nc_flat_starts.proofs.PlansGo.{IsPlanned}
+use Rattle.nc_flat_starts.proofs.PlanOps.{IsPlanned}
 use Rattle.nc_flat_starts.proofs.Sides.{Others}
 
 -- what the hart holds with these lots and slot words

@@ -34,7 +34,7 @@ use Rattle.nc_rows.specs.Parts.{IsQueued, IsAllocating, MayBeHeld}
 use Rattle.nc_flatness.specs.Books.{loan_of, book_of, mapping_in}
 use Rattle.nc_flatness.specs.Flatness.{IsMapping, IsStillOrWanted, Flatness}
 use Rattle.nc_flatness.specs.Plans.{IsStill, StillDevice, StillSynced, StillOwn, StillSent}
-use Rattle.nc_flatness.specs.Tokens.{TokenStands}
+use Rattle.nc_flatness.proofs.BookReads.{pool_unheld}
 use Rattle.nc_flatness.proofs.Loans.{IsLoan, lot_of}
 use Rattle.nc_flatness.proofs.Owned.{mapped}
 use Rattle.nc_flat_starts.proofs.Bases.{IsBase, me_of, mapping_first, label_one}
@@ -167,14 +167,7 @@ none_held a Pool idle may = may
 
 -- so no copy is there of a place of the pool that is no other hart's
 pub idle_free : (sc : Scenario) (f : List ℕ) (w : WorldState) (h : HartNo) (x : ℕ) → Flatness sc f w → (driver_of w h.0).rest ≡ [] → ((k : MapId) → mapping_in (owner_of w x) ≡ Some k → k.hart.0 ≡ h.0) → covers w.machine.pool x ≡ true → NotHeld w.machine x
-idle_free sc f w h x flat idle mine over = elim (flat.bytes.uncached x over) [
-  | inl free ↦ free
-  | inr may ↦ absurd (none_held (book_of w) (owner_of w x) (λ k is. ap (λ (g : ℕ). (driver_of w g).rest) (mine k is) ∙ idle) may)
-]
-
--- where fences are full there are no tokens
-pub tokens_full : (f : Fixed) (rest : List Step) (q : List QueueEntry) (lots : List Lot) → All (IsMapping f) lots → f.light ≡ true → All (TokenStands rest q) lots
-tokens_full f rest q lots all light = all_to (IsMapping f) (TokenStands rest q) lots all (λ lot is. absurd (both_ways f.light is.full light))
+idle_free sc f w h x flat idle mine over = pool_unheld sc f w x flat over (none_held (book_of w) (owner_of w x) (λ k is. ap (λ (g : ℕ). (driver_of w g).rest) (mine k is) ∙ idle))
 
 -- ---- where places are seen
 

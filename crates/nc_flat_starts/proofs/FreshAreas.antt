@@ -40,6 +40,7 @@ use Rattle.nc_rows.specs.Parts.{IsDropped, IsQueued, MayBeHeld}
 use Rattle.nc_row_plans.specs.Begins.{NoneQueued}
 use Rattle.nc_flatness.specs.Books.{book_of, mapping_in, IsOfArea}
 use Rattle.nc_flatness.specs.Flatness.{Flatness}
+use Rattle.nc_flatness.proofs.BookReads.{pool_unheld}
 use Rattle.nc_flatness.proofs.Loans.{loan_is}
 use Rattle.nc_flatness.proofs.Owned.{mapped, owned_ram}
 use Rattle.nc_flatness.proofs.Seen.{place_ways, slot_block}
@@ -105,10 +106,8 @@ fresh_row sc f w h lot x k on =
     subst (λ (o : Owner). Row (book_of w) o (byte f x) w.machine x) (fresh_pool sc f w h lot x k on) (k.flat.bytes.rows x (pool_ram sc f w x k.flat (fresh_over sc f w h lot x k on)) off)
 
 pub fresh_free : (sc : Scenario) (f : List ℕ) (w : WorldState) (h : HartNo) (lot : Lot) (x : ℕ) → IsFresh sc f w h lot → covers (only_entry lot).span x ≡ true → NotHeld w.machine x
-fresh_free sc f w h lot x k on = elim (k.flat.bytes.uncached x (subst (λ (s : Span). covers s x ≡ true) (sym k.flat.world.of_scenario.pool) (fresh_over sc f w h lot x k on))) [
-  | inl free ↦ free
-  | inr may ↦ absurd (subst (λ (o : Owner). MayBeHeld (book_of w) o) (fresh_pool sc f w h lot x k on) may)
-]
+fresh_free sc f w h lot x k on =
+    pool_unheld sc f w x k.flat (subst (λ (s : Span). covers s x ≡ true) (sym k.flat.world.of_scenario.pool) (fresh_over sc f w h lot x k on)) (λ may. subst (λ (o : Owner). MayBeHeld (book_of w) o) (fresh_pool sc f w h lot x k on) may)
 
 -- ---- no queue has an entry for them
 

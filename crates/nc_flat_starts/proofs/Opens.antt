@@ -42,9 +42,10 @@ use Rattle.nc_flatness.specs.Plans.{PlanGoes}
 use Rattle.nc_flatness.specs.Tokens.{TokenStands}
 use Rattle.nc_flatness.proofs.Loans.{loan_is}
 use Rattle.nc_flatness.proofs.Outcomes.{gone}
+use Rattle.nc_flatness.proofs.Rests.{none_light}
 use Rattle.nc_flatness.proofs.Owned.{owned_ram}
 use Rattle.nc_flat_starts.proofs.Bases.{IsBase, me_of}
-use Rattle.nc_flat_starts.proofs.Befores.{IsBefore, driven, its_mapping, its_first, its_only, mapping_rest, far_loan, far_mapping, known_here, all_idle, idle_free, tokens_full, seen_aside}
+use Rattle.nc_flat_starts.proofs.Befores.{IsBefore, driven, its_mapping, its_first, its_only, mapping_rest, far_loan, far_mapping, known_here, all_idle, idle_free, seen_aside}
 use Rattle.nc_flat_starts.proofs.Frames.{IsPlace, IsOff, On, Off, somewhere, StaysAside, rewrites_none, goes_still, loan_hart, loan_aside, rest_hart, last_none}
 use Rattle.nc_flat_starts.proofs.Lots.{loan_in, loan_for, loan_here, other_set}
 use Rattle.nc_flat_starts.proofs.Sides.{turned_lot, set_all, set_here, set_one}
@@ -177,7 +178,7 @@ opens_bytes sc f w h o went lots lot side plan t =
       });
       lasting = last_none (book_of v) f h.0 (hart_of m h.0).last (rest_last went.driver.rest) (ap (λ (j : DriverState). rest_last j.rest) t.driver ∙ t.lasting);
       queue = all_idle sc f w h (book_of v) (owner_of v) b.flat b.idle;
-      tokens = subst (λ (j : DriverState). j.fixed.light ≡ true → All (TokenStands j.rest (queue_of m h.0)) j.lots) (sym t.driver) (tokens_full fx plan (queue_of m h.0) now its);
+      tokens = subst (λ (j : DriverState). j.fixed.light ≡ true → All (TokenStands j.rest (queue_of m h.0)) j.lots) (sym t.driver) (none_light fx now (TokenStands plan (queue_of m h.0)) its);
       passes = λ x u there unslotted beside row. row;
       lies = λ i e x k there place is.
           subst (λ (j : MapId). LiesIn ((book_of v).loan j) x) (side_mapping (map_id h lot.id i) k side is) (subst (λ (l : Option Loan). LiesIn l x) (sym (known i e place.entry)) place.on);

@@ -43,9 +43,10 @@ use Rattle.nc_flatness.specs.Plans.{IsStill}
 use Rattle.nc_flatness.specs.Tokens.{TokenStands}
 use Rattle.nc_flatness.proofs.Loans.{loan_is}
 use Rattle.nc_flatness.proofs.Outcomes.{gone}
+use Rattle.nc_flatness.proofs.Rests.{none_light}
 use Rattle.nc_flatness.proofs.Owned.{owned_ram}
 use Rattle.nc_flat_starts.proofs.Bases.{IsBase, me_of, base_beside}
-use Rattle.nc_flat_starts.proofs.Befores.{base_before, driven, mapping_rest, far_loan, far_mapping, known_here, all_idle, tokens_full, seen_aside}
+use Rattle.nc_flat_starts.proofs.Befores.{base_before, driven, mapping_rest, far_loan, far_mapping, known_here, all_idle, seen_aside}
 use Rattle.nc_flat_starts.proofs.Frames.{IsPlace, IsOff, On, Off, somewhere, StaysAside, rewrites_none, goes_still, loan_aside, last_none}
 use Rattle.nc_flat_starts.proofs.Lots.{other_without}
 use Rattle.nc_flat_starts.proofs.Opens.{base_owner, side_mine}
@@ -93,7 +94,7 @@ quiet_bytes sc f w h went q =
       drives = q.drives;
       lasting = last_none (book_of v) f h.0 (hart_of m h.0).last (rest_last went.driver.rest) (ap rest_last q.rest);
       queue = all_idle sc f w h (book_of v) (owner_of v) q.flat q.idle;
-      tokens = tokens_full went.driver.fixed went.driver.rest (queue_of m h.0) went.driver.lots q.drives.lots;
+      tokens = none_light went.driver.fixed went.driver.lots (TokenStands went.driver.rest (queue_of m h.0)) q.drives.lots;
       passes = λ x u there unslotted beside row. row;
       lies = λ i e x k there place is. absurd (none_at i e x place);
       row = λ i e x there place row. absurd (none_at i e x place);
@@ -167,7 +168,7 @@ end_bytes sc f w h went lots lot t =
       });
       lasting = last_none (book_of v) f h.0 (hart_of m h.0).last (rest_last went.driver.rest) (ap (λ (j : DriverState). rest_last j.rest) t.driver);
       queue = all_idle sc f w h (book_of v) (owner_of v) b.flat b.idle;
-      tokens = subst (λ (j : DriverState). j.fixed.light ≡ true → All (TokenStands j.rest (queue_of m h.0)) j.lots) (sym t.driver) (tokens_full fx [] (queue_of m h.0) (without_lot lot.id lots) its);
+      tokens = subst (λ (j : DriverState). j.fixed.light ≡ true → All (TokenStands j.rest (queue_of m h.0)) j.lots) (sym t.driver) (none_light fx (without_lot lot.id lots) (TokenStands [] (queue_of m h.0)) its);
       passes = λ x u there unslotted beside row. row;
       lies = λ i e x k there place is. absurd cc;
       row = λ i e x there place row.

@@ -1,7 +1,7 @@
--- The start of an operation that maps, unmaps or syncs: flat memory's bytes stand behind it.
-use Rattle.std.specs.Prelude.{Some, All, Result, Ok, Err, ◌==◌, true, false, if◌then◌else◌, option_map, flat_map}
+-- The start of an operation that lends or takes back: what it makes, and the ways in which it opens.
+use Rattle.std.specs.Prelude.{Some, All, Result, Ok, Err, true, false, option_map, flat_map}
 use Rattle.std.proofs.Common.{◌≡◌, ◌⊎◌, ℕ, ◌<◌, List, [], ◌∷◌, ◌++◌, length, refl, sym, ap, ◌∙◌, inl, inr, subst, arith}
-use Rattle.std.proofs.lemmas.Bool.{both_ways, cond-true, cond-false, and_parts}
+use Rattle.std.proofs.lemmas.Bool.{cond-false, and_parts}
 use Rattle.std.proofs.lemmas.List.{append-nil}
 use Rattle.std.proofs.lemmas.List.Folds.{list_any_none}
 use Rattle.std.proofs.lemmas.List.Elements.{All-nil, All-cons, All-append}
@@ -18,19 +18,17 @@ use Rattle.nc_ops.specs.declared.ops.Op.TheVariants as ops
 use Rattle.nc_ops.specs.declared.ops.SgEntry.{SgEntry}
 use Rattle.nc_scen.specs.declared.scenario.Scenario.{Scenario}
 use Rattle.nc_rules.specs.declared.answers.Refusal.{Refusal}
-use Rattle.nc_rules.specs.declared.answers.Refusal.TheVariants as refusals
 use Rattle.nc_rules.specs.declared.lots.Kind.{Kind}
 use Rattle.nc_rules.specs.declared.lots.Kind.TheVariants as kinds
 use Rattle.nc_rules.specs.declared.lots.Lot.{Lot}
 use Rattle.nc_rules.specs.declared.lots.Side.TheVariants as sides
 use Rattle.nc_rules.specs.declared.steps.Phase.{Phase}
 use Rattle.nc_rules.specs.declared.steps.Phase.TheVariants.{Steps}
-use Rattle.nc_rules.specs.declared.steps.Step.{Step}
 use Rattle.nc_rules.specs.declared.steps.Turn.{Turn}
 use Rattle.nc_rules.specs.declared.steps.Turn.TheVariants as turns
-use Rattle.nc_rules.specs.Lots.{Fixed, lot_id, lot_named, is_lot, is_named, is_labelled, is_synced, is_wanted, same_kind, lot_waits, some_lot_waits, slots_held, ranges_lot}
+use Rattle.nc_rules.specs.Lots.{Fixed, lot_id, lot_named, is_lot, is_named, is_labelled, is_wanted, same_kind, lot_waits, some_lot_waits, slots_held, ranges_lot}
 use Rattle.nc_rules.specs.Turns.{is_area}
-use Rattle.nc_rules.specs.Refusals.{◌>>=◌, wanted, all_some, ranges_of, unused, named, owned_from, lendable, placeable}
+use Rattle.nc_rules.specs.Refusals.{◌>>=◌, all_some, ranges_of, unused, owned_from, lendable, placeable}
 use Rattle.nc_rules.specs.Plans.{lend_steps, return_steps, ending}
 use Rattle.nc_rules.specs.Mappings as mappings
 use Rattle.nc_rules.specs.Mappings.{with_lot, needs_lot, unmap_turn, unmap_steps, to_cpu_turn, to_cpu_steps, to_dev_turn, to_dev_steps}
@@ -43,7 +41,7 @@ use Rattle.nc_scripts.specs.Drivers.{IsSettled, AreMade, IsPhase}
 use Rattle.nc_scripts.proofs.DriverSteps.{passed}
 use Rattle.nc_scripts.proofs.EveryDriver.{in_hand_is}
 use Rattle.nc_scripts.proofs.Lists.{all_in, all_to, found}
-use Rattle.nc_scripts.proofs.NewLots.{ranges_begin, behind_ranges, behind_test, sg_none, some_is, placeable_is, new_is}
+use Rattle.nc_scripts.proofs.NewLots.{ranges_begin, behind_ranges, placeable_is, new_is}
 use Rattle.nc_holds.specs.Changes.{Made, MayMake}
 use Rattle.nc_holds.specs.Holds.{held_of, DriverHolds}
 use Rattle.nc_holds.specs.Rests.{RestAt}
@@ -56,13 +54,14 @@ use Rattle.nc_holds.proofs.OwnerGiven.{owner_laws}
 use Rattle.nc_flatness.specs.Books.{loan_by, loan_of}
 use Rattle.nc_flatness.specs.Covered.{is_lending}
 use Rattle.nc_flatness.specs.Flatness.{is_mapping, IsMapping, IsStillOrWanted, makes_kind, IsStillOrMade, StandsAt, Drives, BytesStand, Flatness}
-use Rattle.nc_flatness.specs.Plans.{IsStill, StillDevice, StillSynced, StillOwn, StillSent, IsBack}
+use Rattle.nc_flatness.specs.Plans.{IsStill, IsBack}
 use Rattle.nc_flatness.proofs.Loans.{entry_loan}
 use Rattle.nc_flatness.proofs.Outcomes.{gone}
 use Rattle.nc_flat_starts.proofs.Bases.{IsBase}
 use Rattle.nc_flat_starts.proofs.Calls.{wanted_side, IsCall, call_base, gives_bytes, opened_so, Makes, OneMap, ListMap, placed_bytes}
 use Rattle.nc_flat_starts.proofs.Lots.{more_wanted}
-use Rattle.nc_flat_starts.proofs.OpenRows.{AreKnown, lend_opens, return_opens}
+use Rattle.nc_flat_starts.proofs.OpenRows.{lend_opens}
+use Rattle.nc_flat_starts.proofs.BackRows.{AreKnown, return_opens}
 use Rattle.nc_flat_starts.proofs.Opens.{opens_bytes}
 use Rattle.nc_flat_starts.proofs.Quiets.{quiet_bytes, end_bytes}
 
@@ -280,7 +279,7 @@ stays_bytes sc f w h o s first steps =
       drives = subst (λ (k : DriverState). Drives k) (sym so.driver) (record { lots = (s.flat.bytes.drives h.0 s.lt).lots; stands = s.still; idle = refl });
     })
 
-lends_bytes : (sc : Scenario) (f : List ℕ) (w : WorldState) (h : HartNo) (o : Op) (lot : Lot) (label : Label) (kind : Kind) → IsStart sc f w h o → IsThere sc f w h lot label kind → is_area kind ≡ false → lot.side ≡ sides.Synced → opening (driver_of w h.0).fixed (driver_of w h.0).lots o ≡ turns.Lend lot.id
+pub lends_bytes : (sc : Scenario) (f : List ℕ) (w : WorldState) (h : HartNo) (o : Op) (lot : Lot) (label : Label) (kind : Kind) → IsStart sc f w h o → IsThere sc f w h lot label kind → is_area kind ≡ false → lot.side ≡ sides.Synced → opening (driver_of w h.0).fixed (driver_of w h.0).lots o ≡ turns.Lend lot.id
     → plan_of (driver_of w h.0).fixed (driver_of w h.0).lots o ≡ lend_steps (driver_of w h.0).fixed lot → BytesStand sc f (gone w h w.machine (opened (with_lots (driver_of w h.0) (driver_of w h.0).lots) o))
 lends_bytes sc f w h o lot label kind s t plain synced first steps =
     let d = driver_of w h.0 in
@@ -288,7 +287,7 @@ lends_bytes sc f w h o lot label kind s t plain synced first steps =
     let so = opened_so d o d.lots (turns.Lend lot.id) (lend_steps d.fixed lot) first steps in
     opens_bytes sc f w h o went d.lots lot sides.Lending (lend_steps d.fixed lot) (lend_opens sc f w h o went d.lots lot t.base (ap is_area t.its_kind ∙ plain) s.hand s.lends (inr synced) so.driver so.transfers)
 
-returns_bytes : (sc : Scenario) (f : List ℕ) (w : WorldState) (h : HartNo) (o : Op) (lot : Lot) (label : Label) (kind : Kind) (turn : Turn) → IsStart sc f w h o → IsThere sc f w h lot label kind → is_area kind ≡ false → lot.side ≡ sides.Device → IsBack lot.id turn → (turn ≡ turns.Sync lot.id → kind ≡ kinds.Single)
+pub returns_bytes : (sc : Scenario) (f : List ℕ) (w : WorldState) (h : HartNo) (o : Op) (lot : Lot) (label : Label) (kind : Kind) (turn : Turn) → IsStart sc f w h o → IsThere sc f w h lot label kind → is_area kind ≡ false → lot.side ≡ sides.Device → IsBack lot.id turn → (turn ≡ turns.Sync lot.id → kind ≡ kinds.Single)
     → opening (driver_of w h.0).fixed (driver_of w h.0).lots o ≡ turns.Return lot.id → plan_of (driver_of w h.0).fixed (driver_of w h.0).lots o ≡ ending turn (return_steps (driver_of w h.0).fixed lot)
     → BytesStand sc f (gone w h w.machine (opened (with_lots (driver_of w h.0) (driver_of w h.0).lots) o))
 returns_bytes sc f w h o lot label kind turn s t plain device back single first steps =
@@ -299,107 +298,10 @@ returns_bytes sc f w h o lot label kind turn s t plain device back single first 
     opens_bytes sc f w h o went d.lots lot sides.Returning plan
     (return_opens sc f w h o went d.lots lot turn t.base (ap is_area t.its_kind ∙ plain) s.hand s.lends device (known_now sc f w h lot t.base (ap is_wanted device)) back (λ sync. t.its_kind ∙ single sync) so.driver so.transfers)
 
-ends_bytes : (sc : Scenario) (f : List ℕ) (w : WorldState) (h : HartNo) (o : Op) (lot : Lot) (label : Label) (kind : Kind) → IsStart sc f w h o → IsThere sc f w h lot label kind → is_area kind ≡ false → lot.side ≡ sides.Synced → opening (driver_of w h.0).fixed (driver_of w h.0).lots o ≡ turns.End lot.id
+pub ends_bytes : (sc : Scenario) (f : List ℕ) (w : WorldState) (h : HartNo) (o : Op) (lot : Lot) (label : Label) (kind : Kind) → IsStart sc f w h o → IsThere sc f w h lot label kind → is_area kind ≡ false → lot.side ≡ sides.Synced → opening (driver_of w h.0).fixed (driver_of w h.0).lots o ≡ turns.End lot.id
     → plan_of (driver_of w h.0).fixed (driver_of w h.0).lots o ≡ [] → BytesStand sc f (gone w h w.machine (opened (with_lots (driver_of w h.0) (driver_of w h.0).lots) o))
 ends_bytes sc f w h o lot label kind s t plain synced first steps =
     let d = driver_of w h.0 in
     let went = opened (with_lots d d.lots) o in
     let so = opened_so d o d.lots (turns.End lot.id) [] first steps in
     end_bytes sc f w h went d.lots lot (record { base = t.base; synced = synced; plain = ap is_area t.its_kind ∙ plain; driver = so.driver; transfers = so.transfers })
-
--- ---- each of them
-
--- a mapping is its channel's, or synced
-mapping_still : (f : Fixed) (lot : Lot) → is_area lot.kind ≡ false → f.light ≡ false → IsStill f lot → (lot.side ≡ sides.Device) ⊎ ((lot.side ≡ sides.Synced) × (lot.kind ≡ kinds.Single))
-mapping_still f lot plain full (StillDevice is) = inl is
-mapping_still f lot plain full (StillSynced is kind) = inr (is, kind)
-mapping_still f lot plain full (StillOwn is kind) = absurd (both_ways (is_area lot.kind) plain (ap is_area kind))
-mapping_still f lot plain full (StillSent is light) = absurd (both_ways f.light full light)
-
-lot_begins : (lots new : List Lot) (label : Label) → needs_lot (named lots label kinds.Single) ≡ Ok new → (lot : Lot) × (lot_named lots label kinds.Single ≡ Some lot) × ([] ≡ new)
-lot_begins lots new label e =
-    let p = passed (named lots label kinds.Single) (λ lot. Ok []) new e in
-    (p.value, some_is refusals.NoLabel (lot_named lots label kinds.Single) p.value p.first, behind_test (named lots label kinds.Single) new e)
-
-list_begins : (lots new : List Lot) (label : Label) (count : ℕ) → unmap_sg_begin lots label count ≡ Ok new → (lot : Lot) × (lot_named lots label kinds.List ≡ Some lot) × ([] ≡ new)
-list_begins lots new label count e =
-    let p = passed (named lots label kinds.List) (λ lot. wanted (refusals.BadCount (length lot.list.entries)) (length lot.list.entries == count) >>= λ _. Ok []) new e in
-    (p.value, some_is refusals.NoLabel (lot_named lots label kinds.List) p.value p.first, sg_none lots new label count e)
-
-if_synced : {A : Type 0} (lot : Lot) (x y : A) → lot.side ≡ sides.Synced → (if is_synced lot.side then x else y) ≡ x
-if_synced lot x y is = cond-true (is_synced lot.side) x y (ap is_synced is)
-
-if_device : {A : Type 0} (lot : Lot) (x y : A) → lot.side ≡ sides.Device → (if is_synced lot.side then x else y) ≡ y
-if_device lot x y is = cond-false (is_synced lot.side) x y (ap is_synced is)
-
-pub dev_bytes : (sc : Scenario) (f : List ℕ) (w : WorldState) (h : HartNo) (label : Label) (r : Result (List Lot) Refusal) → IsStart sc f w h (ops.ToDev label) → begin (driver_of w h.0).fixed (driver_of w h.0).lots w.owners w.pages (ops.ToDev label) ≡ r
-    → BytesStand sc f (gone w h w.machine (begun (driver_of w h.0) (ops.ToDev label) r))
-unfolding begin opening plan_of meaning mappings.sync_for_device
-dev_bytes sc f w h label (Err r) s e = gives_bytes sc f w h (ops.ToDev label) r s.flat s.lt s.idle (as_wanted (driver_of w h.0).fixed (driver_of w h.0).lots s.still)
-dev_bytes sc f w h label (Ok new) s e =
-    let d = driver_of w h.0 in
-    let o = ops.ToDev label in
-    let b = lot_begins d.lots new label e in
-    let t = there_so sc f w h o b.0 label kinds.Single s b.1 in
-    let first : (turn : Turn) → to_dev_turn b.0 ≡ turn → with_lot turns.Stay to_dev_turn (lot_named d.lots label kinds.Single) ≡ turn = λ turn is. ap (with_lot turns.Stay to_dev_turn) b.1 ∙ is in
-    let steps : (plan : List Step) → to_dev_steps d.fixed b.0 ≡ plan → with_lot [] (to_dev_steps d.fixed) (lot_named d.lots label kinds.Single) ≡ plan = λ plan is. ap (with_lot [] (to_dev_steps d.fixed)) b.1 ∙ is in
-    as_made sc f w h o new s b.2
-    (elim (mapping_still d.fixed b.0 (ap is_area t.its_kind) s.full t.still) [
-      | inl device ↦ stays_bytes sc f w h o s (first turns.Stay (if_device b.0 (turns.Lend b.0.id) turns.Stay device)) (steps [] (if_device b.0 (lend_steps d.fixed b.0) [] device))
-      | inr synced ↦ lends_bytes sc f w h o b.0 label kinds.Single s t refl synced.0 (first (turns.Lend b.0.id) (if_synced b.0 (turns.Lend b.0.id) turns.Stay synced.0)) (steps (lend_steps d.fixed b.0) (if_synced b.0 (lend_steps d.fixed b.0) [] synced.0))
-    ])
-
-pub cpu_bytes : (sc : Scenario) (f : List ℕ) (w : WorldState) (h : HartNo) (label : Label) (r : Result (List Lot) Refusal) → IsStart sc f w h (ops.ToCpu label) → begin (driver_of w h.0).fixed (driver_of w h.0).lots w.owners w.pages (ops.ToCpu label) ≡ r
-    → BytesStand sc f (gone w h w.machine (begun (driver_of w h.0) (ops.ToCpu label) r))
-unfolding begin opening plan_of meaning mappings.sync_for_cpu
-cpu_bytes sc f w h label (Err r) s e = gives_bytes sc f w h (ops.ToCpu label) r s.flat s.lt s.idle (as_wanted (driver_of w h.0).fixed (driver_of w h.0).lots s.still)
-cpu_bytes sc f w h label (Ok new) s e =
-    let d = driver_of w h.0 in
-    let o = ops.ToCpu label in
-    let b = lot_begins d.lots new label e in
-    let t = there_so sc f w h o b.0 label kinds.Single s b.1 in
-    let turn = turns.Sync b.0.id in
-    let plan = ending turn (return_steps d.fixed b.0) in
-    let first : (k : Turn) → to_cpu_turn b.0 ≡ k → with_lot turns.Stay to_cpu_turn (lot_named d.lots label kinds.Single) ≡ k = λ k is. ap (with_lot turns.Stay to_cpu_turn) b.1 ∙ is in
-    let steps : (p : List Step) → to_cpu_steps d.fixed b.0 ≡ p → with_lot [] (to_cpu_steps d.fixed) (lot_named d.lots label kinds.Single) ≡ p = λ p is. ap (with_lot [] (to_cpu_steps d.fixed)) b.1 ∙ is in
-    as_made sc f w h o new s b.2
-    (elim (mapping_still d.fixed b.0 (ap is_area t.its_kind) s.full t.still) [
-      | inl device ↦ returns_bytes sc f w h o b.0 label kinds.Single turn s t refl device (inl refl) (λ sync. refl) (first (turns.Return b.0.id) (if_device b.0 turns.Stay (turns.Return b.0.id) device)) (steps plan (if_device b.0 [] plan device))
-      | inr synced ↦ stays_bytes sc f w h o s (first turns.Stay (if_synced b.0 turns.Stay (turns.Return b.0.id) synced.0)) (steps [] (if_synced b.0 [] plan synced.0))
-    ])
-
-pub unmap_bytes : (sc : Scenario) (f : List ℕ) (w : WorldState) (h : HartNo) (label : Label) (r : Result (List Lot) Refusal) → IsStart sc f w h (ops.Unmap label) → begin (driver_of w h.0).fixed (driver_of w h.0).lots w.owners w.pages (ops.Unmap label) ≡ r
-    → BytesStand sc f (gone w h w.machine (begun (driver_of w h.0) (ops.Unmap label) r))
-unfolding begin opening plan_of meaning mappings.unmap_single
-unmap_bytes sc f w h label (Err r) s e = gives_bytes sc f w h (ops.Unmap label) r s.flat s.lt s.idle (as_wanted (driver_of w h.0).fixed (driver_of w h.0).lots s.still)
-unmap_bytes sc f w h label (Ok new) s e =
-    let d = driver_of w h.0 in
-    let o = ops.Unmap label in
-    let b = lot_begins d.lots new label e in
-    let t = there_so sc f w h o b.0 label kinds.Single s b.1 in
-    let turn = turns.End b.0.id in
-    let plan = ending turn (return_steps d.fixed b.0) in
-    let first : (k : Turn) → unmap_turn b.0 ≡ k → with_lot turns.Stay unmap_turn (lot_named d.lots label kinds.Single) ≡ k = λ k is. ap (with_lot turns.Stay unmap_turn) b.1 ∙ is in
-    let steps : (p : List Step) → unmap_steps d.fixed b.0 ≡ p → with_lot [] (unmap_steps d.fixed) (lot_named d.lots label kinds.Single) ≡ p = λ p is. ap (with_lot [] (unmap_steps d.fixed)) b.1 ∙ is in
-    as_made sc f w h o new s b.2
-    (elim (mapping_still d.fixed b.0 (ap is_area t.its_kind) s.full t.still) [
-      | inl device ↦ returns_bytes sc f w h o b.0 label kinds.Single turn s t refl device (inr refl) (λ sync. refl) (first (turns.Return b.0.id) (if_device b.0 (turns.End b.0.id) (turns.Return b.0.id) device)) (steps plan (if_device b.0 [] plan device))
-      | inr synced ↦ ends_bytes sc f w h o b.0 label kinds.Single s t refl synced.0 (first turn (if_synced b.0 (turns.End b.0.id) (turns.Return b.0.id) synced.0)) (steps [] (if_synced b.0 [] plan synced.0))
-    ])
-
-pub list_bytes : (sc : Scenario) (f : List ℕ) (w : WorldState) (h : HartNo) (label : Label) (count : ℕ) (r : Result (List Lot) Refusal) → IsStart sc f w h (ops.UnmapSg label count) → begin (driver_of w h.0).fixed (driver_of w h.0).lots w.owners w.pages (ops.UnmapSg label count) ≡ r
-    → BytesStand sc f (gone w h w.machine (begun (driver_of w h.0) (ops.UnmapSg label count) r))
-unfolding begin opening plan_of meaning lists.unmap_sg
-list_bytes sc f w h label count (Err r) s e = gives_bytes sc f w h (ops.UnmapSg label count) r s.flat s.lt s.idle (as_wanted (driver_of w h.0).fixed (driver_of w h.0).lots s.still)
-list_bytes sc f w h label count (Ok new) s e =
-    let d = driver_of w h.0 in
-    let o = ops.UnmapSg label count in
-    let b = list_begins d.lots new label count e in
-    let t = there_so sc f w h o b.0 label kinds.List s b.1 in
-    let turn = turns.End b.0.id in
-    let plan = ending turn (return_steps d.fixed b.0) in
-    as_made sc f w h o new s b.2
-    (elim (mapping_still d.fixed b.0 (ap is_area t.its_kind) s.full t.still) [
-      | inl device ↦ returns_bytes sc f w h o b.0 label kinds.List turn s t refl device (inr refl) (λ sync. absurd cc) (ap (with_lot turns.Stay unmap_sg_turn) b.1) (ap (with_lot [] (unmap_sg_steps d.fixed)) b.1)
-      | inr synced ↦ let no : kinds.Single ≡ kinds.List = sym synced.1 ∙ t.its_kind in absurd cc
-    ])
