@@ -3,7 +3,9 @@ pub mod Passes
 pub mod Drivers
 pub mod PoolPlaces
 pub mod Places
+pub mod Besides
 pub mod Shifts
+pub mod StepTokens
 pub mod StepFrames
 pub mod StepQueues
 pub mod StepSeen
