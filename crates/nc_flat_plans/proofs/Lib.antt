@@ -21,4 +21,6 @@ pub mod Loads
 pub mod AreaRows
 pub mod AreaSteps
 pub mod AreaFences
+pub mod LightSteps
+pub mod LightEvents
 pub mod PlanEvents

@@ -1,8 +1,8 @@
 -- The end of a plan that lends with light fences: its marker is issued, and then its token, with which the plan is over.
 use Rattle.std.specs.Prelude.{None, All, ◌==◌, ◌&&◌, nat_le, nat_lt, Bool, true, false, if◌then◌else◌, length}
-use Rattle.std.specs.List.{list_any, find}
+use Rattle.std.specs.List.{list_any}
 use Rattle.std.proofs.Common.{◌≡◌, ℕ, ◌<◌, ◌+◌, List, [], ◌∷◌, ◌++◌, refl, sym, ap, ◌∙◌, inl, inr, subst}
-use Rattle.std.proofs.lemmas.Bool.{cases_Bool, and_parts, both_ways, or_left, cond-true, cond-false, eqb-true, false_from_ne_true}
+use Rattle.std.proofs.lemmas.Bool.{cases_Bool, and_parts, both_ways, or_left, cond-false, eqb-true, false_from_ne_true}
 use Rattle.nc_num.specs.declared.names.HartNo.{HartNo}
 use Rattle.nc_num.specs.declared.names.MapId.{MapId}
 use Rattle.nc_plan.specs.declared.ops.HartOp.{HartOp}
@@ -21,7 +21,6 @@ use Rattle.nc_rules.specs.declared.steps.Act.{Act}
 use Rattle.nc_rules.specs.declared.steps.Step.{Step}
 use Rattle.nc_rules.specs.declared.steps.Turn.{Turn}
 use Rattle.nc_rules.specs.declared.steps.Turn.TheVariants as turns
-use Rattle.nc_rules.specs.Lots.{Fixed}
 use Rattle.nc_rules.specs.Machine.{MachineState, queue_of}
 use Rattle.nc_rules.specs.Turns.{is_area, lots_after}
 use Rattle.nc_rules.specs.Calls.{issue_next}
@@ -41,14 +40,14 @@ use Rattle.nc_flatness.specs.Steps.{Goes}
 use Rattle.nc_flatness.proofs.Rests.{behind, by_token}
 use Rattle.nc_flatness.proofs.Stands.{post_stands}
 use Rattle.nc_flat_starts.proofs.Frames.{IsOff}
-use Rattle.nc_flat_plans.proofs.Passes.{IsPlain, IsBlank}
+use Rattle.nc_flat_plans.proofs.Passes.{IsBlank}
 use Rattle.nc_flat_plans.proofs.Drivers.{IsNext, IsDone, done_so, coming_next, settling_next}
-use Rattle.nc_flat_plans.proofs.Places.{IsUnder, lends_under, beside, far_label}
+use Rattle.nc_flat_plans.proofs.Places.{IsUnder, lends_under, its_id, beside, far_label}
 use Rattle.nc_flat_plans.proofs.StepTokens.{same_entered, kept_tokens}
 use Rattle.nc_flat_plans.proofs.StepQueues.{stays_zeroed}
 use Rattle.nc_flat_plans.proofs.OwnPlaces.{to_come}
 use Rattle.nc_flat_plans.proofs.AreaRows.{last_settles}
-use Rattle.nc_flat_plans.proofs.LightSteps.{IsLightPut, light_bytes}
+use Rattle.nc_flat_plans.proofs.LightSteps.{light_bytes}
 use Rattle.nc_flat_plans.proofs.Issues.{IsOpNext, op_hart, op_enters, went_by, op_goes}
 
 -- ---- the operations
@@ -113,7 +112,7 @@ marked_goes sc f w h o s rest next is =
       enters = by;
       blank = mark_blank m;
       queued = tt;
-      comes = λ i. coming_next lot _ s rest later (plain lot.id) ∙ ap (λ (a : Act). act_coming a ++ to_come h lot i rest) k.act;
+      comes = λ i. coming_next lot (its_id h lot i) s rest later (plain lot.id) ∙ ap (λ (a : Act). act_coming a ++ to_come h lot i rest) k.act;
       unsettled = settling_next lot.id s rest (plain lot.id) ∙ settles;
       settles = settles;
       last = ap rest_last is.left;
@@ -172,7 +171,7 @@ posted_goes sc f w h o s rest next is =
       enters = by;
       blank = token_blank m lot;
       queued = tt;
-      comes = λ i. ap (λ (r : List Step). to_come h lot i r) all ∙ token_comes _ lot ∙ ap (λ (r : List Step). e ∷ to_come h lot i r) (sym is.over);
+      comes = λ i. ap (λ (r : List Step). to_come h lot i r) all ∙ token_comes (its_id h lot i) lot ∙ ap (λ (r : List Step). e ∷ to_come h lot i r) (sym is.over);
       unsettled = unsettled lot.id;
       settles = ap (settling lot.id) is.over;
       last = ap rest_last is.over;

@@ -1,7 +1,7 @@
 -- A step of a plan that lends with light fences: its marker or its token, which gives no byte, is issued.
-use Rattle.std.specs.Prelude.{Option, Some, None, All, true, false}
+use Rattle.std.specs.Prelude.{None, All, true, false}
 use Rattle.std.specs.List.{list_any}
-use Rattle.std.proofs.Common.{◌≡◌, ℕ, ◌<◌, List, [], ◌∷◌, refl, sym, ap, ◌∙◌, inl, inr, subst}
+use Rattle.std.proofs.Common.{◌≡◌, ℕ, ◌<◌, List, [], ◌∷◌, sym, ap, ◌∙◌, inl, inr}
 use Rattle.std.proofs.lemmas.Bool.{cases_Bool, both_ways}
 use Rattle.nc_num.specs.Memory.{byte}
 use Rattle.nc_num.specs.Places.{covers}
@@ -10,10 +10,9 @@ use Rattle.nc_num.specs.declared.names.MapId.{MapId}
 use Rattle.nc_num.specs.declared.places.Span.{Span}
 use Rattle.nc_queue.specs.declared.entry.Entry.{Entry as QueueEntry}
 use Rattle.nc_lines.specs.Lines.{bare}
-use Rattle.nc_model.specs.declared.owners.Owner.{Owner}
 use Rattle.nc_model.specs.declared.owners.Owner.TheVariants.{Lending}
 use Rattle.nc_ops.specs.declared.ops.Op.{Op}
-use Rattle.nc_scen.specs.Regions.{pool_of, slots_of}
+use Rattle.nc_scen.specs.Regions.{pool_of}
 use Rattle.nc_scen.specs.declared.scenario.Scenario.{Scenario}
 use Rattle.nc_sg.specs.declared.list.Entry.{Entry}
 use Rattle.nc_rules.specs.declared.lots.Lot.{Lot}
@@ -26,14 +25,14 @@ use Rattle.nc_rules.specs.Turns.{is_area}
 use Rattle.nc_rules.specs.Driver.{Went}
 use Rattle.nc_rules.specs.Watched.{owner_of}
 use Rattle.nc_rules.specs.World.{WorldState, driver_of}
-use Rattle.nc_rows.specs.Ahead.{is_full, names, settling}
+use Rattle.nc_rows.specs.Ahead.{is_full, settling}
 use Rattle.nc_rows.specs.Parts.{IsQueued, IsZeroed, rest_last}
 use Rattle.nc_rows.specs.Rows.{Row}
 use Rattle.nc_row_issues.specs.Laws.{Enters, NoToken}
 use Rattle.nc_row_issues.proofs.PlacePushes.{calm_pushed}
 use Rattle.nc_row_issues.proofs.RowIssues.{rows_issue}
 use Rattle.nc_row_plans.proofs.PlanEnds.{rows_plan}
-use Rattle.nc_flatness.specs.Books.{book_of, IsPooled}
+use Rattle.nc_flatness.specs.Books.{book_of}
 use Rattle.nc_flatness.specs.Flatness.{BytesStand}
 use Rattle.nc_flatness.specs.Tokens.{TokenStands}
 use Rattle.nc_flatness.proofs.Outcomes.{gone}
