@@ -1,5 +1,5 @@
 -- The end of a plan that lends with light fences: its marker is issued, and then its token, with which the plan is over.
-use Rattle.std.specs.Prelude.{None, All, ◌==◌, ◌&&◌, nat_le, nat_lt, Bool, true, false, if◌then◌else◌, length}
+use Rattle.std.specs.Prelude.{None, All, ◌==◌, ◌&&◌, nat_le, nat_lt, Bool, true, false, length}
 use Rattle.std.specs.List.{list_any}
 use Rattle.std.proofs.Common.{◌≡◌, ℕ, ◌<◌, ◌+◌, List, [], ◌∷◌, ◌++◌, refl, sym, ap, ◌∙◌, inl, inr, subst}
 use Rattle.std.proofs.lemmas.Bool.{cases_Bool, and_parts, both_ways, or_left, cond-false, eqb-true, false_from_ne_true}

@@ -1,6 +1,6 @@
 -- A step of a plan: a piece of a copy, a cache operation, a full fence, or the marker or the token of a light one.
 use Rattle.std.specs.Prelude.{Option, Some, true}
-use Rattle.std.proofs.Common.{◌≡◌, ℕ, List, [], ◌∷◌, length, refl, ap, ◌∙◌, subst, arith}
+use Rattle.std.proofs.Common.{◌≡◌, ℕ, List, [], ◌∷◌, length, refl, ap, subst, arith}
 use Rattle.nc_num.specs.declared.names.HartNo.{HartNo}
 use Rattle.nc_ops.specs.declared.ops.Op.{Op}
 use Rattle.nc_scen.specs.declared.events.Event.TheVariants as events

@@ -1,10 +1,9 @@
 -- A step of a plan that queues no token: the tokens of its hart's lots stand as they did.
 use Rattle.std.specs.Prelude.{All, ◌||◌, Bool, true, false, filter}
 use Rattle.std.specs.List.{list_any}
-use Rattle.std.proofs.Common.{◌≡◌, List, [], ◌∷◌, ◌++◌, refl, sym, ap, ◌∙◌, inl, inr, subst}
+use Rattle.std.proofs.Common.{◌≡◌, ℕ, List, ◌∷◌, refl, sym, ap, ◌∙◌, inl, inr, subst}
 use Rattle.std.proofs.lemmas.Bool.{or_from, both_ways}
 use Rattle.std.proofs.lemmas.List.{append-nil}
-use Rattle.std.proofs.Common.{ℕ}
 use Rattle.nc_num.specs.declared.names.HartNo.{HartNo}
 use Rattle.nc_queue.specs.declared.entry.Entry.{Entry}
 use Rattle.nc_queue.proofs.TestLaws.{filter-push_other}
