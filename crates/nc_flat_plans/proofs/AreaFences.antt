@@ -36,10 +36,11 @@ use Rattle.nc_flatness.specs.Books.{book_of, IsPooled}
 use Rattle.nc_flatness.specs.Plans.{IsSettle, IsAreaGive, IsTakeBack}
 use Rattle.nc_flatness.specs.Steps.{Goes}
 use Rattle.nc_flatness.proofs.Outcomes.{gone}
+use Rattle.nc_flatness.proofs.Rests.{by_turn}
 use Rattle.nc_flat_starts.proofs.Frames.{IsPlace, rewrites_none, goes_still, loan_hart, last_none}
 use Rattle.nc_flat_plans.proofs.OwnRows.{either_true}
 use Rattle.nc_flat_plans.proofs.Drivers.{IsNext, IsDone, done_so, same_id}
-use Rattle.nc_flat_plans.proofs.Places.{IsUnder, its_id, its_loan, known, in_ram, unslotted}
+use Rattle.nc_flat_plans.proofs.Places.{IsUnder, lends_under, back_under, its_id, its_loan, known, in_ram, unslotted}
 use Rattle.nc_flat_plans.proofs.Shifts.{sided, IsShift, side_loans, side_shift, end_shift}
 use Rattle.nc_flat_plans.proofs.StepFrames.{driven, behind_bytes}
 use Rattle.nc_flat_plans.proofs.StepQueues.{queue_clear}
@@ -47,7 +48,7 @@ use Rattle.nc_flat_plans.proofs.StepSeen.{area_unseen}
 use Rattle.nc_flat_plans.proofs.OwnPlaces.{to_come}
 use Rattle.nc_flat_plans.proofs.AreaRows.{last_settles, allocating_as, giving_as, taking_as, area_is_pooled, unheld_lent, unheld_back, nobodys}
 use Rattle.nc_flat_plans.proofs.Backs.{turn_comes}
-use Rattle.nc_flat_plans.proofs.Fences.{fence_event, given_comes}
+use Rattle.nc_flat_plans.proofs.Fences.{fence_event, fence_tokens, given_comes}
 use Rattle.nc_flat_plans.proofs.Issues.{IsOpNext, op_may, emptied, went_by}
 
 -- ---- the bytes behind it
@@ -79,6 +80,7 @@ area_fenced sc f w h o s rest lot to c =
       lasting = last_none (book_of v) f h.0 (hart_of m h.0).last (rest_last went.driver.rest) (ap rest_last (c.done.rest ∙ c.over));
       calm = λ z slot unseen. u.flat.bytes.calm z slot (area_unseen sc f w h m went lot to z u c.area c.shift slot unseen);
       pooled = λ i e x p on. c.pooled i e x p;
+      tokens = fence_tokens sc f w h o s rest c.op c.done;
       free = λ i e x p on. inl (c.free i e x p);
     }))
 
@@ -114,7 +116,7 @@ settled_goes sc f w h o s rest next is =
     let lot = is.lot in
     let went = went_by w h full in
     let k : IsOpNext sc f w h o full s rest = record { next = next; act = ap (λ (t : Step). t.act) is.step } in
-    let u : IsUnder sc f w h lot = record { flat = next.now.flat; lt = next.now.there; here = is.hand.here; others = is.hand.others; moves = inl is.hand.side_is } in
+    let u : IsUnder sc f w h lot = lends_under sc f w h o s rest lot true next is.hand (by_turn lot.id s rest (turns.Settle lot.id) (ap (λ (t : Step). t.last) is.step) (same_id lot.id)) in
     let area = is.hand.area_is in
     let done = done_so sc f w h o s rest _ next refl in
     let turn : s.last ≡ turns.Settle lot.id = ap (λ (t : Step). t.last) is.step in
@@ -148,7 +150,7 @@ area_given_goes sc f w h o s rest next is =
     let went = went_by w h full in
     let v = gone w h m went in
     let k : IsOpNext sc f w h o full s rest = record { next = next; act = ap (λ (t : Step). t.act) is.step } in
-    let u : IsUnder sc f w h lot = record { flat = next.now.flat; lt = next.now.there; here = is.hand.here; others = is.hand.others; moves = inl is.hand.side_is } in
+    let u : IsUnder sc f w h lot = lends_under sc f w h o s rest lot true next is.hand (by_turn lot.id s rest (turns.Give lot.id) (ap (λ (t : Step). t.last) is.step) (same_id lot.id)) in
     let area = is.hand.area_is in
     let done = done_so sc f w h o s rest _ next refl in
     let turn : s.last ≡ turns.Give lot.id = ap (λ (t : Step). t.last) is.step in
@@ -183,7 +185,7 @@ taken_goes sc f w h o s rest next is =
     let lot = is.lot in
     let went = went_by w h full in
     let k : IsOpNext sc f w h o full s rest = record { next = next; act = ap (λ (t : Step). t.act) is.step } in
-    let u : IsUnder sc f w h lot = record { flat = next.now.flat; lt = next.now.there; here = is.hand.here; others = is.hand.others; moves = inr is.hand.side_is } in
+    let u : IsUnder sc f w h lot = back_under sc f w h o s rest lot true next is.hand in
     let area = is.hand.area_is in
     let done = done_so sc f w h o s rest _ next refl in
     let turn : s.last ≡ is.turn = ap (λ (t : Step). t.last) is.step in

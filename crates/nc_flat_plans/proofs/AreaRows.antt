@@ -37,7 +37,7 @@ use Rattle.nc_flatness.specs.Books.{book_of, IsPooled}
 use Rattle.nc_flatness.proofs.BookReads.{pool_unheld}
 use Rattle.nc_flatness.proofs.Outcomes.{gone}
 use Rattle.nc_flat_starts.proofs.Frames.{IsPlace, rest_hart}
-use Rattle.nc_flat_plans.proofs.OwnRows.{either_true, of_either_true, of_either_false}
+use Rattle.nc_flat_plans.proofs.OwnRows.{either_true, either_false, of_either_true, of_either_false}
 use Rattle.nc_flat_plans.proofs.Places.{IsUnder, its_id, its_loan, known, owned, pooled}
 use Rattle.nc_flat_plans.proofs.Shifts.{sided, seen_mapped, IsShift}
 use Rattle.nc_flat_plans.proofs.StepFrames.{driven, known_now}
@@ -97,6 +97,18 @@ as_allocating sc f w h k went lot i e x v rest u area p side shift left settles 
     let by : AllocatingRow n v (to_come h lot i (c.rest h.0)) k x = subst (λ (r : List Step). AllocatingRow n v (to_come h lot i r) k x) (sym rests) row in
     let so : settling lot.id (c.rest h.0) ≡ true = ap (settling lot.id) rests ∙ settles in
     let now : LentRow c n (Some (its_loan w h lot i e)) v k x = either_true (is_area lot.kind) _ _ area (either_true (settling lot.id (c.rest h.0)) _ _ so by) in
+    subst (λ (s : Side). Row c (owner_of_side n s) v k x) (sym side) (subst (λ (o : Option Loan). LentRow c n o v k x) (sym loan) now)
+
+pub as_giving : (sc : Scenario) (f : List ℕ) (w : WorldState) (h : HartNo) (k : MachineState) (went : Went) (lot : Lot) (i : ℕ) (e : Entry) (x v : ℕ) (rest : List Step) → IsUnder sc f w h lot → is_area lot.kind ≡ true → IsPlace lot i e x → lot.side ≡ sides.Lending
+    → IsShift w h went lot (sided lot.side) → went.driver.rest ≡ rest → settling lot.id rest ≡ false → GivingRow (its_id h lot i) v (to_come h lot i rest) k x → Row (book_of (gone w h k went)) (owner_of_side (its_id h lot i) lot.side) v k x
+as_giving sc f w h k went lot i e x v rest u area p side shift left settles row =
+    let c = book_of (gone w h k went) in
+    let n = its_id h lot i in
+    let rests : c.rest h.0 ≡ rest = rest_hart w h k went h.0 (driven sc f w h lot u) refl ∙ left in
+    let loan = known_now sc f w h k went lot (sided lot.side) i e u shift (seen_mapped n lot.side (inl side)) p.entry in
+    let by : GivingRow n v (to_come h lot i (c.rest h.0)) k x = subst (λ (r : List Step). GivingRow n v (to_come h lot i r) k x) (sym rests) row in
+    let so : settling lot.id (c.rest h.0) ≡ false = ap (settling lot.id) rests ∙ settles in
+    let now : LentRow c n (Some (its_loan w h lot i e)) v k x = either_true (is_area lot.kind) _ _ area (either_false (settling lot.id (c.rest h.0)) _ _ so by) in
     subst (λ (s : Side). Row c (owner_of_side n s) v k x) (sym side) (subst (λ (o : Option Loan). LentRow c n o v k x) (sym loan) now)
 
 -- it may be held while it is allocated

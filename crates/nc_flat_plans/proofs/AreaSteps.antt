@@ -2,7 +2,7 @@
 use Rattle.std.specs.Prelude.{Option, Some, None, unwrap_or, ◌/◌, ◌==◌, true, false}
 use Rattle.std.specs.List.{list_any}
 use Rattle.std.proofs.Common.{◌≡◌, ◌≢◌, ℕ, ◌+◌, ◌*◌, ◌<◌, ◌≤◌, List, [], ◌∷◌, ◌++◌, length, replicate, refl, sym, ap, ◌∙◌, inl, inr, subst, arith}
-use Rattle.std.proofs.lemmas.Bool.{cases_Bool, cases_eq, both_ways, cond-false, eqb-true, false_from_ne_true, ne_eqb}
+use Rattle.std.proofs.lemmas.Bool.{cases_Bool, cases_eq, both_ways, or_parts, cond-false, eqb-true, false_from_ne_true, ne_eqb}
 use Rattle.nc_num.specs.Memory.{byte}
 use Rattle.nc_num.specs.Places.{covers}
 use Rattle.nc_num.specs.declared.names.HartNo.{HartNo}
@@ -33,7 +33,7 @@ use Rattle.nc_rules.specs.Calls.{issue_next}
 use Rattle.nc_rules.specs.Driver.{Went, is_script}
 use Rattle.nc_rules.specs.Watched.{owner_of}
 use Rattle.nc_rules.specs.World.{WorldState, driver_of}
-use Rattle.nc_rows.specs.Ahead.{ends, is_full, settling, act_coming}
+use Rattle.nc_rows.specs.Ahead.{turns_lot, stores_io, tokens_lot, ends, is_full, settling, act_coming}
 use Rattle.nc_rows.specs.Parts.{IsQueued, IsZeroed, rest_last}
 use Rattle.nc_rows.specs.Rows.{AllocatingRow, Row}
 use Rattle.nc_row_issues.specs.Laws.{Enters, NoByte, NoBlock}
@@ -49,19 +49,20 @@ use Rattle.nc_flatness.proofs.FlatBytes.{byte_zeroed}
 use Rattle.nc_flatness.proofs.Lasts.{last_stays}
 use Rattle.nc_flatness.proofs.Outcomes.{gone}
 use Rattle.nc_flatness.proofs.Owned.{owned_ram}
-use Rattle.nc_flatness.proofs.Rests.{settling_ends}
+use Rattle.nc_flatness.proofs.Rests.{settling_ends, behind}
 use Rattle.nc_flatness.proofs.Seen.{seen, seen_ways, slotted_in, seen_lent}
 use Rattle.nc_flat_starts.proofs.Frames.{IsPlace, IsOff, Rewrites, rest_hart, last_none}
 use Rattle.nc_flat_plans.proofs.OwnRows.{same_full}
 use Rattle.nc_flat_plans.proofs.Passes.{IsPlain, IsClear, passes_by, op_plain, writes_whole}
 use Rattle.nc_flat_plans.proofs.Drivers.{IsNext, IsDone, done_so, coming_next, settling_next}
 use Rattle.nc_flat_plans.proofs.PoolPlaces.{slot_unpooled}
-use Rattle.nc_flat_plans.proofs.Places.{IsUnder, its_id, its_loan, mapping_of, pooled}
+use Rattle.nc_flat_plans.proofs.Places.{IsUnder, lends_under, its_id, its_loan, mapping_of, pooled}
+use Rattle.nc_flat_plans.proofs.Besides.{posted_beside}
 use Rattle.nc_flat_plans.proofs.Shifts.{sided, seen_mapped, held, stay_shift}
+use Rattle.nc_flat_plans.proofs.StepTokens.{IsUntokened, same_entered, kept_tokens}
 use Rattle.nc_flat_plans.proofs.StepFrames.{driven, known_now, enters_by, behind_bytes}
 use Rattle.nc_flat_plans.proofs.StepQueues.{stays_dropped, stays_zeroed, queue_stays, queue_more}
 use Rattle.nc_flat_plans.proofs.StepSeen.{area_unseen}
-use Rattle.nc_flat_plans.proofs.Copies.{no_lender}
 use Rattle.nc_flat_plans.proofs.OwnPlaces.{to_come}
 use Rattle.nc_flat_plans.proofs.AreaRows.{allocating_as, as_allocating, may_hold, area_is_pooled}
 use Rattle.nc_flat_plans.proofs.Issues.{IsOpNext, op_there, op_enters, kept_silent, went_by, op_goes, zero_goes}
@@ -80,6 +81,7 @@ pub record IsAreaPut (sc : Scenario) (f g : List ℕ) (w : WorldState) (h : Hart
   pub settles : settling lot.id rest ≡ true
   pub last : rest_last rest ≡ None
   pub plain : IsPlain e
+  pub token : IsUntokened e
   pub puts : (i : ℕ) (d : Entry) (x : ℕ) → IsPlace lot i d x → Zeroes w.machine e x (to_come h lot i rest)
   pub clear : (x : ℕ) → x < sc.ram → covers (slots_of sc) x ≡ false → IsOff lot x → IsClear (book_of w) (owner_of w x) w.machine h.0 e x
   pub slots : (z : ℕ) → covers (slots_of sc) z ≡ true → NoByte w.machine e z
@@ -151,6 +153,7 @@ area_bytes sc f g w h o s rest k went e lot c done by queued =
       lasting = last_none (book_of v) g h.0 (hart_of k h.0).last (rest_last went.driver.rest) (ap rest_last done.rest ∙ c.last);
       calm = λ z slot unseen. calm_pushed m k h.0 e z by (c.slots z slot) (u.flat.bytes.calm z slot (area_unseen sc f w h k went lot (sided lot.side) z u c.area shift slot unseen));
       pooled = λ i d x p over. area_is_pooled sc f w h k went lot i d x (owner_of_side (its_id h lot i) lot.side) c.area p (known_now sc f w h k went lot (sided lot.side) i d u shift (seen_mapped (its_id h lot i) lot.side (inl c.side)) p.entry);
+      tokens = kept_tokens sc f w h o s rest k went c.next done (λ id. (or_parts (turns_lot id s.last) (stores_io (tokens_lot id) s.act) (c.ends_none id)).1) (same_entered m k h e by c.token);
       free = λ i d x p over. inr (may_hold sc f w h k went lot i d x rest u c.area p c.side shift done.rest c.settles);
     })
 
@@ -163,7 +166,7 @@ flushed_goes sc f w h o s rest next is =
     let op = hart_ops.Cbo cbos.Flush is.block in
     let e = entries.Cbo is.block cbos.Flush in
     let k : IsOpNext sc f w h o op s rest = record { next = next; act = ap (λ (t : Step). t.act) is.step } in
-    let u : IsUnder sc f w h lot = record { flat = next.now.flat; lt = next.now.there; here = is.hand.here; others = is.hand.others; moves = inl is.hand.side_is } in
+    let u : IsUnder sc f w h lot = lends_under sc f w h o s rest lot true next is.hand (behind lot.id s rest (settling_ends lot.id rest is.settles)) in
     let put : IsAreaPut sc f f w h o s rest e lot = record {
       next = next;
       under = u;
@@ -175,13 +178,15 @@ flushed_goes sc f w h o s rest next is =
       settles = is.settles;
       last = is.next;
       plain = op_plain is.block cbos.Flush;
+      token = λ id. refl;
       puts = λ i d x p. record { fits = tt; whole = refl; once = inl refl };
       clear = λ x there out off. record {
         byte = refl;
         device = refl;
         block = λ n l lent known area back. refl;
         area = λ n l owner known area. writes_whole m is.block cbos.Flush x refl;
-        other = λ n owner own. no_lender sc f w h lot n x u there off owner own;
+        token = λ n owner own. refl;
+        posted = λ n owner own. posted_beside sc f w h lot n x u there off owner own;
       };
       slots = λ z slot. refl;
       size = refl;
@@ -207,7 +212,7 @@ record IsZeroNext (sc : Scenario) (f : List ℕ) (w : WorldState) (h : HartNo) (
 
 zero_next : (sc : Scenario) (f : List ℕ) (w : WorldState) (h : HartNo) (o : Op) (s : Step) (rest : List Step) → IsNext sc f w h o s rest → (is : IsZero (driver_of w h.0).fixed (driver_of w h.0).lots s rest) → IsZeroNext sc f w h o s rest is
 zero_next sc f w h o s rest next is =
-    let u : IsUnder sc f w h is.lot = record { flat = next.now.flat; lt = next.now.there; here = is.hand.here; others = is.hand.others; moves = inl is.hand.side_is } in
+    let u : IsUnder sc f w h is.lot = lends_under sc f w h o s rest is.lot true next is.hand (behind is.lot.id s rest (settling_ends is.lot.id rest is.settles)) in
     let size : (driver_of w h.0).fixed.size ≡ w.machine.size = sym (held sc f w h is.lot u).setting.block in
     record {
       op = record { next = next; act = ap (λ (t : Step). t.act) is.step };
@@ -265,6 +270,7 @@ zeroed_goes sc f w h o s rest next is =
       settles = is.settles;
       last = is.next;
       plain = op_plain block cbos.Zero;
+      token = λ id. refl;
       puts = λ i d x p. zero_puts sc f w h o s rest is i x;
       clear = λ x there out off.
           let far : seen w x / m.size ≡ block.0 → ⊥ = zero_far sc f w h lot is.i is.entry block x u area z.whole there off in
@@ -274,7 +280,8 @@ zeroed_goes sc f w h o s rest next is =
             device = zero_byte m block (seen w x) far;
             block = λ j l lent known plain back. zero_block m block _ (λ met. far (ap (λ (y : ℕ). y / m.size) (seen_lent w j l x known lent) ∙ met));
             area = λ j l owner known plain. (zero_block m block x beyond, refl);
-            other = λ j owner own. no_lender sc f w h lot j x u there off owner own;
+            token = λ j owner own. refl;
+            posted = λ j owner own. posted_beside sc f w h lot j x u there off owner own;
           };
       slots = λ y slot. zero_byte m block y (λ met. both_ways (covers (pool_of sc) y) (slot_unpooled sc f w y u.flat slot) (pooled sc f w h lot is.i is.entry y u area (z.whole y met)));
       size = length-written f bytes;

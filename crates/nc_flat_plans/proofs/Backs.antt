@@ -31,6 +31,7 @@ use Rattle.nc_rows.proofs.Steps.{steps_ahead, append_nil}
 use Rattle.nc_flatness.specs.Books.{book_of}
 use Rattle.nc_flatness.specs.Plans.{IsBack}
 use Rattle.nc_flatness.specs.Flatness.{BytesStand}
+use Rattle.nc_flatness.specs.Tokens.{TokenStands}
 use Rattle.nc_flatness.proofs.Outcomes.{gone}
 use Rattle.nc_flat_starts.proofs.Frames.{IsPlace, IsOff, GoesBy, last_none}
 use Rattle.nc_flat_plans.proofs.OwnRows.{BackAs, back_home}
@@ -99,6 +100,7 @@ pub record ComesHome (sc : Scenario) (f : List ℕ) (w : WorldState) (h : HartNo
   pub back : (i : ℕ) (e : Entry) (x : ℕ) → IsPlace lot i e x → Row (book_of w) (owner_of w x) (byte f x) w.machine x → BackAs lot.list.dir (its_id h lot i) (byte f x) [] k x (its_place w h lot i e x)
   pub queue : All (IsQueued (book_of (gone w h k went)) (owner_of (gone w h k went)) k.pool k.size h.0) (queue_of k h.0)
   pub stays : (z : ℕ) → covers (slots_of sc) z ≡ true → CalmRow w.machine z → CalmRow k z
+  pub tokens : went.driver.fixed.light ≡ true → All (TokenStands went.driver.rest (queue_of k h.0)) went.driver.lots
 
 pub home_bytes : (sc : Scenario) (f : List ℕ) (w : WorldState) (h : HartNo) (o : Op) (s : Step) (rest : List Step) (k : MachineState) (went : Went) (lot : Lot) → IsNext sc f w h o s rest → IsDone (driver_of w h.0) s rest went → IsUnder sc f w h lot
     → is_area lot.kind ≡ false → IsBack lot.id s.last → rest ≡ [] → GoesBy w h k → ComesHome sc f w h k went lot → BytesStand sc f (gone w h k went)
@@ -114,4 +116,5 @@ home_bytes sc f w h o s rest k went lot next done u plain back over by c =
       lasting = last_none (book_of v) f h.0 (hart_of k h.0).last (rest_last went.driver.rest) (ap rest_last (done.rest ∙ over));
       calm = λ z slot unseen.
           home_calm sc f w h k went lot (home_to h home.synced) z u home.shift (λ i e x p. (all i e x p (u.flat.bytes.rows x (in_ram sc f w h lot i e x u p) (unslotted sc f w h lot i e x u p))).1) (c.stays z slot) slot unseen;
+      tokens = c.tokens;
     })

@@ -31,16 +31,17 @@ use Rattle.nc_flatness.specs.Plans.{HasEnd, IsWriteBack, IsDrop}
 use Rattle.nc_flatness.specs.Steps.{Goes}
 use Rattle.nc_flatness.proofs.Outcomes.{gone}
 use Rattle.nc_flatness.proofs.Loans.{loan_is}
+use Rattle.nc_flatness.proofs.Rests.{behind}
 use Rattle.nc_flatness.proofs.Seen.{device_place_of}
 use Rattle.nc_flat_starts.proofs.Frames.{IsPlace, rest_hart}
 use Rattle.nc_flat_plans.proofs.OwnRows.{back_op}
 use Rattle.nc_flat_plans.proofs.Passes.{is_kept_op, writes_kept, drops_kept, op_plain, op_byte, op_block, NoWhole, writes_whole, op_whole}
 use Rattle.nc_flat_plans.proofs.Drivers.{IsNext, done_so, returns_later}
 use Rattle.nc_flat_plans.proofs.PoolPlaces.{lent_pooled, pool_apart}
-use Rattle.nc_flat_plans.proofs.Places.{IsUnder, its_id, its_loan, its_place, known, device_unpooled}
+use Rattle.nc_flat_plans.proofs.Places.{IsUnder, lends_under, back_under, its_id, its_loan, its_place, known, device_unpooled}
+use Rattle.nc_flat_plans.proofs.Besides.{posted_beside}
 use Rattle.nc_flat_plans.proofs.Shifts.{sided, seen_mapped, held, stay_shift}
 use Rattle.nc_flat_plans.proofs.StepFrames.{driven, known_now}
-use Rattle.nc_flat_plans.proofs.Copies.{no_lender}
 use Rattle.nc_flat_plans.proofs.OwnPlaces.{to_come}
 use Rattle.nc_flat_plans.proofs.Puts.{IsStaying, IsPut, put_bytes}
 use Rattle.nc_flat_plans.proofs.Issues.{IsOpNext, op_enters, kept_silent, went_by, op_goes}
@@ -55,12 +56,14 @@ op_put sc f w h o op block s rest lot k u kept whole =
     let by = op_enters sc f w h o (hart_ops.Cbo op block) s rest e k refl in
     record {
       plain = op_plain block op;
+      token = λ id. refl;
       clear = λ x there off beyond. record {
         byte = op_byte m block op x kept;
         device = op_byte m block op _ kept;
         block = λ j l lent known area back. op_block m block op _ kept;
         area = λ j l owner known area. whole x (lent_pooled sc f w j l x u.flat there owner known area);
-        other = λ j owner own. no_lender sc f w h lot j x u there beyond owner own;
+        token = λ j owner own. refl;
+        posted = λ j owner own. posted_beside sc f w h lot j x u there beyond owner own;
       };
       lends = λ side i d x p. (op_byte m block op x kept, inr (inl (op_byte m block op _ kept)));
       backs = λ side i d x p row. back_op lot.list.dir m n e (its_id h lot i) _ x _ (to_come h lot i rest) by refl (λ z. op_byte m block op z kept) (λ z. op_block m block op z kept) row;
@@ -93,7 +96,7 @@ pub written_goes : (sc : Scenario) (f : List ℕ) (w : WorldState) (h : HartNo) 
 written_goes sc f w h o s rest next is =
     let cbo = hart_ops.Cbo is.op is.block in
     let k : IsOpNext sc f w h o cbo s rest = record { next = next; act = ap (λ (t : Step). t.act) is.step } in
-    let u : IsUnder sc f w h is.lot = record { flat = next.now.flat; lt = next.now.there; here = is.hand.here; others = is.hand.others; moves = inl is.hand.side_is } in
+    let u : IsUnder sc f w h is.lot = lends_under sc f w h o s rest is.lot false next is.hand (behind is.lot.id s rest is.later) in
     op_event sc f w h o is.op is.block s rest is.lot k u is.step (writes_kept is.op is.writes) (λ x over. writes_whole w.machine is.block is.op x is.writes) is.hand.area_is is.later is.next
     (written_queued w (gone w h (issue_next w.machine h.0 cbo) (went_by w h cbo)) h.0 is.op is.block.0 is.writes)
 
@@ -115,7 +118,7 @@ dropped_goes sc f w h o s rest next is =
     let went = went_by w h cbo in
     let v = gone w h n went in
     let k : IsOpNext sc f w h o cbo s rest = record { next = next; act = ap (λ (t : Step). t.act) is.step } in
-    let u : IsUnder sc f w h lot = record { flat = next.now.flat; lt = next.now.there; here = is.hand.here; others = is.hand.others; moves = inr is.hand.side_is } in
+    let u : IsUnder sc f w h lot = back_under sc f w h o s rest lot false next is.hand in
     let done = done_so sc f w h o s rest _ next refl in
     let shift = stay_shift sc f w h went lot s rest u done (ap (λ (t : Step). t.last) is.step) in
     let id = its_id h lot is.i in

@@ -15,14 +15,10 @@ use Rattle.nc_queue.specs.declared.entry.Entry.{Entry as QueueEntry}
 use Rattle.nc_queue.specs.declared.entry.Entry.TheVariants as entries
 use Rattle.nc_model.proofs.Faults.{covers-low, covers-high}
 use Rattle.nc_model.specs.declared.owners.Owner.{Owner}
-use Rattle.nc_model.specs.declared.owners.Owner.TheVariants.{Lending}
 use Rattle.nc_scen.specs.Regions.{pool_of, slots_of}
 use Rattle.nc_scen.specs.declared.scenario.Scenario.{Scenario}
 use Rattle.nc_sg.specs.declared.list.Entry.{Entry}
 use Rattle.nc_rules.specs.declared.lots.Lot.{Lot}
-use Rattle.nc_rules.specs.declared.lots.Side.{Side}
-use Rattle.nc_rules.specs.declared.lots.Side.TheVariants as sides
-use Rattle.nc_rules.specs.Lots.{owner_of_side}
 use Rattle.nc_rules.specs.Machine.{MachineState}
 use Rattle.nc_rules.specs.Turns.{is_area}
 use Rattle.nc_rules.specs.Watched.{owner_of}
@@ -36,10 +32,11 @@ use Rattle.nc_flatness.proofs.Owned.{mapped, owned_ram}
 use Rattle.nc_flatness.proofs.WholeBlocks.{mapped_block}
 use Rattle.nc_flatness.proofs.Seen.{seen, place_ways, mapped_unslotted, seen_lent, seen_ways, slotted_in, slot_block, seen_one, seen_whole}
 use Rattle.nc_flatness.proofs.Lasts.{last_lent}
-use Rattle.nc_flat_starts.proofs.Frames.{IsPlace, IsOff, IsRestful}
+use Rattle.nc_flat_starts.proofs.Frames.{IsPlace, IsOff}
 use Rattle.nc_flat_plans.proofs.Passes.{NoWhole, IsLentTo, IsClear}
 use Rattle.nc_flat_plans.proofs.PoolPlaces.{lent_pooled, slot_unpooled, pool_apart}
-use Rattle.nc_flat_plans.proofs.Places.{IsUnder, its_id, its_place, owned, mapping_of, in_ram, unslotted, unpooled, seen_its, ways, restful}
+use Rattle.nc_flat_plans.proofs.Places.{IsUnder, its_id, its_place, mapping_of, in_ram, unslotted, unpooled, seen_its, ways, beside, far_label}
+use Rattle.nc_flat_plans.proofs.Besides.{posted_beside}
 
 -- the store of a piece
 abbrev pub piece_of : Span → List ℕ → QueueEntry
@@ -122,20 +119,12 @@ in_slots sc f w h lot i e dst z u d on =
 
 -- ---- the places beside let it pass
 
-lent_moves : (n : MapId) (side : Side) → (side ≡ sides.Lending) ⊎ (side ≡ sides.Returning) → IsRestful (owner_of_side n side) → ⊥
-lent_moves n side (inl is) rest = subst (λ (s : Side). IsRestful (owner_of_side n s)) is rest
-lent_moves n side (inr is) rest = subst (λ (s : Side). IsRestful (owner_of_side n s)) is rest
-
 -- a place beside has no owner of the lot
 pub not_its : (sc : Scenario) (f : List ℕ) (w : WorldState) (h : HartNo) (lot : Lot) (i : ℕ) (e : Entry) (x y : ℕ) → IsUnder sc f w h lot → x < sc.ram → IsOff lot x → IsPlace lot i e y → owner_of w y ≡ owner_of w x → ⊥
 not_its sc f w h lot i e x y u there off p same =
     let n = its_id h lot i in
-    let owner : owner_of w x ≡ owner_of_side n lot.side = sym same ∙ owned sc f w h lot i e y u p in
-    let mapped : mapping_in (owner_of w x) ≡ Some n = sym (ap mapping_in same) ∙ mapping_of sc f w h lot i e y u p in
-    lent_moves n lot.side u.moves (subst IsRestful owner (restful sc f w h lot n x u there off mapped refl))
-
-pub no_lender : (sc : Scenario) (f : List ℕ) (w : WorldState) (h : HartNo) (lot : Lot) (n : MapId) (x : ℕ) → IsUnder sc f w h lot → x < sc.ram → IsOff lot x → owner_of w x ≡ Lending n → n.hart.0 ≡ h.0 → ⊥
-no_lender sc f w h lot n x u there off owner own = subst IsRestful owner (restful sc f w h lot n x u there off (ap mapping_in owner) own)
+    let is : mapping_in (owner_of w x) ≡ Some n = sym (ap mapping_in same) ∙ mapping_of sc f w h lot i e y u p in
+    far_label sc f w h lot n x u (beside sc f w h lot n x u there off is refl) refl
 
 lent_mapping : (n : MapId) (o : Owner) → IsLentTo n o → mapping_in o ≡ Some n
 lent_mapping n o (inl is) = ap mapping_in is
@@ -164,7 +153,8 @@ slot_clear sc f w h lot i e dst bytes x u d there off beyond =
           let same = seen_whole sc f w n l x p.0 u.flat there (in_ram sc f w h lot i e p.0 u p.1) (lent_mapping n (owner_of w x) lent) known back here (unslotted sc f w h lot i e p.0 u p.1) blocks in
           not_its sc f w h lot i e x p.0 u there beyond p.1 same);
       area = λ n l owner known area. piece_whole sc f w dst bytes x u.flat (lent_pooled sc f w n l x u.flat there owner known area) (slot_unpooled sc f w dst.at u.flat (in_slots sc f w h lot i e dst dst.at u d d.some));
-      other = λ n owner own. no_lender sc f w h lot n x u there beyond owner own;
+      token = λ n owner own. refl;
+      posted = λ n owner own. posted_beside sc f w h lot n x u there beyond owner own;
     }
 
 pub buffer_clear : (sc : Scenario) (f : List ℕ) (w : WorldState) (h : HartNo) (lot : Lot) (i : ℕ) (e : Entry) (dst : Span) (bytes : List ℕ) (x : ℕ) → IsUnder sc f w h lot → is_area lot.kind ≡ false → IsInBuffer lot i e dst → x < sc.ram → covers (slots_of sc) x ≡ false → IsOff lot x
@@ -193,7 +183,8 @@ buffer_clear sc f w h lot i e dst bytes x u plain d there off beyond =
                 both_ways (covers (slots_of sc) dst.at) (unslotted sc f w h lot i e dst.at u p) (slot_block sc f w (device_place l x) dst.at u.flat over (sym meets))
           ]);
       area = λ n l owner known area. piece_whole sc f w dst bytes x u.flat (lent_pooled sc f w n l x u.flat there owner known area) (unpooled sc f w h lot i e dst.at u plain (d.place dst.at d.some));
-      other = λ n owner own. no_lender sc f w h lot n x u there beyond owner own;
+      token = λ n owner own. refl;
+      posted = λ n owner own. posted_beside sc f w h lot n x u there beyond owner own;
     }
 
 -- ---- at the places of the lot itself

@@ -1,9 +1,8 @@
 -- A driver that makes the next step of its plan: how it stands behind it, and what of the plan is to come.
 use Rattle.std.specs.Prelude.{Option, Some, None, All, ◌&&◌, ◌==◌, ◌||◌, not}
 use Rattle.std.specs.List.{list_any, find}
-use Rattle.std.proofs.Common.{◌≡◌, ℕ, Bool, true, false, List, [], ◌∷◌, ◌++◌, refl, sym, ap, ◌∙◌, inl, inr, subst}
-use Rattle.std.proofs.lemmas.Bool.{and_from, eq-eqb, cases_Bool, cond-true, cond-false}
-use Rattle.std.proofs.lemmas.List.Elements.{All-nil, All-cons, All-head, All-tail}
+use Rattle.std.proofs.Common.{◌≡◌, ℕ, Bool, true, false, List, [], ◌∷◌, ◌++◌, refl, sym, ap, ◌∙◌, subst}
+use Rattle.std.proofs.lemmas.Bool.{and_from, eq-eqb, cond-false}
 use Rattle.nc_num.specs.declared.names.HartNo.{HartNo}
 use Rattle.nc_num.specs.declared.names.MapId.{MapId}
 use Rattle.nc_plan.specs.Plans.{In}
@@ -13,7 +12,6 @@ use Rattle.nc_scen.specs.declared.events.Event.TheVariants as events
 use Rattle.nc_scen.specs.declared.scenario.Scenario.{Scenario}
 use Rattle.nc_rules.specs.declared.lots.Lot.{Lot}
 use Rattle.nc_rules.specs.declared.lots.LotId.{LotId}
-use Rattle.nc_rules.specs.declared.lots.Side.{Side}
 use Rattle.nc_rules.specs.declared.lots.Side.TheVariants as sides
 use Rattle.nc_rules.specs.declared.steps.Act.{Act}
 use Rattle.nc_rules.specs.declared.steps.Phase.TheVariants.{Work}
@@ -22,7 +20,7 @@ use Rattle.nc_rules.specs.declared.steps.Step.{Step}
 use Rattle.nc_rules.specs.declared.steps.Turn.{Turn}
 use Rattle.nc_rules.specs.declared.steps.Turn.TheVariants as turns
 use Rattle.nc_rules.specs.Lots.{Fixed, is_lot}
-use Rattle.nc_rules.specs.Turns.{with_side, set_side, lots_after, lots_after_both, transfers_of, turned_by}
+use Rattle.nc_rules.specs.Turns.{lots_after, lots_after_both, transfers_of, turned_by}
 use Rattle.nc_rules.specs.Driver.{DriverState, Went, in_hand, kept, busy, went_to, done, done_of, done_unless, done_in, worked}
 use Rattle.nc_rules.specs.World.{WorldState, driver_of}
 use Rattle.nc_holds.proofs.OwnerEnds.{left_all}
@@ -32,6 +30,7 @@ use Rattle.nc_flatness.specs.Covered.{is_lending}
 use Rattle.nc_flatness.specs.Plans.{HasEnd, StepGoes, Loads, Stores, WritesBack, Drops, Gives, Fences, Ends, Zeroes, Flushes, Settles, GivesArea, TakesBack, Marks, Posts, PlanGoes, EndsOne}
 use Rattle.nc_flatness.specs.Flatness.{IsMapping, PlanLeft, PlanIs, PlanOf, Drives}
 use Rattle.nc_flatness.specs.Steps.{IsNow}
+use Rattle.nc_flatness.proofs.Lents.{sides_mapping}
 use Rattle.nc_flatness.proofs.Rests.{ends_later, back_moves, ends_one_next}
 
 -- ---- the plan in hand
@@ -127,17 +126,6 @@ pub record IsDone (d : DriverState) (s : Step) (left : List Step) (went : Went) 
   pub drives : Drives went.driver
 
 -- each lot stays a mapping
-side_mapping : (f : Fixed) (side : Side) (id : LotId) (lot : Lot) → IsMapping f lot → IsMapping f (with_side side id lot)
-side_mapping f side id lot is = elim (cases_Bool (is_lot id lot)) [
-  | inl named ↦ subst (IsMapping f) (sym (cond-true (is_lot id lot) (record lot { side = side }) lot named)) (record { kind = is.kind; full = is.full })
-  | inr other ↦ subst (IsMapping f) (sym (cond-false (is_lot id lot) (record lot { side = side }) lot other)) is
-]
-
-sides_mapping : (f : Fixed) (side : Side) (id : LotId) (lots : List Lot) → All (IsMapping f) lots → All (IsMapping f) (set_side side id lots)
-sides_mapping f side id [] all = All-nil (IsMapping f)
-sides_mapping f side id (lot ∷ lots) all =
-    All-cons (IsMapping f) (with_side side id lot) (set_side side id lots) (side_mapping f side id lot (All-head (IsMapping f) lot lots all)) (sides_mapping f side id lots (All-tail (IsMapping f) lot lots all))
-
 turn_mapping : (f : Fixed) (t : Turn) (lots : List Lot) → All (IsMapping f) lots → All (IsMapping f) (lots_after t lots)
 turn_mapping f turns.Stay lots all = all
 turn_mapping f (turns.Pass range to) lots all = all

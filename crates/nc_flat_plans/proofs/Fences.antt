@@ -1,5 +1,5 @@
 -- The full fence of a plan: the lot is its channel's, what bounces may come out of its slots, or the lot is its hart's again.
-use Rattle.std.specs.Prelude.{if◌then◌else◌, Bool, false}
+use Rattle.std.specs.Prelude.{All, if◌then◌else◌, Bool, true, false}
 use Rattle.std.specs.List.{list_any}
 use Rattle.std.proofs.Common.{◌≡◌, ℕ, List, [], ◌∷◌, ◌++◌, refl, sym, ap, ◌∙◌, inl, inr, subst}
 use Rattle.std.proofs.lemmas.Bool.{or_left, both_ways}
@@ -28,19 +28,22 @@ use Rattle.nc_rules.specs.Driver.{is_script}
 use Rattle.nc_rules.specs.Watched.{owner_of}
 use Rattle.nc_rules.specs.World.{WorldState, driver_of}
 use Rattle.nc_holds.proofs.ListsA.{all_at, at_get}
-use Rattle.nc_rows.specs.Ahead.{ends, gives_lot, act_coming, token, coming}
+use Rattle.nc_rows.specs.Ahead.{stores_io, tokens_lot, ends, gives_lot, act_coming, token, coming}
 use Rattle.nc_rows.specs.Parts.{rest_last}
 use Rattle.nc_rows.proofs.Steps.{steps_ahead}
 use Rattle.nc_flatness.specs.Books.{book_of}
 use Rattle.nc_flatness.specs.Plans.{HasEnd, IsBack, IsGive, IsFence, IsEnd}
 use Rattle.nc_flatness.specs.Flatness.{BytesStand}
+use Rattle.nc_flatness.specs.Tokens.{TokenStands}
 use Rattle.nc_flatness.specs.Steps.{Goes}
 use Rattle.nc_flatness.proofs.Outcomes.{gone}
+use Rattle.nc_flatness.proofs.Rests.{by_turn}
 use Rattle.nc_flat_starts.proofs.Frames.{goes_still, last_none}
 use Rattle.nc_flat_plans.proofs.OwnRows.{lent_full, back_full}
-use Rattle.nc_flat_plans.proofs.Drivers.{IsNext, done_so, returns_later, same_id}
-use Rattle.nc_flat_plans.proofs.Places.{IsUnder, its_id, its_place, ways}
+use Rattle.nc_flat_plans.proofs.Drivers.{IsNext, IsDone, done_so, returns_later, same_id}
+use Rattle.nc_flat_plans.proofs.Places.{IsUnder, lends_under, back_under, its_id, its_place, ways}
 use Rattle.nc_flat_plans.proofs.Shifts.{sided, held, stay_shift, side_shift}
+use Rattle.nc_flat_plans.proofs.StepTokens.{kept_tokens}
 use Rattle.nc_flat_plans.proofs.StepFrames.{step_bytes}
 use Rattle.nc_flat_plans.proofs.StepQueues.{queue_clear}
 use Rattle.nc_flat_plans.proofs.StepSeen.{unseen_before, moved_seen}
@@ -53,6 +56,11 @@ use Rattle.nc_flat_plans.proofs.Issues.{IsOpNext, op_may, emptied, fence_stays, 
 pub fence_event : (sc : Scenario) (f : List ℕ) (w : WorldState) (h : HartNo) (o : Op) (s : Step) (rest : List Step) → IsOpNext sc f w h o full s rest → BytesStand sc f (gone w h w.machine (went_by w h full)) → Goes sc f w (events.Issue h)
 fence_event sc f w h o s rest k bytes =
     op_goes sc f w h o full s rest k (fence_silent w h (is_script (driver_of w h.0).phase)) (subst (λ (m : MachineState). BytesStand sc f (gone w h m (went_by w h full))) (sym (fence_stays w.machine h.0)) bytes)
+
+-- and so do its tokens
+pub fence_tokens : (sc : Scenario) (f : List ℕ) (w : WorldState) (h : HartNo) (o : Op) (s : Step) (rest : List Step) → IsOpNext sc f w h o full s rest → IsDone (driver_of w h.0) s rest (went_by w h full) → (went_by w h full).driver.fixed.light ≡ true
+    → All (TokenStands (went_by w h full).driver.rest (queue_of w.machine h.0)) (went_by w h full).driver.lots
+fence_tokens sc f w h o s rest k done light = kept_tokens sc f w h o s rest w.machine (went_by w h full) k.next done (λ id. ap (stores_io (tokens_lot id)) k.act) (λ id. refl) light
 
 -- ---- the lot is its channel's
 
@@ -69,7 +77,7 @@ given_goes sc f w h o s rest next is =
     let went = went_by w h full in
     let v = gone w h m went in
     let k : IsOpNext sc f w h o full s rest = record { next = next; act = ap (λ (t : Step). t.act) is.step } in
-    let u : IsUnder sc f w h lot = record { flat = next.now.flat; lt = next.now.there; here = is.hand.here; others = is.hand.others; moves = inl is.hand.side_is } in
+    let u : IsUnder sc f w h lot = lends_under sc f w h o s rest lot false next is.hand (by_turn lot.id s rest (turns.Give lot.id) (ap (λ (t : Step). t.last) is.step) (same_id lot.id)) in
     let done = done_so sc f w h o s rest _ next refl in
     let turn : s.last ≡ turns.Give lot.id = ap (λ (t : Step). t.last) is.step in
     let none = emptied w h (op_may sc f w h o full s rest k) in
@@ -88,6 +96,7 @@ given_goes sc f w h o s rest next is =
       queue = queue_clear (book_of v) (owner_of v) m.pool m.size h.0 (queue_of m h.0) none;
       lasting = last_none (book_of v) f h.0 (hart_of m h.0).last (rest_last went.driver.rest) (ap rest_last (done.rest ∙ is.over));
       calm = λ z slot unseen. u.flat.bytes.calm z slot (unseen_before sc f w h m went lot sides.Device z u shift (inr (inl refl)) unseen);
+      tokens = fence_tokens sc f w h o s rest k done;
     }))
 
 -- ---- what bounces may come out
@@ -101,7 +110,7 @@ fenced_goes sc f w h o s rest next is =
     let went = went_by w h full in
     let v = gone w h m went in
     let k : IsOpNext sc f w h o full s rest = record { next = next; act = ap (λ (t : Step). t.act) is.step } in
-    let u : IsUnder sc f w h lot = record { flat = next.now.flat; lt = next.now.there; here = is.hand.here; others = is.hand.others; moves = inr is.hand.side_is } in
+    let u : IsUnder sc f w h lot = back_under sc f w h o s rest lot false next is.hand in
     let done = done_so sc f w h o s rest _ next refl in
     let none = emptied w h (op_may sc f w h o full s rest k) in
     let stay : s.last ≡ turns.Stay = ap (λ (t : Step). t.last) is.step in
@@ -131,6 +140,7 @@ fenced_goes sc f w h o s rest next is =
       queue = queue_clear (book_of v) (owner_of v) m.pool m.size h.0 (queue_of m h.0) none;
       lasting = last_none (book_of v) f h.0 (hart_of m h.0).last (rest_last went.driver.rest) (ap rest_last done.rest ∙ is.next);
       calm = λ z slot unseen. u.flat.bytes.calm z slot (unseen_before sc f w h m went lot lot.side z u shift (moved_seen lot u.moves) unseen);
+      tokens = fence_tokens sc f w h o s rest k done;
     }))
 
 -- ---- the lot is its hart's again
@@ -144,7 +154,7 @@ ended_goes sc f w h o s rest next is =
     let went = went_by w h full in
     let v = gone w h m went in
     let k : IsOpNext sc f w h o full s rest = record { next = next; act = ap (λ (t : Step). t.act) is.step } in
-    let u : IsUnder sc f w h lot = record { flat = next.now.flat; lt = next.now.there; here = is.hand.here; others = is.hand.others; moves = inr is.hand.side_is } in
+    let u : IsUnder sc f w h lot = back_under sc f w h o s rest lot false next is.hand in
     let done = done_so sc f w h o s rest _ next refl in
     let turn : s.last ≡ is.turn = ap (λ (t : Step). t.last) is.step in
     let plain = is.hand.area_is in
@@ -167,4 +177,5 @@ ended_goes sc f w h o s rest next is =
           (back_as sc f w h m lot i e x b (entries.Mark 15 15 ∷ []) u plain p is.hand.side_is comes row);
       queue = queue_clear (book_of v) (owner_of v) m.pool m.size h.0 (queue_of m h.0) none;
       stays = λ z slot calm. calm;
+      tokens = fence_tokens sc f w h o s rest k done;
     }))

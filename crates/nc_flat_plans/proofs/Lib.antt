@@ -3,7 +3,9 @@ pub mod Passes
 pub mod Drivers
 pub mod PoolPlaces
 pub mod Places
+pub mod Besides
 pub mod Shifts
+pub mod StepTokens
 pub mod StepFrames
 pub mod StepQueues
 pub mod StepSeen
@@ -19,4 +21,6 @@ pub mod Loads
 pub mod AreaRows
 pub mod AreaSteps
 pub mod AreaFences
+pub mod LightSteps
+pub mod LightEvents
 pub mod PlanEvents

@@ -1,5 +1,5 @@
 -- A piece of a copy is loaded: no row is changed by it, and its bytes are flat memory's.
-use Rattle.std.specs.Prelude.{Option, Some, None, All, ◌/◌, ◌-◌, true, false, slice_get}
+use Rattle.std.specs.Prelude.{Option, Some, None, All, ◌/◌, ◌-◌, true, false, filter, slice_get}
 use Rattle.std.specs.List.{list_any}
 use Rattle.std.proofs.Common.{◌≡◌, ◌≢◌, ◌⊎◌, ℕ, ◌+◌, ◌<◌, ◌≤◌, List, [], ◌++◌, length, refl, sym, ap, ◌∙◌, inl, inr, subst, arith}
 use Rattle.nc_num.specs.Memory.{byte}
@@ -39,7 +39,7 @@ use Rattle.nc_calls.specs.MachineLaws.{SameShape}
 use Rattle.nc_calls.specs.PlaceLaws.{Loads}
 use Rattle.nc_calls.proofs.CallProofs.{issues_by_place}
 use Rattle.nc_calls.proofs.StartPlaces.{loads_show}
-use Rattle.nc_rows.specs.Ahead.{ends, is_full, act_coming}
+use Rattle.nc_rows.specs.Ahead.{stores_io, tokens_lot, ends, is_full, act_coming}
 use Rattle.nc_rows.specs.Laws.{area_of, is_lent_area}
 use Rattle.nc_rows.specs.Parts.{IsQueued, IsPiece, LastIs, rest_last}
 use Rattle.nc_rows.specs.Rows.{Loan, Either, DeviceTo, DroppingRow, ComingRow, Row}
@@ -49,13 +49,16 @@ use Rattle.nc_flatness.specs.Books.{book_of}
 use Rattle.nc_flatness.specs.Plans.{HasEnd, IsWithin, GoesIn, ComesOut, IsLoad}
 use Rattle.nc_flatness.specs.Steps.{Goes}
 use Rattle.nc_flatness.specs.Flatness.{Flatness}
+use Rattle.nc_flatness.specs.Tokens.{is_lot_token}
 use Rattle.nc_flatness.proofs.Outcomes.{gone}
+use Rattle.nc_flatness.proofs.Rests.{behind}
 use Rattle.nc_flat_starts.proofs.Frames.{IsPlace}
 use Rattle.nc_flat_plans.proofs.OwnRows.{dir_end, of_either_false}
 use Rattle.nc_flat_plans.proofs.Drivers.{IsNext, IsDone, done_so, returns_later}
 use Rattle.nc_flat_plans.proofs.PoolPlaces.{lent_pooled, slot_unpooled, pool_apart}
-use Rattle.nc_flat_plans.proofs.Places.{IsUnder, its_id, its_loan, its_place, in_ram, unslotted, unpooled}
+use Rattle.nc_flat_plans.proofs.Places.{IsUnder, lends_under, back_under, its_id, its_loan, its_place, in_ram, unslotted, unpooled}
 use Rattle.nc_flat_plans.proofs.Shifts.{sided, seen_mapped, IsShift, stay_shift}
+use Rattle.nc_flat_plans.proofs.StepTokens.{kept_tokens}
 use Rattle.nc_flat_plans.proofs.StepFrames.{known_now, step_bytes, loads_by}
 use Rattle.nc_flat_plans.proofs.StepQueues.{stays_dropped, stays_zeroed, queue_stays}
 use Rattle.nc_flat_plans.proofs.StepSeen.{unseen_before, moved_seen, pool_calm}
@@ -218,6 +221,7 @@ load_goes sc f w h o s rest span lot i e p =
       calm = λ z slot unseen.
           let before = u.flat.bytes.calm z slot (unseen_before sc f w h k went lot lot.side z u shift (moved_seen lot u.moves) unseen) in
           pool_calm k (byte m.cache.ram z) z (loaded sc f w Pool (byte m.cache.ram z) k h.0 span z shape loads (λ area. absurd cc) before);
+      tokens = kept_tokens sc f w h o s rest k went p.op.next done (λ id. ap (stores_io (tokens_lot id)) p.op.act) (λ id. ap (filter (is_lot_token id)) (loads.queues h.0));
     }))
 
 -- ---- into a slot, and out of it
@@ -229,7 +233,7 @@ in_loads sc f w h o s rest next is goes =
     let lot = c.lot in
     let span = is.span in
     let e = c.entry in
-    let u : IsUnder sc f w h lot = record { flat = next.now.flat; lt = next.now.there; here = goes.hand.here; others = goes.hand.others; moves = inl goes.hand.side_is } in
+    let u : IsUnder sc f w h lot = lends_under sc f w h o s rest lot false next goes.hand (behind lot.id s rest goes.later) in
     let k : IsOpNext sc f w h o (hart_ops.Load span Pma) s rest = record { next = next; act = ap (λ (t : Step). t.act) is.step } in
     let some = piece_some sc f w h o s rest span k in
     let within : IsWithin span e.span = subst (λ (r : Span). IsWithin span r) goes.from_is is.within in
@@ -261,7 +265,7 @@ out_loads sc f w h o s rest next is out =
     let span = is.span in
     let e = c.entry in
     let r = range_of w h e in
-    let u : IsUnder sc f w h lot = record { flat = next.now.flat; lt = next.now.there; here = out.hand.here; others = out.hand.others; moves = inr out.hand.side_is } in
+    let u : IsUnder sc f w h lot = back_under sc f w h o s rest lot false next out.hand in
     let k : IsOpNext sc f w h o (hart_ops.Load span Pma) s rest = record { next = next; act = ap (λ (t : Step). t.act) is.step } in
     let some = piece_some sc f w h o s rest span k in
     let long = same_long sc f w h lot c.i e u c.here.entry in

@@ -1,5 +1,5 @@
 -- An entry of a plan comes into its hart's queue: what the rows of all other places ask of it.
-use Rattle.std.specs.Prelude.{Option, Some, None, ◌/◌, ◌==◌}
+use Rattle.std.specs.Prelude.{Option, Some, None, ◌/◌, ◌==◌, map}
 use Rattle.std.specs.List.{list_any}
 use Rattle.std.proofs.Common.{◌≡◌, ◌⊎◌, ℕ, Bool, true, false, List, refl, inl, inr}
 use Rattle.std.proofs.lemmas.Bool.{eqb-true, false_from_ne_true}
@@ -16,12 +16,12 @@ use Rattle.nc_queue.specs.Entries.{writes_back}
 use Rattle.nc_lines.specs.Lines.{bare}
 use Rattle.nc_model.specs.declared.owners.Owner.{Owner}
 use Rattle.nc_model.specs.declared.owners.Owner.TheVariants.{Thread, Passing, Lending, Device, Returning, Synced, Pool}
-use Rattle.nc_rules.specs.Machine.{MachineState}
+use Rattle.nc_rules.specs.Machine.{MachineState, queue_of}
 use Rattle.nc_calls.specs.PlaceLaws.{drops_copies, parts}
 use Rattle.nc_rows.specs.Ahead.{names, is_full, is_mail, settling}
 use Rattle.nc_rows.specs.Laws.{place_of, seen_at}
 use Rattle.nc_rows.specs.Rows.{Loan, Book, device_place, ahead_of}
-use Rattle.nc_row_issues.specs.Laws.{NoByte, NoBlock, PassesTo, PassesLent, PassesLoan, PassesBack, Passes}
+use Rattle.nc_row_issues.specs.Laws.{NoByte, NoBlock, NoToken, PassesTo, PassesLent, PassesLoan, PassesBack, Passes}
 use Rattle.nc_flat_plans.proofs.OwnRows.{either_make, either_both, dir_make}
 
 -- ---- the entries of plans
@@ -45,18 +45,17 @@ drops_kept cbos.Inval is = refl
 drops_kept cbos.Clean is = absurd cc
 drops_kept cbos.Zero is = absurd cc
 
--- no token, full fence or message
+-- no full fence or message
 pub record IsPlain (e : Entry) : Type 0 where
-  pub token : (n : MapId) → names n (bare e) ≡ false
   pub full : is_full (bare e) ≡ false
   pub fence : is_full e ≡ false
   pub mail : (b : ℕ) → is_mail b (bare e) ≡ false
 
 pub store_plain : (span : Span) (bytes : List ℕ) (kind : MemType) → IsPlain (entries.Store span bytes kind)
-store_plain span bytes kind = record { token = λ n. refl; full = refl; fence = refl; mail = λ b. refl }
+store_plain span bytes kind = record { full = refl; fence = refl; mail = λ b. refl }
 
 pub op_plain : (block : Block) (op : CboOp) → IsPlain (entries.Cbo block op)
-op_plain block op = record { token = λ n. refl; full = refl; fence = refl; mail = λ b. refl }
+op_plain block op = record { full = refl; fence = refl; mail = λ b. refl }
 
 pub op_byte : (m : MachineState) (block : Block) (op : CboOp) (x : ℕ) → is_kept_op op ≡ true → NoByte m (entries.Cbo block op) x
 op_byte m block cbos.Clean x is = refl
@@ -87,7 +86,17 @@ op_whole m block cbos.Flush x is far = (refl, refl)
 op_whole m block cbos.Inval x is far = (refl, false_from_ne_true (x / m.size == block.0) (λ t. far (eqb-true (x / m.size) block.0 t)))
 op_whole m block cbos.Zero x is far = absurd cc
 
+-- it gives no byte of any place
+pub record IsBlank (m : MachineState) (e : Entry) : Type 0 where
+  pub plain : IsPlain e
+  pub byte : (x : ℕ) → NoByte m e x
+  pub whole : (x : ℕ) → NoWhole m e x
+
 -- ---- a place beside
+
+-- a token of the mapping is queued
+abbrev pub IsPosted : MachineState → MapId → Type 0
+IsPosted m n = list_any (names n) (map bare (queue_of m n.hart.0)) ≡ true
 
 abbrev pub IsLentTo : MapId → Owner → Type 0
 IsLentTo n o = (o ≡ Lending n) ⊎ ((o ≡ Device n) ⊎ (o ≡ Returning n))
@@ -99,23 +108,24 @@ pub record IsClear (a : Book) (o : Owner) (m : MachineState) (h : ℕ) (e : Entr
   pub block : (n : MapId) (l : Loan) → IsLentTo n o → a.loan n ≡ Some l → l.area ≡ false → comes_back l.grant.dir ≡ true → NoBlock m e (device_place l x)
   -- an area that is being lent
   pub area : (n : MapId) (l : Loan) → o ≡ Lending n → a.loan n ≡ Some l → l.area ≡ true → NoWhole m e x
-  -- the mapping is none that the hart itself lends
-  pub other : (n : MapId) → o ≡ Lending n → n.hart.0 ≡ h → ⊥
+  -- a mapping that the hart itself lends: the entry is no token of it, and its token is queued
+  pub token : (n : MapId) → o ≡ Lending n → NoToken n h e
+  pub posted : (n : MapId) → o ≡ Lending n → n.hart.0 ≡ h → IsPosted m n
 
 -- the same of the mapping that has the place
 pub record NoDevice (m : MachineState) (e : Entry) (o : Option Loan) (x : ℕ) : Type 0 where
   pub byte : NoByte m e (place_of o x)
   pub block : (l : Loan) → o ≡ Some l → l.area ≡ false → comes_back l.grant.dir ≡ true → NoBlock m e (device_place l x)
 
-lent_passes : (a : Book) (n : MapId) (o : Option Loan) (m : MachineState) (h : ℕ) (e : Entry) (x : ℕ) → IsPlain e → NoByte m e x → NoDevice m e o x → ((l : Loan) → o ≡ Some l → l.area ≡ true → NoWhole m e x) → (n.hart.0 ≡ h → ⊥) → PassesLent a n o m h e x
-lent_passes a n None m h e x plain byte device area other = tt
-lent_passes a n (Some l) m h e x plain byte device area other =
+lent_passes : (a : Book) (n : MapId) (o : Option Loan) (m : MachineState) (h : ℕ) (e : Entry) (x : ℕ) → NoByte m e x → NoDevice m e o x → ((l : Loan) → o ≡ Some l → l.area ≡ true → NoWhole m e x) → NoToken n h e → (n.hart.0 ≡ h → IsPosted m n) → PassesLent a n o m h e x
+lent_passes a n None m h e x byte device area token posted = tt
+lent_passes a n (Some l) m h e x byte device area token posted =
     let y = device_place l x in
-    let to : PassesTo n m h e x y = record { buffer = byte; device = device.byte; token = λ own. plain.token n; back = λ own. absurd (other own) } in
+    let to : PassesTo n m h e x y = record { buffer = byte; device = device.byte; token = token; back = λ own. inr (posted own) } in
     either_make l.area _ _
     (λ is.
     let none = area l refl is in
-    either_both (settling l.lot (a.rest n.hart.0)) _ _ (record { place = byte; block = none.0; whole = none.1; token = λ own. plain.token n }) (record { place = byte; token = λ own. plain.token n }))
+    either_both (settling l.lot (a.rest n.hart.0)) _ _ (record { place = byte; block = none.0; whole = none.1; token = token }) (record { place = byte; token = token }))
     (λ is. dir_make l.grant.dir _ _ (λ d. to) (λ d. record { to = to; block = device.block l refl is d }))
 
 loan_passes : (n : MapId) (o : Option Loan) (m : MachineState) (h : ℕ) (e : Entry) (x : ℕ) → NoByte m e x → NoDevice m e o x → PassesLoan n o m h e x
@@ -138,7 +148,7 @@ pub passes_by : (a : Book) (o : Owner) (m : MachineState) (h : ℕ) (e : Entry) 
 passes_by a (Thread j) m h e x plain clear = clear.byte
 passes_by a (Passing j g) m h e x plain clear = record { place = clear.byte; message = λ own. plain.mail (a.buffer x) }
 passes_by a (Lending n) m h e x plain clear =
-    lent_passes a n (a.loan n) m h e x plain clear.byte (record { byte = clear.device; block = λ l is area d. clear.block n l (inl refl) is area d }) (λ l is area. clear.area n l refl is area) (λ own. clear.other n refl own)
+    lent_passes a n (a.loan n) m h e x clear.byte (record { byte = clear.device; block = λ l is area d. clear.block n l (inl refl) is area d }) (λ l is area. clear.area n l refl is area) (clear.token n refl) (clear.posted n refl)
 passes_by a (Device n) m h e x plain clear = loan_passes n (a.loan n) m h e x clear.byte (record { byte = clear.device; block = λ l is area d. clear.block n l (inr (inl refl)) is area d })
 passes_by a (Returning n) m h e x plain clear = back_passes a n (a.loan n) m h e x plain clear.byte (record { byte = clear.device; block = λ l is area d. clear.block n l (inr (inr refl)) is area d })
 passes_by a (Synced n) m h e x plain clear = clear.byte

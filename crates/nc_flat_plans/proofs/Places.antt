@@ -1,6 +1,6 @@
 -- The places of the lot in hand: what their mappings are, and where the channel sees them; and the places beside.
-use Rattle.std.specs.Prelude.{Some, All, true, false, slice_get}
-use Rattle.std.proofs.Common.{◌≡◌, ◌⊎◌, ℕ, ◌<◌, List, length, sym, ap, ◌∙◌, inl, inr, subst, arith}
+use Rattle.std.specs.Prelude.{Some, All, Bool, true, false, slice_get}
+use Rattle.std.proofs.Common.{◌≡◌, ◌⊎◌, ℕ, ◌<◌, List, ◌∷◌, length, refl, sym, ap, ◌∙◌, inl, inr, subst, arith}
 use Rattle.std.proofs.lemmas.Bool.{cases_Bool, both_ways}
 use Rattle.nc_num.specs.Places.{covers}
 use Rattle.nc_num.specs.declared.names.HartNo.{HartNo}
@@ -8,6 +8,7 @@ use Rattle.nc_num.specs.declared.names.MapId.{MapId}
 use Rattle.nc_plan.specs.Plans.{In}
 use Rattle.nc_model.specs.declared.owners.Owner.{Owner}
 use Rattle.nc_model.specs.declared.owners.Owner.TheVariants.{Lending, Device, Returning}
+use Rattle.nc_ops.specs.declared.ops.Op.{Op}
 use Rattle.nc_scen.specs.Regions.{pool_of, slots_of}
 use Rattle.nc_scen.specs.declared.scenario.Scenario.{Scenario}
 use Rattle.nc_sg.specs.declared.list.Entry.{Entry}
@@ -15,23 +16,25 @@ use Rattle.nc_rules.specs.declared.lots.Lot.{Lot}
 use Rattle.nc_rules.specs.declared.lots.LotId.{LotId}
 use Rattle.nc_rules.specs.declared.lots.Side.{Side}
 use Rattle.nc_rules.specs.declared.lots.Side.TheVariants as sides
-use Rattle.nc_rules.specs.Lots.{Fixed, is_lot, is_wanted, map_id, grant_of, owner_of_side}
+use Rattle.nc_rules.specs.declared.steps.Step.{Step}
+use Rattle.nc_rules.specs.Lots.{is_lot, is_wanted, map_id, grant_of, owner_of_side}
 use Rattle.nc_rules.specs.Turns.{is_area}
 use Rattle.nc_rules.specs.Watched.{owner_of}
 use Rattle.nc_rules.specs.World.{WorldState, driver_of}
-use Rattle.nc_scripts.proofs.LotLaws.{named_so}
+use Rattle.nc_scripts.proofs.LotLaws.{named_so, its_name}
 use Rattle.nc_holds.specs.Held.{IsEntryOf}
 use Rattle.nc_holds.proofs.ListsA.{all_at}
 use Rattle.nc_rows.specs.Rows.{Loan, device_place}
 use Rattle.nc_flatness.specs.Books.{book_of, mapping_in}
-use Rattle.nc_flatness.specs.Plans.{IsStill, StillDevice, StillSynced, StillOwn, StillSent}
+use Rattle.nc_flatness.specs.Plans.{IsStill, IsInHand, HasEnd}
 use Rattle.nc_flatness.specs.Flatness.{Flatness}
 use Rattle.nc_flatness.proofs.Areas.{entry_pooled, entry_unpooled}
-use Rattle.nc_flatness.proofs.Loans.{IsLoan, entry_loan, one_lot, lot_of, lot_first, area_direct}
-use Rattle.nc_flatness.proofs.Rests.{back_moves, lend_moves}
-use Rattle.nc_flatness.proofs.Owned.{mapped, entry_owned, entry_ram, of_buffer}
+use Rattle.nc_flatness.proofs.Loans.{IsLoan, entry_loan, one_lot, lot_first, area_direct}
+use Rattle.nc_flatness.proofs.Rests.{ends_later, back_moves}
+use Rattle.nc_flatness.proofs.Owned.{IsMapped, mapped, entry_owned, entry_ram, of_buffer}
 use Rattle.nc_flatness.proofs.Seen.{seen, place_ways, mapped_unslotted, seen_lent}
-use Rattle.nc_flat_starts.proofs.Frames.{IsPlace, IsOff, IsRestful}
+use Rattle.nc_flat_starts.proofs.Frames.{IsPlace, IsOff}
+use Rattle.nc_flat_plans.proofs.Drivers.{IsNext}
 use Rattle.nc_flat_plans.proofs.PoolPlaces.{slot_unpooled}
 
 -- ---- the lot in hand
@@ -43,16 +46,32 @@ pub record IsUnder (sc : Scenario) (f : List ℕ) (w : WorldState) (h : HartNo) 
   pub here : In lot (driver_of w h.0).lots
   pub others : All (λ other. is_lot lot.id other ≡ false → IsStill (driver_of w h.0).fixed other) (driver_of w h.0).lots
   pub moves : (lot.side ≡ sides.Lending) ⊎ (lot.side ≡ sides.Returning)
+  -- the end of its stay is to come
+  pub ended : HasEnd lot.id (driver_of w h.0).rest
 
--- fences are full
-pub full_fences : (sc : Scenario) (f : List ℕ) (w : WorldState) (h : HartNo) (lot : Lot) → IsUnder sc f w h lot → (driver_of w h.0).fixed.light ≡ false
-full_fences sc f w h lot u = (lot_of sc f w h.0 lot u.flat u.here).full
+-- the lot of the step that comes next
+pub lends_under : (sc : Scenario) (f : List ℕ) (w : WorldState) (h : HartNo) (o : Op) (s : Step) (rest : List Step) (lot : Lot) (area : Bool) → IsNext sc f w h o s rest → IsInHand (driver_of w h.0).fixed (driver_of w h.0).lots lot area sides.Lending → HasEnd lot.id (s ∷ rest)
+    → IsUnder sc f w h lot
+lends_under sc f w h o s rest lot area next hand ended = record {
+  flat = next.now.flat;
+  lt = next.now.there;
+  here = hand.here;
+  others = hand.others;
+  moves = inl hand.side_is;
+  ended = subst (λ (r : List Step). HasEnd lot.id r) (sym next.rest_is) ended;
+}
 
-pub not_still : (sc : Scenario) (f : List ℕ) (w : WorldState) (h : HartNo) (lot : Lot) → IsUnder sc f w h lot → IsStill (driver_of w h.0).fixed lot → ⊥
-not_still sc f w h lot u still = elim u.moves [
-  | inl lends ↦ lend_moves (driver_of w h.0).fixed lot lends (full_fences sc f w h lot u) still
-  | inr back ↦ back_moves (driver_of w h.0).fixed lot back still
-]
+pub back_under : (sc : Scenario) (f : List ℕ) (w : WorldState) (h : HartNo) (o : Op) (s : Step) (rest : List Step) (lot : Lot) (area : Bool) → IsNext sc f w h o s rest → IsInHand (driver_of w h.0).fixed (driver_of w h.0).lots lot area sides.Returning → IsUnder sc f w h lot
+back_under sc f w h o s rest lot area next hand =
+    let d = driver_of w h.0 in
+    record {
+      flat = next.now.flat;
+      lt = next.now.there;
+      here = hand.here;
+      others = hand.others;
+      moves = inr hand.side_is;
+      ended = subst (λ (r : List Step). HasEnd lot.id r) (sym next.rest_is) (ends_later d.fixed d.lots (s ∷ rest) lot (next.goes, next.left) hand.here (back_moves d.fixed lot hand.side_is));
+    }
 
 pub lent_side : (lot : Lot) → (lot.side ≡ sides.Lending) ⊎ (lot.side ≡ sides.Returning) → is_wanted lot.side ≡ false
 lent_side lot (inl is) = ap is_wanted is
@@ -146,14 +165,16 @@ area_place sc f w h lot i e x u area p = elim (ways sc f w h lot i e x u p) [
 
 -- ---- the places beside
 
+-- the lot in hand has its own name
+pub far_lot : (lot other : Lot) → is_lot lot.id other ≡ false → other ≡ lot → ⊥
+far_lot lot other off one = both_ways (is_lot lot.id other) off (subst (λ (l : Lot). is_lot lot.id l ≡ true) (sym one) (its_name lot lot.id refl))
+
 -- a place of another lot of the hart
 pub record IsOther (w : WorldState) (h : HartNo) (lot : Lot) (k : MapId) (x : ℕ) : Type 0 where
-  pub other : Lot
-  pub here : In other (driver_of w h.0).lots
-  pub label : other.id.label.0 ≡ k.label.0
-  pub off : is_lot lot.id other ≡ false
-  pub still : IsStill (driver_of w h.0).fixed other
-  pub owner : owner_of w x ≡ owner_of_side k other.side
+  pub at : IsMapped w k x
+  pub here : In at.is.lot (driver_of w h.0).lots
+  pub off : is_lot lot.id at.is.lot ≡ false
+  pub still : IsStill (driver_of w h.0).fixed at.is.lot
 
 pub beside : (sc : Scenario) (f : List ℕ) (w : WorldState) (h : HartNo) (lot : Lot) (k : MapId) (x : ℕ) → IsUnder sc f w h lot → x < sc.ram → IsOff lot x → mapping_in (owner_of w x) ≡ Some k → k.hart.0 ≡ h.0 → IsOther w h lot k x
 beside sc f w h lot k x u there off is own =
@@ -167,28 +188,8 @@ beside sc f w h lot k x u there off is own =
           absurd (off at.is.i at.is.entry (record { entry = get; on = of_buffer w k at.loan x at.is at.on }))
       | inr far ↦ far
     ] in
-    record {
-      other = other;
-      here = here;
-      label = at.is.label;
-      off = far;
-      still = all_at (λ other. is_lot lot.id other ≡ false → IsStill (driver_of w h.0).fixed other) (driver_of w h.0).lots other u.others here far;
-      owner = at.owner;
-    }
-
-pub side_restful : (f : Fixed) (k : MapId) (lot : Lot) → f.light ≡ false → IsStill f lot → IsRestful (owner_of_side k lot.side)
-side_restful f k lot full (StillDevice is) = subst (λ (s : Side). IsRestful (owner_of_side k s)) (sym is) tt
-side_restful f k lot full (StillSynced is kind) = subst (λ (s : Side). IsRestful (owner_of_side k s)) (sym is) tt
-side_restful f k lot full (StillOwn is kind) = subst (λ (s : Side). IsRestful (owner_of_side k s)) (sym is) tt
-side_restful f k lot full (StillSent is light) = absurd (let both : true ≡ false = sym light ∙ full in cc)
-
-pub restful : (sc : Scenario) (f : List ℕ) (w : WorldState) (h : HartNo) (lot : Lot) (k : MapId) (x : ℕ) → IsUnder sc f w h lot → x < sc.ram → IsOff lot x → mapping_in (owner_of w x) ≡ Some k → k.hart.0 ≡ h.0 → IsRestful (owner_of w x)
-restful sc f w h lot k x u there off is own =
-    let o = beside sc f w h lot k x u there off is own in
-    subst IsRestful (sym o.owner) (side_restful (driver_of w h.0).fixed k o.other (full_fences sc f w h lot u) o.still)
+    record { at = at; here = here; off = far; still = all_at (λ other. is_lot lot.id other ≡ false → IsStill (driver_of w h.0).fixed other) (driver_of w h.0).lots other u.others here far }
 
 -- its label is another
 pub far_label : (sc : Scenario) (f : List ℕ) (w : WorldState) (h : HartNo) (lot : Lot) (k : MapId) (x : ℕ) → IsUnder sc f w h lot → (o : IsOther w h lot k x) → k.label.0 ≡ lot.id.label.0 → ⊥
-far_label sc f w h lot k x u o same =
-    let one : o.other ≡ lot = one_lot sc f w h.0 o.other lot u.flat o.here u.here (o.label ∙ same) in
-    not_still sc f w h lot u (subst (λ (l : Lot). IsStill (driver_of w h.0).fixed l) one o.still)
+far_label sc f w h lot k x u o same = far_lot lot o.at.is.lot o.off (one_lot sc f w h.0 o.at.is.lot lot u.flat o.here u.here (o.at.is.label ∙ same))

@@ -1,13 +1,11 @@
--- A step of a plan: a piece of a copy, a cache operation or a full fence.
-use Rattle.std.specs.Prelude.{Option, Some, true, false}
-use Rattle.std.proofs.Common.{◌≡◌, ℕ, List, [], ◌∷◌, length, refl, sym, ap, ◌∙◌, subst, arith}
+-- A step of a plan: a piece of a copy, a cache operation, a full fence, or the marker or the token of a light one.
+use Rattle.std.specs.Prelude.{Option, Some, true}
+use Rattle.std.proofs.Common.{◌≡◌, ℕ, List, [], ◌∷◌, length, refl, ap, subst, arith}
 use Rattle.nc_num.specs.declared.names.HartNo.{HartNo}
 use Rattle.nc_ops.specs.declared.ops.Op.{Op}
 use Rattle.nc_scen.specs.declared.events.Event.TheVariants as events
 use Rattle.nc_scen.specs.declared.scenario.Scenario.{Scenario}
 use Rattle.nc_scripts.specs.Drivers.{IsAtWork, IsPhase}
-use Rattle.nc_plan.specs.Plans.{In}
-use Rattle.nc_rules.specs.declared.lots.Lot.{Lot}
 use Rattle.nc_rules.specs.declared.steps.Phase.{Phase}
 use Rattle.nc_rules.specs.declared.steps.Phase.TheVariants.{Work}
 use Rattle.nc_rules.specs.declared.steps.Step.{Step}
@@ -16,7 +14,6 @@ use Rattle.nc_rules.specs.World.{WorldState, driver_of}
 use Rattle.nc_flatness.specs.Covered.{is_lending}
 use Rattle.nc_flatness.specs.Plans.{StepGoes, Loads, Stores, WritesBack, Drops, Gives, Fences, Ends, Zeroes, Flushes, Settles, GivesArea, TakesBack, Marks, Posts, PlanGoes, EndsOne}
 use Rattle.nc_flatness.specs.Flatness.{PlanOf, StandsAt}
-use Rattle.nc_flatness.proofs.Loans.{lot_of}
 use Rattle.nc_flatness.specs.Steps.{IsNow, Goes, PlansAreFlat}
 use Rattle.nc_flat_plans.proofs.Drivers.{IsNext, plan_left, step_first}
 use Rattle.nc_flat_plans.proofs.Loads.{loaded_goes}
@@ -25,10 +22,7 @@ use Rattle.nc_flat_plans.proofs.Cbos.{written_goes, dropped_goes}
 use Rattle.nc_flat_plans.proofs.Fences.{given_goes, fenced_goes, ended_goes}
 use Rattle.nc_flat_plans.proofs.AreaSteps.{flushed_goes, zeroed_goes}
 use Rattle.nc_flat_plans.proofs.AreaFences.{settled_goes, area_given_goes, taken_goes}
-
--- fences are full
-light_off : (sc : Scenario) (f : List ℕ) (w : WorldState) (h : HartNo) (o : Op) (s : Step) (rest : List Step) (lot : Lot) → IsNext sc f w h o s rest → In lot (driver_of w h.0).lots → (driver_of w h.0).fixed.light ≡ true → ⊥
-light_off sc f w h o s rest lot k here light = let both : true ≡ false = sym light ∙ (lot_of sc f w h.0 lot k.now.flat here).full in cc
+use Rattle.nc_flat_plans.proofs.LightEvents.{marked_goes, posted_goes}
 
 step_by : (sc : Scenario) (f : List ℕ) (w : WorldState) (h : HartNo) (o : Op) (s : Step) (rest : List Step) → IsNext sc f w h o s rest → StepGoes (driver_of w h.0).fixed (driver_of w h.0).lots s rest → Goes sc f w (events.Issue h)
 step_by sc f w h o s rest k (Loads is) = loaded_goes sc f w h o s rest k is
@@ -43,8 +37,8 @@ step_by sc f w h o s rest k (Flushes is) = flushed_goes sc f w h o s rest k is
 step_by sc f w h o s rest k (Settles is) = settled_goes sc f w h o s rest k is
 step_by sc f w h o s rest k (GivesArea is) = area_given_goes sc f w h o s rest k is
 step_by sc f w h o s rest k (TakesBack is) = taken_goes sc f w h o s rest k is
-step_by sc f w h o s rest k (Marks is) = absurd (light_off sc f w h o s rest is.lot k is.hand.here is.light)
-step_by sc f w h o s rest k (Posts is) = absurd (light_off sc f w h o s rest is.lot k is.hand.here is.light)
+step_by sc f w h o s rest k (Marks is) = marked_goes sc f w h o s rest k is
+step_by sc f w h o s rest k (Posts is) = posted_goes sc f w h o s rest k is
 
 -- a rest is left
 rest_by : (sc : Scenario) (f : List ℕ) (w : WorldState) (h : HartNo) (o : Op) (rest : List Step) → IsNow sc f w (events.Issue h) → in_hand (driver_of w h.0) ≡ Some o → is_lending o ≡ true → (driver_of w h.0).phase ≡ Work → (driver_of w h.0).rest ≡ rest

@@ -2,6 +2,7 @@
 use Rattle.std.specs.Prelude.{None, true, false}
 use Rattle.std.specs.List.{list_any}
 use Rattle.std.proofs.Common.{◌≡◌, ℕ, ◌<◌, List, [], ◌∷◌, ◌++◌, sym, ap, ◌∙◌, inl, inr}
+use Rattle.std.proofs.lemmas.Bool.{or_parts}
 use Rattle.nc_num.specs.Memory.{byte}
 use Rattle.nc_num.specs.Places.{covers}
 use Rattle.nc_num.specs.declared.names.HartNo.{HartNo}
@@ -22,7 +23,7 @@ use Rattle.nc_rules.specs.Turns.{is_area}
 use Rattle.nc_rules.specs.Driver.{Went}
 use Rattle.nc_rules.specs.Watched.{owner_of}
 use Rattle.nc_rules.specs.World.{WorldState, driver_of}
-use Rattle.nc_rows.specs.Ahead.{ends, is_full, act_coming}
+use Rattle.nc_rows.specs.Ahead.{turns_lot, stores_io, tokens_lot, ends, is_full, act_coming}
 use Rattle.nc_rows.specs.Parts.{IsQueued, rest_last}
 use Rattle.nc_rows.specs.Rows.{Row}
 use Rattle.nc_row_issues.specs.Laws.{Enters, NoByte}
@@ -39,6 +40,7 @@ use Rattle.nc_flat_plans.proofs.Passes.{IsPlain, IsClear, passes_by}
 use Rattle.nc_flat_plans.proofs.Drivers.{IsNext, IsDone, coming_next}
 use Rattle.nc_flat_plans.proofs.Places.{IsUnder, its_id, its_place}
 use Rattle.nc_flat_plans.proofs.Shifts.{sided, stay_shift}
+use Rattle.nc_flat_plans.proofs.StepTokens.{IsUntokened, same_entered, kept_tokens}
 use Rattle.nc_flat_plans.proofs.StepFrames.{step_bytes, enters_by}
 use Rattle.nc_flat_plans.proofs.StepQueues.{stays_dropped, stays_zeroed, queue_stays, queue_more}
 use Rattle.nc_flat_plans.proofs.StepSeen.{unseen_before, moved_seen}
@@ -63,6 +65,7 @@ stay_comes sc f w h o s rest lot i c = coming_next lot (its_id h lot i) s rest c
 -- what it does to the places of the lot, to those beside, and to the slots
 pub record IsPut (sc : Scenario) (f : List ℕ) (w : WorldState) (h : HartNo) (k : MachineState) (e : QueueEntry) (rest : List Step) (lot : Lot) : Type 0 where
   pub plain : IsPlain e
+  pub token : IsUntokened e
   pub clear : (x : ℕ) → x < sc.ram → covers (slots_of sc) x ≡ false → IsOff lot x → IsClear (book_of w) (owner_of w x) w.machine h.0 e x
   pub lends : lot.side ≡ sides.Lending → (i : ℕ) (d : Entry) (x : ℕ) → IsPlace lot i d x → NoByte w.machine e x × PutsDevice w.machine e (byte f x) x (its_place w h lot i d x) (to_come h lot i rest)
   pub backs : lot.side ≡ sides.Returning → (i : ℕ) (d : Entry) (x : ℕ) → IsPlace lot i d x → BackAs lot.list.dir (its_id h lot i) (byte f x) (bare e ∷ to_come h lot i rest) w.machine x (its_place w h lot i d x)
@@ -111,4 +114,5 @@ put_bytes sc f w h o s rest k went e lot c done by entry put queued last =
       calm = λ z slot unseen.
           let before = unseen_before sc f w h k went lot lot.side z u shift (moved_seen lot u.moves) unseen in
           calm_pushed m k h.0 e z by (put.unseen z slot before) (flat.bytes.calm z slot before);
+      tokens = kept_tokens sc f w h o s rest k went c.next done (λ id. (or_parts (turns_lot id s.last) (stores_io (tokens_lot id) s.act) (c.plain id)).1) (same_entered m k h e by put.token);
     })

@@ -36,11 +36,11 @@ use Rattle.nc_flatness.specs.Tokens.{TokenStands}
 use Rattle.nc_flatness.proofs.Outcomes.{gone}
 use Rattle.nc_flatness.proofs.Loans.{one_lot, loan_is}
 use Rattle.nc_flatness.proofs.Owned.{of_buffer}
-use Rattle.nc_flatness.proofs.Rests.{none_light}
 use Rattle.nc_flat_starts.proofs.Frames.{IsPlace, IsOff, Rewrites, rewrites_none, GoesBy, Turns, loan_hart}
 use Rattle.nc_flat_starts.proofs.TurnBytes.{turn_bytes}
 use Rattle.nc_flat_plans.proofs.Drivers.{IsNext, IsDone, plan_silent}
-use Rattle.nc_flat_plans.proofs.Places.{IsUnder, its_id, its_loan, known, mapping_of, unslotted, unpooled, restful, beside, far_label}
+use Rattle.nc_flat_plans.proofs.Places.{IsUnder, its_id, its_loan, known, mapping_of, unslotted, unpooled, beside, far_label}
+use Rattle.nc_flat_plans.proofs.Besides.{aside}
 use Rattle.nc_flat_plans.proofs.Shifts.{IsShift}
 
 -- ---- the turn of a step
@@ -74,6 +74,7 @@ pub record IsBehind (sc : Scenario) (f g : List ℕ) (w : WorldState) (h : HartN
   pub queue : All (IsQueued (book_of (gone w h k went)) (owner_of (gone w h k went)) k.pool k.size h.0) (queue_of k h.0)
   pub lasting : LastIs (book_of (gone w h k went)) g h.0 (hart_of k h.0).last (rest_last went.driver.rest)
   pub calm : (z : ℕ) → covers (slots_of sc) z ≡ true → IsUnseen (book_of (gone w h k went)) (owner_of (gone w h k went)) (slots_of sc) z → CalmRow k z
+  pub tokens : went.driver.fixed.light ≡ true → All (TokenStands went.driver.rest (queue_of k h.0)) went.driver.lots
   pub pooled : (i : ℕ) (e : Entry) (x : ℕ) → IsPlace lot i e x → covers (pool_of sc) x ≡ true → IsPooled (book_of (gone w h k went)) (to (its_id h lot i)) x
   pub free : (i : ℕ) (e : Entry) (x : ℕ) → IsPlace lot i e x → covers (pool_of sc) x ≡ true → NotHeld k x ⊎ MayBeHeld (book_of (gone w h k went)) (to (its_id h lot i))
 
@@ -86,7 +87,9 @@ turns_so sc f g w h o s rest k went lot to next done u shift b =
       off = shift.off;
       unslotted = λ i e x p. unslotted sc f w h lot i e x u p;
       mine = λ i e x n p is. let both : Some (its_id h lot i) ≡ Some n = sym (mapping_of sc f w h lot i e x u p) ∙ is in let same : its_id h lot i ≡ n = cc in ap (λ (j : MapId). j.hart.0) (sym same);
-      others = λ x n there off is own. (shift.others n (far_label sc f w h lot n x u (beside sc f w h lot n x u there off is own)), inl (restful sc f w h lot n x u there off is own));
+      others = λ x n there off is own.
+          let other = beside sc f w h lot n x u there off is own in
+          (shift.others n (far_label sc f w h lot n x u other), aside sc f w h o s rest went lot n x next done u other own);
       areas = λ x n l off own lent area on. area_stays sc f w h went lot to x n l u shift off own lent on;
       pooled = b.pooled;
       free = b.free;
@@ -97,7 +100,7 @@ turns_so sc f g w h o s rest k went lot to next done u shift b =
       drives = done.drives;
       lasting = b.lasting;
       queue = b.queue;
-      tokens = λ light. none_light went.driver.fixed went.driver.lots (TokenStands went.driver.rest (queue_of k h.0)) done.drives.lots light;
+      tokens = b.tokens;
       passes = b.passes;
       lies = λ i e x n there p is.
           let n_is = its_id h lot i in
@@ -119,6 +122,7 @@ pub record IsMappedBehind (sc : Scenario) (f : List ℕ) (w : WorldState) (h : H
   pub queue : All (IsQueued (book_of (gone w h k went)) (owner_of (gone w h k went)) k.pool k.size h.0) (queue_of k h.0)
   pub lasting : LastIs (book_of (gone w h k went)) f h.0 (hart_of k h.0).last (rest_last went.driver.rest)
   pub calm : (z : ℕ) → covers (slots_of sc) z ≡ true → IsUnseen (book_of (gone w h k went)) (owner_of (gone w h k went)) (slots_of sc) z → CalmRow k z
+  pub tokens : went.driver.fixed.light ≡ true → All (TokenStands went.driver.rest (queue_of k h.0)) went.driver.lots
 
 pub step_bytes : (sc : Scenario) (f : List ℕ) (w : WorldState) (h : HartNo) (o : Op) (s : Step) (rest : List Step) (k : MachineState) (went : Went) (lot : Lot) (to : MapId → Owner) → IsNext sc f w h o s rest → IsDone (driver_of w h.0) s rest went → IsUnder sc f w h lot
     → is_area lot.kind ≡ false → IsShift w h went lot to → GoesBy w h k → IsMappedBehind sc f w h k went lot to → BytesStand sc f (gone w h k went)
@@ -129,6 +133,7 @@ step_bytes sc f w h o s rest k went lot to next done u plain shift by b =
       queue = b.queue;
       lasting = b.lasting;
       calm = b.calm;
+      tokens = b.tokens;
       pooled = λ i e x p over. absurd (both_ways (covers (pool_of sc) x) (unpooled sc f w h lot i e x u plain p) over);
       free = λ i e x p over. absurd (both_ways (covers (pool_of sc) x) (unpooled sc f w h lot i e x u plain p) over);
     })

@@ -96,7 +96,7 @@ own_drop sc f w h lot s rest b u rest_is is =
           }
       | Off off ↦
           let o = beside sc f w h lot is.id x u there off mapped is.own in
-          absurd (still_back (driver_of w h.0).fixed is.id o.other (sym o.owner ∙ is.owned) o.still)
+          absurd (still_back (driver_of w h.0).fixed is.id o.at.is.lot (sym o.at.owner ∙ is.owned) o.still)
     ]
 
 -- a step with no turn, of which no entry is a full fence

@@ -1,7 +1,7 @@
 -- A step of a plan: where the channels see places behind it, and so which bytes of slots nobody sees.
 use Rattle.std.specs.Prelude.{Option, Some, true, false, slice_get}
 use Rattle.std.proofs.Common.{◌≡◌, ◌⊎◌, ℕ, zero, suc, List, [], ◌∷◌, refl, sym, ap, ◌∙◌, inl, inr, subst}
-use Rattle.std.proofs.lemmas.Bool.{cases_Bool, both_ways}
+use Rattle.std.proofs.lemmas.Bool.{cases_Bool, cases_eq, both_ways}
 use Rattle.nc_num.specs.Memory.{byte}
 use Rattle.nc_num.specs.Places.{covers}
 use Rattle.nc_num.specs.declared.names.HartNo.{HartNo}
@@ -24,14 +24,14 @@ use Rattle.nc_rules.specs.World.{WorldState, driver_of}
 use Rattle.nc_rows.specs.Laws.{place_of, seen_at}
 use Rattle.nc_rows.specs.Places.{PoolRow, CalmRow}
 use Rattle.nc_rows.specs.Rows.{Loan, Book}
-use Rattle.nc_flatness.specs.Books.{book_of, mapping_in}
+use Rattle.nc_flatness.specs.Books.{loan_of, book_of, mapping_in}
 use Rattle.nc_flatness.specs.Flatness.{IsUnseen}
 use Rattle.nc_flatness.proofs.Outcomes.{gone}
 use Rattle.nc_flatness.proofs.Loans.{loan_is}
 use Rattle.nc_flatness.proofs.Owned.{owned_ram}
 use Rattle.nc_flatness.proofs.Seen.{seen, device_covers, device_place_of}
-use Rattle.nc_flat_starts.proofs.Frames.{IsPlace, IsOff, On, Off, somewhere, loan_aside}
-use Rattle.nc_flat_plans.proofs.Places.{IsUnder, its_id, its_loan, its_place, known, seen_its, area_place, restful, beside, far_label}
+use Rattle.nc_flat_starts.proofs.Frames.{IsPlace, IsOff, On, Off, somewhere, loan_there, loan_hart}
+use Rattle.nc_flat_plans.proofs.Places.{IsUnder, its_id, its_loan, its_place, known, seen_its, area_place, beside, far_label}
 use Rattle.nc_flat_plans.proofs.Shifts.{sided, IsSeenSide, seen_mapped, IsShift}
 use Rattle.nc_flat_plans.proofs.StepFrames.{driven, known_now}
 
@@ -51,16 +51,22 @@ seen_alike a c (Returning n) x same = ap (λ (l : Option Loan). place_of l x) (s
 seen_alike a c (Synced n) x same = refl
 seen_alike a c Pool x same = refl
 
--- beside the lot nothing else is seen
+-- a mapping beside the lot stays
+loan_off : (sc : Scenario) (f : List ℕ) (w : WorldState) (h : HartNo) (k : MachineState) (went : Went) (lot : Lot) (to : MapId → Owner) (x : ℕ) (n : MapId) → IsUnder sc f w h lot → IsShift w h went lot to → IsOff lot x → mapping_in (owner_of w x) ≡ Some n
+    → (book_of (gone w h k went)).loan n ≡ (book_of w).loan n
+loan_off sc f w h k went lot to x n u shift off is = elim (cases_eq n.hart.0 h.0) [
+  | inl own ↦
+      loan_hart w h k went n (driven sc f w h lot u) own ∙ shift.others n (far_label sc f w h lot n x u (beside sc f w h lot n x u (owned_ram sc f w x n u.flat is) off is own)) ∙ ap (λ (g : ℕ). loan_of (driver_of w g) n) (sym own)
+  | inr ne ↦ loan_there w h k went n ne
+]
+
+-- so nothing else is seen there
 pub seen_off : (sc : Scenario) (f : List ℕ) (w : WorldState) (h : HartNo) (k : MachineState) (went : Went) (lot : Lot) (to : MapId → Owner) (x : ℕ) → IsUnder sc f w h lot → IsShift w h went lot to → IsOff lot x
     → seen_at (book_of (gone w h k went)) (owner_of (gone w h k went) x) x ≡ seen w x
 seen_off sc f w h k went lot to x u shift off =
     let v = gone w h k went in
     ap (λ (o : Owner). seen_at (book_of v) o x) (shift.off x off)
-    ∙ seen_alike (book_of w) (book_of v) (owner_of w x) x (λ n is.
-    loan_aside w h k went (owner_of w x) n (driven sc f w h lot u) (λ own.
-    let there = owned_ram sc f w x n u.flat is in
-    (shift.others n (far_label sc f w h lot n x u (beside sc f w h lot n x u there off is own)), inl (restful sc f w h lot n x u there off is own))))
+    ∙ seen_alike (book_of w) (book_of v) (owner_of w x) x (λ n is. loan_off sc f w h k went lot to x n u shift off is)
 
 seen_on : (sc : Scenario) (f : List ℕ) (w : WorldState) (h : HartNo) (k : MachineState) (went : Went) (lot : Lot) (to : Side) (i : ℕ) (e : Entry) (x : ℕ) → IsUnder sc f w h lot → IsShift w h went lot (sided to) → IsSeenSide to → IsPlace lot i e x
     → seen_at (book_of (gone w h k went)) (owner_of (gone w h k went) x) x ≡ seen w x

@@ -46,6 +46,7 @@ use Rattle.nc_flatness.specs.Books.{book_of}
 use Rattle.nc_flatness.specs.Plans.{HasEnd, HasByte, IsWithin, GoesIn, ComesOut, IsBack, IsStore}
 use Rattle.nc_flatness.specs.Steps.{Goes}
 use Rattle.nc_flatness.proofs.Outcomes.{gone}
+use Rattle.nc_flatness.proofs.Rests.{behind}
 use Rattle.nc_flatness.proofs.Loans.{loan_is}
 use Rattle.nc_flatness.proofs.Lasts.{moved_on}
 use Rattle.nc_flatness.proofs.Seen.{seen, device_long, device_place_of}
@@ -53,8 +54,9 @@ use Rattle.nc_flat_plans.proofs.OwnRows.{BackAs, back_put}
 use Rattle.nc_flat_plans.proofs.Passes.{store_plain, passes_by}
 use Rattle.nc_flat_plans.proofs.Drivers.{IsNext, done_so, returns_later}
 use Rattle.nc_flat_plans.proofs.PoolPlaces.{slot_unpooled}
-use Rattle.nc_flat_plans.proofs.Places.{IsUnder, its_id, its_loan, its_place, known, in_ram, unslotted, unpooled, seen_its}
+use Rattle.nc_flat_plans.proofs.Places.{IsUnder, lends_under, back_under, its_id, its_loan, its_place, known, in_ram, unslotted, unpooled, seen_its}
 use Rattle.nc_flat_plans.proofs.Shifts.{held}
+use Rattle.nc_flat_plans.proofs.StepTokens.{same_entered, kept_tokens}
 use Rattle.nc_flat_plans.proofs.StepFrames.{enters_by}
 use Rattle.nc_flat_plans.proofs.StepQueues.{own_drop, queue_stays, queue_more}
 use Rattle.nc_flat_plans.proofs.Copies.{piece_of, no_byte, has_byte, piece_byte, IsInSlot, IsInBuffer, in_slots, slot_clear, buffer_clear, buffer_device, slot_buffer, none_there}
@@ -119,6 +121,7 @@ slot_put sc f w h o s rest dst lot i e k lends at =
     let last = (hart_of m h.0).last in
     record {
       plain = store_plain dst last Pma;
+      token = λ id. refl;
       clear = λ x there off beyond. slot_clear sc f w h lot i e dst last x u at there off beyond;
       lends = λ side j d x p. (
         slot_buffer sc f w h lot i j e d dst last x u at p,
@@ -142,6 +145,7 @@ buffer_put sc f w h o s rest dst from to lot i e k out at =
     let by = op_enters sc f w h o (stored_op dst) s rest (piece_at w h dst) k.op refl in
     record {
       plain = store_plain dst last Pma;
+      token = λ id. refl;
       clear = λ x there off beyond. buffer_clear sc f w h lot i e dst last x u k.mapping at there off beyond;
       lends = λ side j d x p. let both : sides.Returning ≡ sides.Lending = sym out.hand.side_is ∙ side in absurd (cc);
       backs = λ side j d x p row.
@@ -255,6 +259,7 @@ last_goes sc f w h o s rest dst from to lot i e k out at back over =
           let ahead : settling is.loan.lot (s ∷ []) ≡ true = ap (λ (r : List Step). settling is.loan.lot r) (sym (ap (λ (g : ℕ). (driver_of w g).rest) is.own ∙ k.op.next.rest_is ∙ ap (λ (r : List Step). s ∷ r) over)) ∙ is.ahead in
           absurd (both_ways (settling is.loan.lot (s ∷ [])) (unsettled lot.id is.loan.lot s back) ahead)));
       stays = λ z slot calm. calm_pushed m n h.0 entry z by (no_byte m dst (hart_of m h.0).last z (none_there (covers dst z) (λ on. both_ways (covers (slots_of sc) z) (unslotted sc f w h lot i e z u (at.place z on)) slot))) calm;
+      tokens = kept_tokens sc f w h o s rest n went k.op.next done (λ id. ap (stores_io (tokens_lot id)) k.op.act) (same_entered m n h entry by put.token);
     }))
 
 -- a piece that goes into a slot
@@ -264,7 +269,7 @@ in_goes sc f w h o s rest next is goes =
     let c = is.copied in
     let lot = c.lot in
     let dst = piece_to is.from is.to is.span in
-    let u : IsUnder sc f w h lot = record { flat = next.now.flat; lt = next.now.there; here = goes.hand.here; others = goes.hand.others; moves = inl goes.hand.side_is } in
+    let u : IsUnder sc f w h lot = lends_under sc f w h o s rest lot false next goes.hand (behind lot.id s rest goes.later) in
     let k : IsPieceNext sc f w h o s rest dst lot = record { op = record { next = next; act = is.act }; under = u; mapping = goes.hand.area_is; once = is.once } in
     let some = piece_some sc f w h o s rest dst k.op in
     let there = to_slot sc f w h lot c.i c.entry is.from is.to is.span u c.here.entry c.bounced (goes.from_is, goes.to_is) is.within some in
@@ -280,7 +285,7 @@ out_goes sc f w h o s rest next is out =
     let c = is.copied in
     let lot = c.lot in
     let dst = piece_to is.from is.to is.span in
-    let u : IsUnder sc f w h lot = record { flat = next.now.flat; lt = next.now.there; here = out.hand.here; others = out.hand.others; moves = inr out.hand.side_is } in
+    let u : IsUnder sc f w h lot = back_under sc f w h o s rest lot false next out.hand in
     let k : IsPieceNext sc f w h o s rest dst lot = record { op = record { next = next; act = is.act }; under = u; mapping = out.hand.area_is; once = is.once } in
     let some = piece_some sc f w h o s rest dst k.op in
     let there = to_buffer sc f w h lot c.i c.entry is.from is.to is.span u c.here.entry c.bounced (out.to_is, out.from_is) is.within some in

@@ -1,0 +1,106 @@
+-- A step of a plan that queues no token: the tokens of its hart's lots stand as they did.
+use Rattle.std.specs.Prelude.{All, ◌||◌, Bool, true, false, filter}
+use Rattle.std.specs.List.{list_any}
+use Rattle.std.proofs.Common.{◌≡◌, ℕ, List, ◌∷◌, refl, sym, ap, ◌∙◌, inl, inr, subst}
+use Rattle.std.proofs.lemmas.Bool.{or_from, both_ways}
+use Rattle.std.proofs.lemmas.List.{append-nil}
+use Rattle.nc_num.specs.declared.names.HartNo.{HartNo}
+use Rattle.nc_queue.specs.declared.entry.Entry.{Entry}
+use Rattle.nc_queue.proofs.TestLaws.{filter-push_other}
+use Rattle.nc_ops.specs.declared.ops.Op.{Op}
+use Rattle.nc_scen.specs.declared.scenario.Scenario.{Scenario}
+use Rattle.nc_rules.specs.declared.lots.Lot.{Lot}
+use Rattle.nc_rules.specs.declared.lots.LotId.{LotId}
+use Rattle.nc_rules.specs.declared.steps.Step.{Step}
+use Rattle.nc_rules.specs.declared.steps.Turn.{Turn}
+use Rattle.nc_rules.specs.declared.steps.Turn.TheVariants as turns
+use Rattle.nc_rules.specs.Lots.{Fixed}
+use Rattle.nc_rules.specs.Machine.{MachineState, queue_of}
+use Rattle.nc_rules.specs.Turns.{lots_after}
+use Rattle.nc_rules.specs.Driver.{Went}
+use Rattle.nc_rules.specs.World.{WorldState, driver_of}
+use Rattle.nc_scripts.proofs.Lists.{all_to}
+use Rattle.nc_rows.specs.Ahead.{turns_lot, stores_io, tokens_lot, ends}
+use Rattle.nc_row_issues.specs.Laws.{Enters}
+use Rattle.nc_flatness.specs.Plans.{IsBack, StepGoes, Loads, Stores, WritesBack, Drops, Gives, Fences, Ends, Zeroes, Flushes, Settles, GivesArea, TakesBack, Marks, Posts}
+use Rattle.nc_flatness.specs.Tokens.{is_lot_token, TokenStands}
+use Rattle.nc_flatness.proofs.Rests.{by_turn}
+use Rattle.nc_flatness.proofs.Stands.{BeforeTurn, turn_stands}
+use Rattle.nc_flatness.proofs.Tokens.{ended_unsent}
+use Rattle.nc_flat_plans.proofs.Drivers.{IsNext, IsDone}
+
+-- ---- the queue
+
+-- no token
+abbrev pub IsUntokened : Entry → Type 0
+IsUntokened e = (id : LotId) → is_lot_token id e ≡ false
+
+-- the hart's tokens are those that it had
+abbrev pub SameTokens : MachineState → MachineState → HartNo → Type 0
+SameTokens m k h = (id : LotId) → filter (is_lot_token id) (queue_of k h.0) ≡ filter (is_lot_token id) (queue_of m h.0)
+
+pub same_entered : (m k : MachineState) (h : HartNo) (e : Entry) → Enters m k h.0 e → IsUntokened e → SameTokens m k h
+same_entered m k h e by none id =
+    let p = is_lot_token id in
+    let q = queue_of m h.0 in
+    ap (filter p) by.pushes.queues.own ∙ filter-push_other p q e (none id) ∙ append-nil (filter p q)
+
+-- ---- the turn of a step of a plan
+
+abbrev is_lend : Turn → Bool
+is_lend turns.Stay = false
+is_lend (turns.Pass range to) = false
+is_lend (turns.Own range) = false
+is_lend (turns.Lend id) = true
+is_lend (turns.Give id) = false
+is_lend (turns.Return id) = false
+is_lend (turns.Sync id) = false
+is_lend (turns.Settle id) = false
+is_lend (turns.End id) = false
+
+lasts_by : (s t : Step) → s ≡ t → is_lend t.last ≡ false → is_lend s.last ≡ false
+lasts_by s t is none = ap (λ (k : Step). is_lend k.last) is ∙ none
+
+back_lends : (id : LotId) (t : Turn) → IsBack id t → is_lend t ≡ false
+back_lends id t (inl sync) = ap is_lend sync
+back_lends id t (inr end) = ap is_lend end
+
+-- it lends no lot: this the start does
+never_lends : (f : Fixed) (lots : List Lot) (s : Step) (rest : List Step) → StepGoes f lots s rest → is_lend s.last ≡ false
+never_lends f lots s rest (Loads is) = lasts_by s _ is.step refl
+never_lends f lots s rest (Stores is) = elim is.last [
+  | inl stay ↦ ap is_lend stay
+  | inr back ↦ back_lends is.copied.lot.id s.last back.0
+]
+never_lends f lots s rest (WritesBack is) = lasts_by s _ is.step refl
+never_lends f lots s rest (Drops is) = lasts_by s _ is.step refl
+never_lends f lots s rest (Gives is) = lasts_by s _ is.step refl
+never_lends f lots s rest (Fences is) = lasts_by s _ is.step refl
+never_lends f lots s rest (Ends is) = lasts_by s _ is.step (back_lends is.lot.id is.turn is.is_back)
+never_lends f lots s rest (Zeroes is) = lasts_by s _ is.step refl
+never_lends f lots s rest (Flushes is) = lasts_by s _ is.step refl
+never_lends f lots s rest (Settles is) = lasts_by s _ is.step refl
+never_lends f lots s rest (GivesArea is) = lasts_by s _ is.step refl
+never_lends f lots s rest (TakesBack is) = lasts_by s _ is.step (elim is.is_back [ inl settle ↦ ap is_lend settle | inr end ↦ ap is_lend end ])
+never_lends f lots s rest (Marks is) = lasts_by s _ is.step refl
+never_lends f lots s rest (Posts is) = lasts_by s _ is.step refl
+
+-- ---- the tokens behind it
+
+pub kept_tokens : (sc : Scenario) (f : List ℕ) (w : WorldState) (h : HartNo) (o : Op) (s : Step) (rest : List Step) (k : MachineState) (went : Went) → IsNext sc f w h o s rest → IsDone (driver_of w h.0) s rest went
+    → ((id : LotId) → stores_io (tokens_lot id) s.act ≡ false) → SameTokens w.machine k h → went.driver.fixed.light ≡ true → All (TokenStands went.driver.rest (queue_of k h.0)) went.driver.lots
+kept_tokens sc f w h o s rest k went next done none same light =
+    let d = driver_of w h.0 in
+    let q = queue_of w.machine h.0 in
+    let r = queue_of k h.0 in
+    let was : All (TokenStands (s ∷ rest) q) d.lots =
+    subst (λ (ss : List Step). All (TokenStands ss q) d.lots) next.rest_is (next.now.flat.bytes.tokens h.0 next.now.there (sym (ap (λ (x : Fixed). x.light) done.fixed) ∙ light)) in
+    let before : All (BeforeTurn s.last (s ∷ rest) q) d.lots =
+    all_to (TokenStands (s ∷ rest) q) (BeforeTurn s.last (s ∷ rest) q) d.lots was (λ lot stands. record { stands = stands; turned = λ is. ended_unsent (s ∷ rest) lot (by_turn lot.id s rest s.last refl is) }) in
+    let now : All (TokenStands rest r) (lots_after s.last d.lots) =
+    turn_stands s.last (s ∷ rest) rest q r d.lots (record {
+      tokens = same;
+      others = λ id off. sym (ap (λ (b : Bool). b || list_any (ends id) rest) (or_from (turns_lot id s.last) (stores_io (tokens_lot id) s.act) off (none id)));
+      lends = λ id is. absurd (both_ways (is_lend s.last) (never_lends d.fixed d.lots s rest next.goes) (ap is_lend is));
+    }) before in
+    subst (λ (ss : List Step). All (TokenStands ss r) went.driver.lots) (sym done.rest) (subst (λ (ls : List Lot). All (TokenStands rest r) ls) (sym done.lots) now)
