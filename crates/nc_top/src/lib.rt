@@ -10,4 +10,6 @@ mod run;
 mod top;
 mod words;
 
+pub use input::{Lost, read_input};
+pub use run::status_of;
 pub use top::dmasim;
