@@ -76,10 +76,6 @@ lend_light f lot is (StillSent side light) = light
 pub lend_moves : (f : Fixed) (lot : Lot) → lot.side ≡ sides.Lending → f.light ≡ false → IsStill f lot → ⊥
 lend_moves f lot is full still = false≢true (sym full ∙ lend_light f lot is still)
 
--- where fences are full there are no lots of light ones
-pub none_light : (f : Fixed) (lots : List Lot) (P : Lot → Type 0) → All (IsMapping f) lots → f.light ≡ true → All P lots
-none_light f lots P all light = all_to (IsMapping f) P lots all (λ lot is. absurd (false≢true (sym is.full ∙ light)))
-
 -- ---- what a rest ends
 
 settles_by : (id : LotId) (s : Step) (rest : List Step) (t : Bool) → is_settling id (cond t (Some s) (find (ends id) rest)) ≡ true → (settling id rest ≡ true → HasEnd id rest) → (t || list_any (ends id) rest) ≡ true
