@@ -6,10 +6,12 @@ pub mod Pieces
 pub mod PlanComes
 pub mod Sides
 pub mod PlanOps
+pub mod PlanEnds
 pub mod PlansGo
 pub mod ReturnsGo
 pub mod Lots
 pub mod Blocks
+pub mod Tokens
 pub mod Bases
 pub mod Befores
 pub mod Opens
