@@ -1,5 +1,5 @@
 -- The plan with which a lot is lent goes through: what each of its steps is for, at its start.
-use Rattle.std.specs.Prelude.{Some, ◌||◌, Bool, true, false, if◌then◌else◌, All, flat_map, slice_get}
+use Rattle.std.specs.Prelude.{Some, ◌||◌, Bool, true, false, All, flat_map, slice_get}
 use Rattle.std.specs.List.{list_any}
 use Rattle.std.proofs.Common.{◌≡◌, ◌⊎◌, ℕ, List, [], ◌∷◌, ◌++◌, refl, sym, ap, ◌∙◌, inl, inr, subst}
 use Rattle.std.proofs.lemmas.Bool.{or_left, or_right, or_from, false_from_ne_true}

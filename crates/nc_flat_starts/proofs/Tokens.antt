@@ -1,7 +1,6 @@
 -- Tokens of light fences where a hart has no plan in hand: one is queued of the lots that are being lent, and of no other of
 -- those that the hart has with what its operation made.
 use Rattle.std.specs.Prelude.{All, ◌==◌, nat_le, nat_lt, ◌&&◌, ◌+◌, true, false}
-use Rattle.std.specs.List.{list_any}
 use Rattle.std.proofs.Common.{◌≡◌, ℕ, ◌<◌, List, [], length, refl, sym, ap, ◌∙◌, inl, inr, subst, arith}
 use Rattle.std.proofs.lemmas.Bool.{cases_Bool, both_ways, and_from, and_parts, eq-eqb, eqb-true, false_from_ne_true}
 use Rattle.nc_num.specs.declared.names.HartNo.{HartNo}
@@ -12,7 +11,6 @@ use Rattle.nc_queue.specs.declared.entry.Entry.TheVariants as entries
 use Rattle.nc_plan.specs.Plans.{In}
 use Rattle.nc_scen.specs.declared.scenario.Scenario.{Scenario}
 use Rattle.nc_rules.specs.declared.lots.Lot.{Lot}
-use Rattle.nc_rules.specs.declared.lots.Side.TheVariants as sides
 use Rattle.nc_rules.specs.declared.steps.Step.{Step}
 use Rattle.nc_rules.specs.Lots.{lot_id, is_lot, is_wanted}
 use Rattle.nc_rules.specs.Machine.{queue_of}
