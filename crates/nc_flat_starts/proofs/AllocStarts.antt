@@ -75,7 +75,8 @@ use Rattle.nc_flat_starts.proofs.OpenRows.{sizes, went_work}
 use Rattle.nc_flat_starts.proofs.BackRows.{either_true}
 use Rattle.nc_flat_starts.proofs.Opens.{Opens, opens_bytes}
 use Rattle.nc_flat_starts.proofs.Sides.{NamesArea, turned_lot, hand_set, set_one}
-use Rattle.nc_flat_starts.proofs.Starts.{IsStart, short, holds_here, as_wanted, new_lent}
+use Rattle.nc_flat_starts.proofs.Starts.{IsStart, short, holds_here, as_wanted}
+use Rattle.nc_flat_starts.proofs.MakeStarts.{new_lent}
 use Rattle.nc_flat_starts.proofs.Tokens.{none_named, lots_stand}
 
 -- ---- the lot that is made

@@ -96,12 +96,6 @@ me_of w h e i = record { 0 = e i }
 pub base_lot : (sc : Scenario) (f : List ℕ) (w : WorldState) (h : HartNo) (lots : List Lot) (lot : Lot) → IsBase sc f w h lots lot → IsLotIn (length w.machine.cache.ram) (driver_of w h.0).fixed lot
 base_lot sc f w h lots lot b = all_at (IsLotIn (length w.machine.cache.ram) (driver_of w h.0).fixed) lots lot b.each.knows.lots b.here
 
-pub base_mapping : (sc : Scenario) (f : List ℕ) (w : WorldState) (h : HartNo) (lots : List Lot) (lot : Lot) → IsBase sc f w h lots lot → IsMapping (driver_of w h.0).fixed lot
-base_mapping sc f w h lots lot b = all_at (IsMapping (driver_of w h.0).fixed) lots lot b.mappings b.here
-
-pub base_first : (sc : Scenario) (f : List ℕ) (w : WorldState) (h : HartNo) (lots : List Lot) (lot : Lot) → IsBase sc f w h lots lot → lot.id.first ≡ 0
-base_first sc f w h lots lot b = mapping_first (driver_of w h.0).fixed.pool lot.kind lot.id lot.list.entries (base_mapping sc f w h lots lot b).kind (base_lot sc f w h lots lot b).kind
-
 -- an entry lies in a buffer, but of an area
 pub base_lies : (sc : Scenario) (f : List ℕ) (w : WorldState) (h : HartNo) (lots : List Lot) (lot : Lot) (i : ℕ) (e : Entry) → IsBase sc f w h lots lot → is_area lot.kind ≡ false → slice_get lot.list.entries i ≡ Some e → LiesInBuffer (driver_of w h.0).fixed e.span
 base_lies sc f w h lots lot i e b plain there =

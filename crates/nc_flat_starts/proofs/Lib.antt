@@ -23,6 +23,7 @@ pub mod Lendings
 pub mod AreaPlans
 pub mod Calls
 pub mod Starts
+pub mod MakeStarts
 pub mod MapStarts
 pub mod FreshAreas
 pub mod AllocStarts

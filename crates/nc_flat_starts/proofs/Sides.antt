@@ -31,16 +31,6 @@ Others P id lots = All (λ other. is_lot id other ≡ false → P other) lots
 abbrev pub turned_lot : Side → Lot → Lot
 turned_lot side lot = record lot { side = side }
 
-pub set_all : (P : Lot → Type 0) (side : Side) (id : LotId) (lots : List Lot) → ((lot : Lot) → P lot → P (turned_lot side lot)) → All P lots → All P (set_side side id lots)
-set_all P side id [] keeps all = All-nil P
-set_all P side id (lot ∷ lots) keeps all =
-    let first = All-head P lot lots all in
-    let now : P (with_side side id lot) = elim (cases_Bool (is_lot id lot)) [
-      | inl is ↦ subst P (sym (cond-true (is_lot id lot) (turned_lot side lot) lot is)) (keeps lot first)
-      | inr off ↦ subst P (sym (cond-false (is_lot id lot) (turned_lot side lot) lot off)) first
-    ] in
-    All-cons P (with_side side id lot) (set_side side id lots) now (set_all P side id lots keeps (All-tail P lot lots all))
-
 pub set_here : (side : Side) (lots : List Lot) (lot : Lot) → In lot lots → In (turned_lot side lot) (set_side side lot.id lots)
 set_here side [] lot here = absurd here
 set_here side (x ∷ lots) lot (inl same) =

@@ -23,12 +23,11 @@ use Rattle.nc_rules.specs.Driver.{DriverState, in_hand}
 use Rattle.nc_rules.specs.Lots.{Fixed, is_lot}
 use Rattle.nc_rules.specs.Turns.{is_area, with_side, set_side, lots_after}
 use Rattle.nc_rules.specs.World.{WorldState, no_driver, driver_of}
-use Rattle.nc_scripts.proofs.Lists.{all_to}
 use Rattle.nc_holds.proofs.ListsA.{all_at, in_filter, same_some}
 use Rattle.nc_holds.specs.Rests.{RestAt}
 use Rattle.nc_rows.specs.Ahead.{same_lot, turns_lot, stores_io, tokens_lot, ends, is_settling, settling}
 use Rattle.nc_rows.specs.Parts.{act_last, rest_last}
-use Rattle.nc_flatness.specs.Flatness.{IsMapping, IsHanding, PlanLeft, PlanIs, PlanOf, StandsAt, Drives}
+use Rattle.nc_flatness.specs.Flatness.{IsHanding, PlanLeft, PlanIs, PlanOf, StandsAt, Drives}
 use Rattle.nc_flatness.specs.Plans.{IsStill, StillDevice, StillSynced, StillOwn, StillSent, IsInHand, HasEnd, IsCopied, token_step, IsStore, StepGoes, Loads, Stores, WritesBack, Drops, Gives, Fences, Ends, Zeroes, Flushes, Settles, GivesArea, TakesBack, Marks, Posts, PlanGoes, EndsOne}
 
 -- ---- the end of a lot
