@@ -16,7 +16,8 @@ use Rattle.nc_flat_starts.proofs.AllocStarts.{calloc_bytes}
 use Rattle.nc_flat_starts.proofs.AreaStarts.{give_bytes, take_bytes, free_bytes}
 use Rattle.nc_flat_starts.proofs.Calls.{OneMap, ListMap}
 use Rattle.nc_flat_starts.proofs.Lendings.{lending_starts}
-use Rattle.nc_flat_starts.proofs.Starts.{IsStart, map_bytes}
+use Rattle.nc_flat_starts.proofs.MakeStarts.{map_bytes}
+use Rattle.nc_flat_starts.proofs.Starts.{IsStart}
 use Rattle.nc_flat_starts.proofs.MapStarts.{dev_bytes, cpu_bytes, unmap_bytes, list_bytes}
 
 begun_bytes : (sc : Scenario) (f : List ℕ) (w : WorldState) (h : HartNo) (o : Op) → IsStart sc f w h o → is_lending o ≡ true → BytesStand sc f (gone w h w.machine (begun (driver_of w h.0) o (begin (driver_of w h.0).fixed (driver_of w h.0).lots w.owners w.pages o)))

@@ -3,7 +3,7 @@ use Rattle.std.specs.Prelude.{Option, Some, Result, Ok, Err, ◌==◌, not, true
 use Rattle.std.proofs.Common.{◌≡◌, ℕ, List, [], ◌∷◌, ◌++◌, length, refl, sym, ap, ◌∙◌, inl, inr, subst}
 use Rattle.std.proofs.lemmas.Bool.{cases_Bool, both_ways, and_from, eq-eqb, eqb-true, and_parts, cond-true, cond-false}
 use Rattle.std.proofs.lemmas.List.Folds.{list_any_none}
-use Rattle.std.proofs.lemmas.List.Elements.{All-nil, All-cons, All-append}
+use Rattle.std.proofs.lemmas.List.Elements.{All-nil, All-cons, All-append, All-head}
 use Rattle.nc_num.specs.Places.{covers}
 use Rattle.nc_num.specs.declared.names.ChanNo.{ChanNo}
 use Rattle.nc_num.specs.declared.names.HartNo.{HartNo}
@@ -32,7 +32,7 @@ use Rattle.nc_rules.specs.declared.steps.Step.{Step}
 use Rattle.nc_rules.specs.declared.steps.Turn.TheVariants as turns
 use Rattle.nc_rules.specs.Areas as areas
 use Rattle.nc_rules.specs.Areas.{calloc_begin, calloc_steps}
-use Rattle.nc_rules.specs.Lots.{Fixed, lot_id, lot_named, area_lot, only_entry, is_lot, is_named, is_labelled, same_kind, map_id, lot_waits, some_lot_waits}
+use Rattle.nc_rules.specs.Lots.{Fixed, lot_id, lot_named, area_lot, only_entry, is_lot, is_named, is_labelled, is_wanted, same_kind, map_id, lot_waits, some_lot_waits}
 use Rattle.nc_rules.specs.Mappings.{with_lot}
 use Rattle.nc_rules.specs.Operations.{meaning, begin, opening, plan_of}
 use Rattle.nc_rules.specs.Refusals.{◌>>=◌, wanted, some_or, unused, planned}
@@ -60,21 +60,24 @@ use Rattle.nc_row_plans.proofs.PlanBegins.{rows_begin}
 use Rattle.nc_flatness.specs.Books.{loan_by}
 use Rattle.nc_flatness.specs.Flatness.{is_mapping, IsMapping, BytesStand}
 use Rattle.nc_flatness.specs.Plans.{IsStill}
+use Rattle.nc_flatness.specs.Tokens.{is_lending_side}
 use Rattle.nc_flatness.proofs.Outcomes.{gone}
 use Rattle.nc_flat_starts.proofs.AreaPlans.{IsZeroing, Allocates, allocate_so}
 use Rattle.nc_flat_starts.proofs.AreaRows.{area_unslotted}
 use Rattle.nc_flat_starts.proofs.Bases.{me_of, fixed_is}
 use Rattle.nc_flat_starts.proofs.Befores.{IsBefore, its_only}
-use Rattle.nc_flat_starts.proofs.Calls.{gives_bytes, opened_so}
+use Rattle.nc_flat_starts.proofs.Calls.{wanted_side, gives_bytes, opened_so}
 use Rattle.nc_flat_starts.proofs.Effects.{zeroing}
 use Rattle.nc_flat_starts.proofs.Frames.{IsPlace}
 use Rattle.nc_flat_starts.proofs.FreshAreas.{IsFresh, area_block, fresh_pool, fresh_free, fresh_block, fresh_parts}
 use Rattle.nc_flat_starts.proofs.Lots.{find_only, loan_for, more_wanted}
-use Rattle.nc_flat_starts.proofs.OpenRows.{unnamed, sizes, went_work}
+use Rattle.nc_flat_starts.proofs.OpenRows.{sizes, went_work}
 use Rattle.nc_flat_starts.proofs.BackRows.{either_true}
 use Rattle.nc_flat_starts.proofs.Opens.{Opens, opens_bytes}
 use Rattle.nc_flat_starts.proofs.Sides.{NamesArea, turned_lot, hand_set, set_one}
 use Rattle.nc_flat_starts.proofs.Starts.{IsStart, short, holds_here, as_wanted}
+use Rattle.nc_flat_starts.proofs.MakeStarts.{new_lent}
+use Rattle.nc_flat_starts.proofs.Tokens.{none_named, lots_stand}
 
 -- ---- the lot that is made
 
@@ -164,11 +167,11 @@ added_before sc f w h o lot a =
       names = new.knows.names;
       apart = added_apart sc f w h o lot a;
       theirs = λ other i e x off here on. every.mine.owners other i e x (record { lot_in = old other here.lot_in off; entry = here.entry }) on;
-      mappings = All-append (IsMapping fx) d.lots (lot ∷ []) (s.flat.bytes.drives h.0 s.lt).lots (All-cons (IsMapping fx) lot [] (record { kind = ap is_mapping a.kind; full = s.full }) (All-nil (IsMapping fx)));
+      mappings = All-append (IsMapping fx) d.lots (lot ∷ []) (s.flat.bytes.drives h.0 s.lt).lots (All-cons (IsMapping fx) lot [] (record { kind = ap is_mapping a.kind }) (All-nil (IsMapping fx)));
       here = in_right lot d.lots (lot ∷ []) (inl refl);
       loans = λ k far. ap (option_map (loan_by fx k)) (more_wanted k d.lots (lot ∷ []) (added_new sc f w h o lot a).wanted);
       kept = λ other there lent. in_left other d.lots (lot ∷ []) there;
-      still = as_wanted fx d.lots s.still;
+      tokens = λ light. lots_stand sc f w h lots s.flat s.lt s.idle new.knows.names (λ other there lent. in_left other d.lots (lot ∷ []) there) (new_lent w h (lot ∷ []) (added_new sc f w h o lot a).wanted) light;
       others = all_in (λ other. is_lot lot.id other ≡ false → IsStill fx other) lots (λ other there off. all_at (IsStill fx) d.lots other s.still (old other there off));
       idle = s.idle;
     }
@@ -199,6 +202,7 @@ alloc_opens sc f w h o went lot a driver transfers =
     let new = fresh.new in
     let area = new.area in
     let size = sizes sc f w h s.flat s.lt in
+    let unsent : is_lending_side lot.side ≡ false = ap is_lending_side (wanted_side lot.side (All-head (λ (l : Lot). is_wanted l.side ≡ true) lot [] (added_new sc f w h o lot a).wanted)) in
     let k : Allocates fx now (turned_lot sides.Lending lot) plan =
     allocate_so fx now (turned_lot sides.Lending lot) (hand_set fx sides.Lending true lots lot b.here area b.others) (added_names sc f w h lots lot b a.kind) (zeroing_here sc f w h o s) new.knows.fixed.sized (area_entry ram fx lot new.is area)
     (λ x y same on. area_block ram harts fx lot fx.size x y new.knows.fixed new.is area new.knows.fixed.sized same on) in
@@ -210,8 +214,8 @@ alloc_opens sc f w h o went lot a driver transfers =
       driver = driver ∙ went_work (with_lots d lots) now d.saw lot.id plan k.plan.ended;
       transfers = transfers;
       lent = refl;
-      silent = k.plan.silent;
-      lasting = k.plan.first;
+      of_plan = k.plan;
+      unsent = unsent;
       goes = k.goes;
       was = λ i. Pool;
       owned = λ i e x place. fresh_pool sc f w h lot x fresh (on_area i e x place);
@@ -227,7 +231,7 @@ alloc_opens sc f w h o went lot a driver transfers =
           let allocating : AllocatingRow n v (ahead_of c n l) m x =
           subst (λ (es : List QueueEntry). AllocatingRow n v es m x) (sym ahead)
           (rows_begin.allocate m n v x (coming n lot.id plan) (k.behind n m x size on) (k.flushed n m x size on) (fresh_free sc f w h lot x fresh on) (λ g. fresh_block sc f w h lot x g fresh on) (λ g. fresh_parts sc f w h lot x g fresh on)
-          (unnamed sc f w h n s.flat s.lt s.full) row) in
+          (none_named sc f w h lots lot n s.flat s.lt b.kept (λ other there same. its_only sc f w h lots lot other b there same) unsent refl) row) in
           subst (λ (q : Option Loan). LentRow c n q v m x) (sym known)
           (either_true (is_area lot.kind) _ _ area (either_true (settling lot.id (c.rest h.0)) (AllocatingRow n v (ahead_of c n l) m x) (GivingRow n v (ahead_of c n l) m x) settles allocating));
       shown = λ i e x place c known. inl refl;

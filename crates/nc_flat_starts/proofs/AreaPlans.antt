@@ -1,10 +1,10 @@
 -- The plans of areas go through: an area that is allocated is zeroed block by block, then flushed block by block, and then
--- all is fenced; one that is given or taken back is fenced.
+-- all is fenced; one that is taken back is fenced.
 use Rattle.std.specs.Prelude.{Some, ◌==◌, ◌-◌, ◌/◌, Bool, true, false, if◌then◌else◌, All, map, flat_map, slice_get}
 use Rattle.std.specs.List.{list_any, find, range_with_len}
 use Rattle.std.specs.Result.{result_unwrap_or}
 use Rattle.std.proofs.Common.{◌≡◌, ℕ, zero, suc, ◌+◌, ◌<◌, ◌≤◌, List, [], ◌∷◌, ◌++◌, refl, sym, ap, ◌∙◌, inl, inr, subst, arith, append_assoc}
-use Rattle.std.proofs.lemmas.Bool.{eq-eqb, eqb-true, or_left, or_right, or_from, false_from_ne_true, cond-true, cond-false}
+use Rattle.std.proofs.lemmas.Bool.{eq-eqb, eqb-true, or_left, or_right, or_from, false_from_ne_true, cond-false}
 use Rattle.std.proofs.lemmas.List.Folds.{list_any-append}
 use Rattle.std.proofs.lemmas.List.Elements.{All-nil, All-cons, All-head, All-tail}
 use Rattle.nc_num.specs.Sizes.{IsBlockSize}
@@ -14,7 +14,7 @@ use Rattle.nc_num.specs.declared.places.Span.{Span}
 use Rattle.nc_env.specs.declared.CboOp.{CboOp}
 use Rattle.nc_env.specs.declared.CboOp.TheVariants.{Flush, Zero}
 use Rattle.nc_model.proofs.Faults.{covers-from, covers-low, covers-high}
-use Rattle.nc_queue.specs.Entries.{has_op, is_zero, is_wo}
+use Rattle.nc_queue.specs.Entries.{has_op, is_zero}
 use Rattle.nc_queue.specs.Laws.{Stands, Covered}
 use Rattle.nc_queue.specs.declared.entry.Entry.{Entry as QueueEntry}
 use Rattle.nc_queue.specs.declared.entry.Entry.TheVariants as entries
@@ -33,18 +33,19 @@ use Rattle.nc_rules.specs.declared.steps.Turn.{Turn}
 use Rattle.nc_rules.specs.declared.steps.Turn.TheVariants as turns
 use Rattle.nc_rules.specs.Areas.{calloc_steps, fenced}
 use Rattle.nc_rules.specs.Lots.{Fixed, only_entry}
-use Rattle.nc_rules.specs.Plans.{hart_step, op_steps, turning, ending, token_steps, lending_end}
+use Rattle.nc_rules.specs.Plans.{hart_step, op_steps, ending}
 use Rattle.nc_holds.specs.Held.{IsEntryOf}
 use Rattle.nc_rules.specs.Machine.{MachineState}
-use Rattle.nc_rows.specs.Ahead.{turns_lot, gives_lot, settles_lot, is_settling, ends, names, op_coming, token, settling, coming}
-use Rattle.nc_rows.specs.Rows.{is_flush, flushes, gives_here, gives_block}
-use Rattle.nc_rows.proofs.Steps.{next, last}
+use Rattle.nc_rows.specs.Ahead.{same_lot, turns_lot, is_settling, ends, names, op_coming, settling, coming}
+use Rattle.nc_rows.specs.Rows.{is_flush, flushes, gives_block}
+use Rattle.nc_rows.proofs.Steps.{next}
 use Rattle.nc_row_plans.proofs.LendingPlans.{is_plain, Are, cbos_are, stands_some}
 use Rattle.nc_row_plans.proofs.PlanBegins.{stands_behind, covered_behind}
-use Rattle.nc_flatness.specs.Plans.{IsInHand, HasZero, LoadsFirst, IsAreaBack, Zeroes, Flushes, Settles, GivesArea, TakesBack, PlanGoes}
-use Rattle.nc_flat_starts.proofs.PlanComes.{plain_ends, ends_behind, silent_ops, comes_ops, ending_last, steps_append, append_steps}
+use Rattle.nc_flatness.specs.Plans.{IsInHand, HasZero, LoadsFirst, IsAreaBack, Zeroes, Flushes, Settles, TakesBack, PlanGoes}
+use Rattle.nc_flat_starts.proofs.PlanComes.{plain_ends, only_ops, ends_behind, silent_ops, comes_ops, ending_last, steps_append, append_steps}
+use Rattle.nc_flat_starts.proofs.PlanEnds.{EndsIn, alone_ends, alone_settles, alone_comes, only_turn}
 use Rattle.nc_flat_starts.proofs.PlanOps.{IsPlan, same_id}
-use Rattle.nc_flat_starts.proofs.Sides.{NamesArea, given_still, settled_still, area_still}
+use Rattle.nc_flat_starts.proofs.Sides.{NamesArea, settled_still, area_still}
 
 -- ---- the blocks of a span rise
 
@@ -89,22 +90,6 @@ coming_ops n id (o ∷ ops) rest all some =
     next n id (hart_step o) (op_steps ops ++ rest) (plain_ends id o (All-head (λ (k : HartOp). is_plain k ≡ true) o ops all)) (ends_behind id ops rest some)
     ∙ ap (λ (es : List QueueEntry). op_coming o ++ es) (coming_ops n id ops rest (All-tail (λ (k : HartOp). is_plain k ≡ true) o ops all) some)
     ∙ sym (append_assoc (op_coming o) (flat_map op_coming ops) (coming n id rest))
-
--- a step with a turn of the lot, alone
-abbrev EndsIn : LotId → Turn → Type 0
-EndsIn id turn = turns_lot id turn ≡ true
-
-turn_alone : (id : LotId) (turn : Turn) → EndsIn id turn → ends id (turning turn (hart_step full)) ≡ true
-turn_alone id turn is = or_left (turns_lot id turn) false is
-
-alone_ends : (id : LotId) (turn : Turn) → EndsIn id turn → list_any (ends id) (fenced turn) ≡ true
-alone_ends id turn is = or_left (ends id (turning turn (hart_step full))) false (turn_alone id turn is)
-
-alone_settles : (id : LotId) (turn : Turn) → EndsIn id turn → settling id (fenced turn) ≡ settles_lot id turn
-alone_settles id turn is = ap (is_settling id) (cond-true (ends id (turning turn (hart_step full))) (Some (turning turn (hart_step full))) (find (ends id) []) (turn_alone id turn is))
-
-alone_comes : (n : MapId) (id : LotId) (turn : Turn) → EndsIn id turn → coming n id (fenced turn) ≡ entries.Mark 15 15 ∷ (if gives_lot id turn then token n ∷ [] else [])
-alone_comes n id turn is = last n id (turning turn (hart_step full)) [] (turn_alone id turn is)
 
 -- ---- zeros and flushes
 
@@ -240,6 +225,7 @@ allocate_so f lots lot hand area is size there whole =
           (flushings_go f lots lot bs end hand end_settles refl (Settles (record { lot = lot; hand = hand; step = refl; over = refl }), settled_still f id lots area hand.others));
       plan = record {
         ended = ends_behind id (zeros bs) tail ended;
+        only = only_ops id (zeros bs) tail (cbos_plain Zero bs) (only_ops id (flushings bs) end (cbos_plain Flush bs) (only_turn id turn full (λ b. refl) (λ b. refl)));
         silent = λ b. silent_ops b (zeros bs) tail (cbos_plain Zero bs) (silent_ops b (flushings bs) end (cbos_plain Flush bs) refl);
         first = cbos_first Zero bs tail (cbos_first Flush bs end refl);
       };
@@ -249,35 +235,15 @@ allocate_so f lots lot hand area is size there whole =
       flushed = λ n m x same on. subst (λ (es : List QueueEntry). Stands (flushes m x) (names n) es) (sym (line n)) (stands_behind (flushes m x) (names n) zs (fs ++ last_mark) (cbos_unnamed n Zero bs) (stands n m x same on));
     })
 
--- ---- an area that is given, and taken back
-
-pub record GivesAway (f : Fixed) (lots : List Lot) (lot : Lot) (steps : List Step) : Type 0 where
-  pub goes : PlanGoes f lots steps
-  pub plan : IsPlan lot.id steps
-  pub settles : settling lot.id steps ≡ false
-  pub covered : (n : MapId) (m : MachineState) (x : ℕ) → Covered (gives_here m x) is_wo (names n) (coming n lot.id steps)
-  pub stands : (n : MapId) → Stands is_wo (names n) (coming n lot.id steps)
-
-token_unbyte : (m : MachineState) (x : ℕ) (n : MapId) (t : Bool) → list_any (gives_here m x) (entries.Mark 15 15 ∷ (if t then token n ∷ [] else [])) ≡ false
-token_unbyte m x n true = refl
-token_unbyte m x n false = refl
-
-pub give_so : (f : Fixed) (lots : List Lot) (lot : Lot) → IsInHand f lots lot true sides.Lending → f.light ≡ false → GivesAway f lots lot (lending_end f lot)
-give_so f lots lot hand full_fences =
-    let id = lot.id in
-    let turn = turns.Give id in
-    subst (λ (ss : List Step). GivesAway f lots lot ss) (sym (cond-false f.light (token_steps lot) (fenced turn) full_fences)) (record {
-      goes = (GivesArea (record { lot = lot; hand = hand; step = refl; over = refl }), given_still f id lots hand.others);
-      plan = record { ended = alone_ends id turn (same_id id); silent = λ b. refl; first = refl };
-      settles = alone_settles id turn (same_id id);
-      covered = λ n m x. subst (λ (es : List QueueEntry). Covered (gives_here m x) is_wo (names n) es) (sym (alone_comes n id turn (same_id id)))
-          (covered-none (gives_here m x) is_wo (names n) (entries.Mark 15 15 ∷ (if gives_lot id turn then token n ∷ [] else [])) (token_unbyte m x n (gives_lot id turn)));
-      stands = λ n. subst (λ (es : List QueueEntry). Stands is_wo (names n) es) (sym (alone_comes n id turn (same_id id))) (inl refl);
-    })
+-- ---- an area that is taken back
 
 area_turns : (id : LotId) (turn : Turn) → IsAreaBack id turn → EndsIn id turn
 area_turns id turn (inl is) = ap (turns_lot id) is ∙ same_id id
 area_turns id turn (inr is) = ap (turns_lot id) is ∙ same_id id
+
+area_same : (id : LotId) (turn : Turn) → IsAreaBack id turn → (b : LotId) → turns_lot b turn ≡ same_lot b id
+area_same id turn (inl is) b = ap (turns_lot b) is
+area_same id turn (inr is) b = ap (turns_lot b) is
 
 pub record TakesAway (f : Fixed) (lots : List Lot) (lot : Lot) (steps : List Step) : Type 0 where
   pub goes : PlanGoes f lots steps
@@ -286,5 +252,5 @@ pub record TakesAway (f : Fixed) (lots : List Lot) (lot : Lot) (steps : List Ste
 pub take_so : (f : Fixed) (lots : List Lot) (lot : Lot) (turn : Turn) → IsInHand f lots lot true sides.Returning → IsAreaBack lot.id turn → NamesArea lot.id lots → TakesAway f lots lot (fenced turn)
 take_so f lots lot turn hand back area = record {
   goes = (TakesBack (record { lot = lot; hand = hand; turn = turn; is_back = back; step = refl; over = refl }), area_still f lot.id turn lots back area hand.others);
-  plan = record { ended = alone_ends lot.id turn (area_turns lot.id turn back); silent = λ b. refl; first = refl };
+  plan = record { ended = alone_ends lot.id turn (area_turns lot.id turn back); only = only_turn lot.id turn full (area_same lot.id turn back) (λ b. refl); silent = λ b. refl; first = refl };
 }

@@ -5,7 +5,9 @@ use Rattle.std.proofs.lemmas.Bool.{false_from_ne_true}
 use Rattle.nc_num.specs.Places.{covers}
 use Rattle.nc_num.specs.declared.names.HartNo.{HartNo}
 use Rattle.nc_num.specs.declared.places.Span.{Span}
+use Rattle.nc_queue.specs.Entries.{is_wo}
 use Rattle.nc_queue.specs.declared.entry.Entry.{Entry as QueueEntry}
+use Rattle.nc_queue.proofs.FenceLaws.{covered-none}
 use Rattle.nc_scen.specs.Regions.{slots_of}
 use Rattle.nc_scen.specs.declared.scenario.Scenario.{Scenario}
 use Rattle.nc_sg.specs.declared.list.Entry.{Entry}
@@ -28,24 +30,27 @@ use Rattle.nc_scripts.specs.Drivers.{IsLotIn}
 use Rattle.nc_scripts.proofs.LotLaws.{named_so}
 use Rattle.nc_holds.specs.Held.{slots_span}
 use Rattle.nc_holds.proofs.OwnerLots.{area_covers}
-use Rattle.nc_rows.specs.Ahead.{settling, coming}
+use Rattle.nc_rows.specs.Ahead.{names, settling, coming}
 use Rattle.nc_rows.specs.Laws.{seen_at, place_of}
 use Rattle.nc_rows.specs.Places.{ThreadRow, PoolRow}
-use Rattle.nc_rows.specs.Rows.{Loan, Book, ahead_of, Either, AllocatingRow, GivingRow, LentRow, DeviceRow, BackRow, Row}
+use Rattle.nc_rows.specs.Rows.{Loan, Book, gives_here, ahead_of, Either, AllocatingRow, GivingRow, LentRow, DeviceRow, BackRow, Row}
 use Rattle.nc_row_plans.proofs.PlanBegins.{rows_begin}
 use Rattle.nc_flatness.specs.Books.{book_of}
 use Rattle.nc_flatness.specs.Covered.{is_lending}
 use Rattle.nc_flatness.specs.Flatness.{Flatness}
 use Rattle.nc_flatness.specs.Plans.{IsAreaBack}
-use Rattle.nc_flat_starts.proofs.AreaPlans.{GivesAway, TakesAway, give_so, take_so}
-use Rattle.nc_flat_starts.proofs.Bases.{IsBase, fixed_is, base_lot, base_mapping, base_one}
+use Rattle.nc_flatness.specs.Tokens.{is_lending_side}
+use Rattle.nc_flat_starts.proofs.AreaPlans.{TakesAway, take_so}
+use Rattle.nc_flat_starts.proofs.Bases.{IsBase, fixed_is, base_lot, base_one}
 use Rattle.nc_flat_starts.proofs.Befores.{base_before}
 use Rattle.nc_flat_starts.proofs.Frames.{IsPlace}
 use Rattle.nc_flat_starts.proofs.Lots.{loan_for}
-use Rattle.nc_flat_starts.proofs.OpenRows.{either_false, unnamed, went_work}
+use Rattle.nc_flat_starts.proofs.OpenRows.{either_false, went_work}
+use Rattle.nc_flat_starts.proofs.PlanEnds.{LendingEnd, lending_end_so}
 use Rattle.nc_flat_starts.proofs.BackRows.{AreKnown, either_true}
 use Rattle.nc_flat_starts.proofs.Opens.{Opens, base_owner, side_mine}
-use Rattle.nc_flat_starts.proofs.Sides.{NamesArea, turned_lot, hand_set, set_one}
+use Rattle.nc_flat_starts.proofs.Sides.{NamesArea, turned_lot, hand_set, set_one, set_named}
+use Rattle.nc_flat_starts.proofs.Tokens.{none_named}
 
 -- ---- where an area lies
 
@@ -87,9 +92,8 @@ give_opens sc f w h o went lots lot b area hand lends own driver transfers =
     let fx = d.fixed in
     let now = set_side sides.Lending lot.id lots in
     let plan = lending_end fx lot in
-    let full = (base_mapping sc f w h lots lot b).full in
     let is = base_lot sc f w h lots lot b in
-    let k : GivesAway fx now (turned_lot sides.Lending lot) plan = give_so fx now (turned_lot sides.Lending lot) (hand_set fx sides.Lending true lots lot b.here area b.others) full in
+    let k : LendingEnd fx now (turned_lot sides.Lending lot) plan = lending_end_so fx now (turned_lot sides.Lending lot) true (hand_set fx sides.Lending true lots lot b.here area b.others) (set_named sides.Lending lot.id lots) in
     record {
       before = base_before sc f w h lots lot b;
       hand = hand;
@@ -97,8 +101,8 @@ give_opens sc f w h o went lots lot b area hand lends own driver transfers =
       driver = driver ∙ went_work (with_lots d lots) now d.saw lot.id plan k.plan.ended;
       transfers = transfers;
       lent = refl;
-      silent = k.plan.silent;
-      lasting = k.plan.first;
+      of_plan = k.plan;
+      unsent = ap is_lending_side own;
       goes = k.goes;
       was = λ i. owner_of_side (map_id h lot.id i) lot.side;
       owned = λ i e x place. base_owner sc f w h lots lot i e x b place;
@@ -111,7 +115,9 @@ give_opens sc f w h o went lots lot b area hand lends own driver transfers =
           let ahead : ahead_of c n l ≡ coming n lot.id plan = ap (λ (ss : List Step). coming n lot.id ss) rest in
           let settles : settling lot.id (c.rest h.0) ≡ false = ap (settling lot.id) rest ∙ k.settles in
           let giving : GivingRow n v (ahead_of c n l) m x =
-          subst (λ (es : List QueueEntry). GivingRow n v es m x) (sym ahead) (rows_begin.give m n v x (coming n lot.id plan) (unnamed sc f w h n b.flat b.lt full) (k.covered n m x) (k.stands n) (own_thread w h lot i x v own row)) in
+          subst (λ (es : List QueueEntry). GivingRow n v es m x) (sym ahead)
+          (rows_begin.give m n v x (coming n lot.id plan) (none_named sc f w h lots lot n b.flat b.lt b.kept (λ other there same. base_one sc f w h lots lot other b there same) (ap is_lending_side own) refl)
+          (covered-none (gives_here m x) is_wo (names n) (coming n lot.id plan) (k.byte m.size x n)) (k.stands n) (own_thread w h lot i x v own row)) in
           subst (λ (q : Option Loan). LentRow c n q v m x) (sym known)
           (either_true (is_area lot.kind) _ _ area (either_false (settling lot.id (c.rest h.0)) (AllocatingRow n v (ahead_of c n l) m x) (GivingRow n v (ahead_of c n l) m x) settles giving));
       shown = λ i e x place c known. inl (own_seen w h lot i x own);
@@ -126,6 +132,10 @@ either_first false p q is x = absurd cc
 -- its channel has it, or its hart
 abbrev pub IsTakenSide : Lot → Type 0
 IsTakenSide lot = (lot.side ≡ sides.Device) ⊎ (lot.side ≡ sides.Own)
+
+taken_unsent : (lot : Lot) → IsTakenSide lot → is_lending_side lot.side ≡ false
+taken_unsent lot (inl device) = ap is_lending_side device
+taken_unsent lot (inr own) = ap is_lending_side own
 
 taken_row : (w : WorldState) (h : HartNo) (lot : Lot) (i : ℕ) (e : Entry) (x v : ℕ) → IsTakenSide lot → is_area lot.kind ≡ true → AreKnown w h lot → IsPlace lot i e x → Row (book_of w) (owner_of_side (map_id h lot.id i) lot.side) v w.machine x → ThreadRow h.0 v w.machine x
 taken_row w h lot i e x v (inl device) area known place row =
@@ -154,8 +164,8 @@ take_opens sc f w h o went lots lot turn b area hand lends side before back driv
       driver = driver ∙ went_work (with_lots d lots) now d.saw lot.id plan k.plan.ended;
       transfers = transfers;
       lent = refl;
-      silent = k.plan.silent;
-      lasting = k.plan.first;
+      of_plan = k.plan;
+      unsent = taken_unsent lot side;
       goes = k.goes;
       was = λ i. owner_of_side (map_id h lot.id i) lot.side;
       owned = λ i e x place. base_owner sc f w h lots lot i e x b place;

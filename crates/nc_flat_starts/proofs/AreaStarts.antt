@@ -1,7 +1,7 @@
 -- The starts of operations on an area that the hart has: it is given to its channel, taken back, or ends.
 use Rattle.std.specs.Prelude.{Option, Some, None, Result, Ok, Err, true, false, if◌then◌else◌}
 use Rattle.std.proofs.Common.{◌≡◌, ℕ, List, [], length, refl, sym, ap, ◌∙◌, inl, inr, subst, arith}
-use Rattle.std.proofs.lemmas.Bool.{both_ways, cond-true, cond-false}
+use Rattle.std.proofs.lemmas.Bool.{cond-true, cond-false}
 use Rattle.nc_num.specs.Places.{covers}
 use Rattle.nc_num.specs.declared.names.HartNo.{HartNo}
 use Rattle.nc_num.specs.declared.names.Label.{Label}
@@ -55,11 +55,11 @@ area_begins lots new label e =
     (p.value, some_is refusals.NoLabel (lot_named lots label kinds.Area) p.value p.first, behind_test (named lots label kinds.Area) new e)
 
 -- its channel has it, or its hart
-area_still : (f : Fixed) (lot : Lot) → lot.kind ≡ kinds.Area → f.light ≡ false → IsStill f lot → IsTakenSide lot
-area_still f lot area full (StillDevice is) = inl is
-area_still f lot area full (StillSynced is kind) = let both : kinds.Single ≡ kinds.Area = sym kind ∙ area in absurd cc
-area_still f lot area full (StillOwn is kind) = inr is
-area_still f lot area full (StillSent is light) = absurd (both_ways f.light full light)
+area_still : (f : Fixed) (lot : Lot) → lot.kind ≡ kinds.Area → (lot.side ≡ sides.Lending → ⊥) → IsStill f lot → IsTakenSide lot
+area_still f lot area unsent (StillDevice is) = inl is
+area_still f lot area unsent (StillSynced is kind) = let both : kinds.Single ≡ kinds.Area = sym kind ∙ area in absurd cc
+area_still f lot area unsent (StillOwn is kind) = inr is
+area_still f lot area unsent (StillSent is light) = absurd (unsent is)
 
 taken_lent : (lot : Lot) → IsTakenSide lot → is_wanted lot.side ≡ false
 taken_lent lot (inl is) = ap is_wanted is
@@ -102,11 +102,11 @@ give_bytes sc f w h label (Ok new) s e =
     let d = driver_of w h.0 in
     let o = ops.Cgive label in
     let b = area_begins d.lots new label e in
-    let t = there_so sc f w h o b.0 label kinds.Area s b.1 in
+    let t = there_so sc f w h o b.0 label kinds.Area s refl b.1 in
     let first : (turn : Turn) → give_turn b.0 ≡ turn → with_lot turns.Stay give_turn (lot_named d.lots label kinds.Area) ≡ turn = λ turn is. ap (with_lot turns.Stay give_turn) b.1 ∙ is in
     let steps : (plan : List Step) → give_steps d.fixed b.0 ≡ plan → with_lot [] (give_steps d.fixed) (lot_named d.lots label kinds.Area) ≡ plan = λ plan is. ap (with_lot [] (give_steps d.fixed)) b.1 ∙ is in
     as_made sc f w h o new s b.2
-    (elim (area_still d.fixed b.0 t.its_kind s.full t.still) [
+    (elim (area_still d.fixed b.0 t.its_kind t.unsent t.still) [
       | inl device ↦ stays_bytes sc f w h o s (first turns.Stay (if_channel b.0 (turns.Lend b.0.id) turns.Stay device)) (steps [] (if_channel b.0 (lending_end d.fixed b.0) [] device))
       | inr own ↦ gives_area sc f w h o b.0 label s t own (first (turns.Lend b.0.id) (if_own b.0 (turns.Lend b.0.id) turns.Stay own)) (steps (lending_end d.fixed b.0) (if_own b.0 (lending_end d.fixed b.0) [] own))
     ])
@@ -119,12 +119,12 @@ take_bytes sc f w h label (Ok new) s e =
     let d = driver_of w h.0 in
     let o = ops.Ctake label in
     let b = area_begins d.lots new label e in
-    let t = there_so sc f w h o b.0 label kinds.Area s b.1 in
+    let t = there_so sc f w h o b.0 label kinds.Area s refl b.1 in
     let turn = turns.Settle b.0.id in
     let first : (k : Turn) → take_turn b.0 ≡ k → with_lot turns.Stay take_turn (lot_named d.lots label kinds.Area) ≡ k = λ k is. ap (with_lot turns.Stay take_turn) b.1 ∙ is in
     let steps : (plan : List Step) → take_steps b.0 ≡ plan → with_lot [] take_steps (lot_named d.lots label kinds.Area) ≡ plan = λ plan is. ap (with_lot [] take_steps) b.1 ∙ is in
     as_made sc f w h o new s b.2
-    (elim (area_still d.fixed b.0 t.its_kind s.full t.still) [
+    (elim (area_still d.fixed b.0 t.its_kind t.unsent t.still) [
       | inl device ↦ takes_area sc f w h o b.0 label turn s t (inl device) (inl refl) (first (turns.Return b.0.id) (if_channel b.0 turns.Stay (turns.Return b.0.id) device)) (steps (fenced turn) (if_channel b.0 [] (fenced turn) device))
       | inr own ↦ stays_bytes sc f w h o s (first turns.Stay (if_own b.0 turns.Stay (turns.Return b.0.id) own)) (steps [] (if_own b.0 [] (fenced turn) own))
     ])
@@ -165,7 +165,7 @@ free_bytes sc f w h label (Ok new) s e =
     let d = driver_of w h.0 in
     let o = ops.Cfree label in
     let b = free_begins d.fixed d.lots new label w.owners e in
-    let t = there_so sc f w h o b.0 label kinds.Area s b.1 in
-    let own = owned_side sc f w h b.0 label t b.3 (area_still d.fixed b.0 t.its_kind s.full t.still) in
+    let t = there_so sc f w h o b.0 label kinds.Area s refl b.1 in
+    let own = owned_side sc f w h b.0 label t b.3 (area_still d.fixed b.0 t.its_kind t.unsent t.still) in
     as_made sc f w h o new s b.2
     (takes_area sc f w h o b.0 label (turns.End b.0.id) s t (inr own) (inr refl) (ap (with_lot turns.Stay free_turn) b.1) (ap (with_lot [] free_steps) b.1))

@@ -37,6 +37,7 @@ use Rattle.nc_row_plans.proofs.ReturningPlans.{plans_return}
 use Rattle.nc_flatness.specs.Books.{book_of}
 use Rattle.nc_flatness.specs.Covered.{is_lending}
 use Rattle.nc_flatness.specs.Plans.{IsBack}
+use Rattle.nc_flatness.specs.Tokens.{is_lending_side}
 use Rattle.nc_flat_starts.proofs.Bases.{IsBase, base_beside, base_one, base_planned}
 use Rattle.nc_flat_starts.proofs.Befores.{base_before}
 use Rattle.nc_flat_starts.proofs.Lots.{loan_for}
@@ -77,7 +78,7 @@ return_opens sc f w h o went lots lot turn b plain hand lends device before is_b
     let size = sizes sc f w h b.flat b.lt in
     let z = b.flat.world.machine.block_size in
     let k : Returns fx now (turned_lot sides.Returning lot) plan =
-    return_so fx now (turned_lot sides.Returning lot) turn (hand_set fx sides.Returning false lots lot b.here plain b.others) (record { light = planned.light; size = planned.size; some = planned.some; off = planned.off; slots = planned.slots; buffers = planned.buffers }) drops_so is_back
+    return_so fx now (turned_lot sides.Returning lot) turn (hand_set fx sides.Returning false lots lot b.here plain b.others) (record { size = planned.size; some = planned.some; off = planned.off; slots = planned.slots; buffers = planned.buffers }) drops_so is_back
     (λ sync other there named. ap (λ (l : Lot). l.kind) (set_one sides.Returning lots lot (λ l k same. base_one sc f w h lots lot l b k same) other there (ap (λ (q : LotId). q.label.0) (named_so other lot.id named))) ∙ single sync) in
     record {
       before = base_before sc f w h lots lot b;
@@ -86,8 +87,8 @@ return_opens sc f w h o went lots lot turn b plain hand lends device before is_b
       driver = driver ∙ went_work (with_lots d lots) now d.saw lot.id plan k.plan.ended;
       transfers = transfers;
       lent = refl;
-      silent = k.plan.silent;
-      lasting = k.plan.first;
+      of_plan = k.plan;
+      unsent = ap is_lending_side device;
       goes = k.goes;
       was = λ i. owner_of_side (map_id h lot.id i) lot.side;
       owned = λ i e x place. base_owner sc f w h lots lot i e x b place;

@@ -38,12 +38,13 @@ use Rattle.nc_model.specs.declared.owners.Owner.{Owner}
 use Rattle.nc_rows.specs.Laws.{seen_at}
 use Rattle.nc_rows.specs.Rows.{device_place}
 use Rattle.nc_flatness.specs.Books.{loan_of, book_of}
-use Rattle.nc_flatness.specs.Flatness.{is_mapping, IsMapping, IsStillOrWanted, IsUnseen, Flatness}
+use Rattle.nc_flatness.specs.Flatness.{is_mapping, IsMapping, IsUnseen, Flatness}
 use Rattle.nc_flatness.proofs.Seen.{slot_at, seen, seen_ways, slot_slots, has_slot, of_device}
 use Rattle.nc_flatness.specs.Plans.{IsStill}
 use Rattle.nc_flat_starts.proofs.Lots.{loan_in}
 use Rattle.nc_flat_starts.proofs.PlanOps.{IsPlanned}
 use Rattle.nc_flat_starts.proofs.Sides.{Others}
+use Rattle.nc_flat_starts.proofs.Tokens.{AreKept, WereLent}
 
 -- what the hart holds with these lots and slot words
 abbrev pub with_these : WorldState → ℕ → List Lot → List (Option HartNo) → Held
@@ -60,8 +61,9 @@ pub record IsBase (sc : Scenario) (f : List ℕ) (w : WorldState) (h : HartNo) (
   -- mappings of other labels are as they are
   pub loans : (k : MapId) → (k.label.0 ≡ lot.id.label.0 → ⊥) → loan_in (driver_of w h.0).fixed lots k ≡ loan_of (driver_of w h.0) k
   -- a lot that is lent, or was, is one of them
-  pub kept : (other : Lot) → In other (driver_of w h.0).lots → is_wanted other.side ≡ false → In other lots
-  pub still : All (IsStillOrWanted (driver_of w h.0).fixed) (driver_of w h.0).lots
+  pub kept : AreKept w h lots
+  -- and one that is being lent was there
+  pub lent : WereLent w h lots
   pub others : Others (IsStill (driver_of w h.0).fixed) lot.id lots
   -- no plan is left
   pub idle : (driver_of w h.0).rest ≡ []
@@ -93,12 +95,6 @@ me_of w h e i = record { 0 = e i }
 
 pub base_lot : (sc : Scenario) (f : List ℕ) (w : WorldState) (h : HartNo) (lots : List Lot) (lot : Lot) → IsBase sc f w h lots lot → IsLotIn (length w.machine.cache.ram) (driver_of w h.0).fixed lot
 base_lot sc f w h lots lot b = all_at (IsLotIn (length w.machine.cache.ram) (driver_of w h.0).fixed) lots lot b.each.knows.lots b.here
-
-pub base_mapping : (sc : Scenario) (f : List ℕ) (w : WorldState) (h : HartNo) (lots : List Lot) (lot : Lot) → IsBase sc f w h lots lot → IsMapping (driver_of w h.0).fixed lot
-base_mapping sc f w h lots lot b = all_at (IsMapping (driver_of w h.0).fixed) lots lot b.mappings b.here
-
-pub base_first : (sc : Scenario) (f : List ℕ) (w : WorldState) (h : HartNo) (lots : List Lot) (lot : Lot) → IsBase sc f w h lots lot → lot.id.first ≡ 0
-base_first sc f w h lots lot b = mapping_first (driver_of w h.0).fixed.pool lot.kind lot.id lot.list.entries (base_mapping sc f w h lots lot b).kind (base_lot sc f w h lots lot b).kind
 
 -- an entry lies in a buffer, but of an area
 pub base_lies : (sc : Scenario) (f : List ℕ) (w : WorldState) (h : HartNo) (lots : List Lot) (lot : Lot) (i : ℕ) (e : Entry) → IsBase sc f w h lots lot → is_area lot.kind ≡ false → slice_get lot.list.entries i ≡ Some e → LiesInBuffer (driver_of w h.0).fixed e.span
@@ -169,7 +165,6 @@ base_planned sc f w h lots lot b plain =
     let is_in = base_lot sc f w h lots lot b in
     let size : IsBlockSize fx.size = b.each.knows.fixed.sized in
     record {
-      light = (base_mapping sc f w h lots lot b).full;
       size = size;
       some = λ i e there. (entry_in ram fx lot i e is_in there).range.some;
       off = λ i e there. elim (cases_Bool e.bounced) [

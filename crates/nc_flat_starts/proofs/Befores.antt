@@ -1,5 +1,5 @@
 -- The lots of a hart just before a turn of one of them, with no plan in hand: what stays beside that lot.
-use Rattle.std.specs.Prelude.{Option, Some, None, All, true, false, slice_get}
+use Rattle.std.specs.Prelude.{Option, Some, None, All, true, slice_get}
 use Rattle.std.specs.List.{list_any}
 use Rattle.std.proofs.Common.{◌≡◌, ℕ, ◌<◌, List, [], length, refl, sym, ap, ◌∙◌, inl, inr, subst, arith}
 use Rattle.std.proofs.lemmas.Bool.{both_ways}
@@ -15,9 +15,8 @@ use Rattle.nc_model.specs.declared.owners.Owner.TheVariants.{Thread, Passing, Le
 use Rattle.nc_plan.specs.Plans.{In}
 use Rattle.nc_scen.specs.declared.scenario.Scenario.{Scenario}
 use Rattle.nc_rules.specs.declared.lots.Lot.{Lot}
-use Rattle.nc_rules.specs.declared.lots.Side.{Side}
+use Rattle.nc_rules.specs.declared.lots.LotId.{LotId}
 use Rattle.nc_rules.specs.declared.steps.Step.{Step}
-use Rattle.nc_rules.specs.Lots.{Fixed, is_wanted, owner_of_side}
 use Rattle.nc_rules.specs.Machine.{queue_of}
 use Rattle.nc_rules.specs.Watched.{owner_of}
 use Rattle.nc_rules.specs.World.{WorldState, driver_of}
@@ -31,16 +30,21 @@ use Rattle.nc_rows.specs.Ahead.{is_full, settling, coming}
 use Rattle.nc_rows.specs.Laws.{seen_at, place_of}
 use Rattle.nc_rows.specs.Rows.{Loan, Book, ahead_of}
 use Rattle.nc_rows.specs.Parts.{IsQueued, IsAllocating, MayBeHeld}
+use Rattle.nc_rows.proofs.Steps.{steps_ahead}
 use Rattle.nc_flatness.specs.Books.{loan_of, book_of, mapping_in}
-use Rattle.nc_flatness.specs.Flatness.{IsMapping, IsStillOrWanted, Flatness}
-use Rattle.nc_flatness.specs.Plans.{IsStill, StillDevice, StillSynced, StillOwn, StillSent}
+use Rattle.nc_flatness.specs.Flatness.{IsMapping, Flatness}
+use Rattle.nc_flatness.specs.Plans.{IsStill}
+use Rattle.nc_flatness.specs.Tokens.{TokenStands}
 use Rattle.nc_flatness.proofs.BookReads.{pool_unheld}
-use Rattle.nc_flatness.proofs.Loans.{IsLoan, lot_of}
+use Rattle.nc_flatness.proofs.Loans.{IsLoan, loan_is}
 use Rattle.nc_flatness.proofs.Owned.{mapped}
+use Rattle.nc_flatness.proofs.Tokens.{unended_settling}
 use Rattle.nc_flat_starts.proofs.Bases.{IsBase, me_of, mapping_first, label_one}
-use Rattle.nc_flat_starts.proofs.Frames.{IsOff, IsRestful}
+use Rattle.nc_flat_starts.proofs.Frames.{IsOff, SameRest}
 use Rattle.nc_flat_starts.proofs.Lots.{loan_in}
+use Rattle.nc_flat_starts.proofs.PlanComes.{EndsOnly, only_far}
 use Rattle.nc_flat_starts.proofs.Sides.{Others}
+use Rattle.nc_flat_starts.proofs.Tokens.{AreKept, lots_stand}
 
 -- ---- the lots
 
@@ -55,8 +59,8 @@ pub record IsBefore (sc : Scenario) (f : List ℕ) (w : WorldState) (h : HartNo)
   pub mappings : All (IsMapping (driver_of w h.0).fixed) lots
   pub here : In lot lots
   pub loans : (k : MapId) → (k.label.0 ≡ lot.id.label.0 → ⊥) → loan_in (driver_of w h.0).fixed lots k ≡ loan_of (driver_of w h.0) k
-  pub kept : (other : Lot) → In other (driver_of w h.0).lots → is_wanted other.side ≡ false → In other lots
-  pub still : All (IsStillOrWanted (driver_of w h.0).fixed) (driver_of w h.0).lots
+  pub kept : AreKept w h lots
+  pub tokens : (driver_of w h.0).fixed.light ≡ true → All (TokenStands [] (queue_of w.machine h.0)) lots
   pub others : Others (IsStill (driver_of w h.0).fixed) lot.id lots
   pub idle : (driver_of w h.0).rest ≡ []
 
@@ -73,7 +77,7 @@ base_before sc f w h lots lot b = record {
   here = b.here;
   loans = b.loans;
   kept = b.kept;
-  still = b.still;
+  tokens = λ light. lots_stand sc f w h lots b.flat b.lt b.idle b.each.knows.names b.kept b.lent light;
   others = b.others;
   idle = b.idle;
 }
@@ -95,21 +99,21 @@ its_only sc f w h lots lot other b there same = label_one (length w.machine.cach
 
 -- ---- the hart's other mappings
 
--- the side of a lot that is lent and is not in hand
-pub still_rest : (k : MapId) (f : Fixed) (lot : Lot) → is_wanted lot.side ≡ false → f.light ≡ false → IsStillOrWanted f lot → IsRestful (owner_of_side k lot.side)
-still_rest k f lot lent full (inl (StillDevice is)) = subst (λ (s : Side). IsRestful (owner_of_side k s)) (sym is) tt
-still_rest k f lot lent full (inl (StillSynced is kind)) = subst (λ (s : Side). IsRestful (owner_of_side k s)) (sym is) tt
-still_rest k f lot lent full (inl (StillOwn is kind)) = subst (λ (s : Side). IsRestful (owner_of_side k s)) (sym is) tt
-still_rest k f lot lent full (inl (StillSent is light)) = absurd (both_ways f.light full light)
-still_rest k f lot lent full (inr is) = absurd (both_ways (is_wanted lot.side) lent (ap is_wanted is))
+-- what is to come of a mapping where the plan ends the stay of a lot of another label alone
+pub rest_aside : (k : MapId) (id other : LotId) (plan before behind : List Step) → EndsOnly id plan → (other.label.0 ≡ id.label.0 → ⊥) → before ≡ [] → behind ≡ plan → SameRest k other before behind
+rest_aside k id other plan before behind only far idle left =
+    let none = only_far id other plan only far in
+    record {
+      comes = ap (λ (ss : List Step). coming k other ss) left ∙ steps_ahead.none k other plan none ∙ sym (ap (λ (ss : List Step). coming k other ss) idle);
+      settles = ap (λ (ss : List Step). settling other ss) left ∙ unended_settling other plan none ∙ sym (ap (λ (ss : List Step). settling other ss) idle);
+    }
 
--- of a place beside the lot
-pub mapping_rest : (sc : Scenario) (f : List ℕ) (w : WorldState) (h : HartNo) (x : ℕ) (k : MapId) → Flatness sc f w → All (IsStillOrWanted (driver_of w h.0).fixed) (driver_of w h.0).lots → x < sc.ram → mapping_in (owner_of w x) ≡ Some k → k.hart.0 ≡ h.0 → IsRestful (owner_of w x)
-mapping_rest sc f w h x k flat still there is own =
-    let fx = (driver_of w h.0).fixed in
-    let m = mapped sc f w k x flat there is in
-    let here : In m.is.lot (driver_of w h.0).lots = subst (λ (g : ℕ). In m.is.lot (driver_of w g).lots) own m.is.here.lot_in in
-    subst IsRestful (sym m.owner) (still_rest k fx m.is.lot m.is.lent (lot_of sc f w h.0 m.is.lot flat here).full (all_at (IsStillOrWanted fx) (driver_of w h.0).lots m.is.lot still here))
+-- and where there is none
+pub rest_none : (k : MapId) (other : LotId) (before behind : List Step) → before ≡ [] → behind ≡ [] → SameRest k other before behind
+rest_none k other before behind idle left = record {
+  comes = ap (λ (ss : List Step). coming k other ss) left ∙ sym (ap (λ (ss : List Step). coming k other ss) idle);
+  settles = ap (λ (ss : List Step). settling other ss) left ∙ sym (ap (λ (ss : List Step). settling other ss) idle);
+}
 
 -- a mapping with a place beside the lot has another label
 pub far_loan : (sc : Scenario) (f : List ℕ) (w : WorldState) (h : HartNo) (lots : List Lot) (lot : Lot) (x : ℕ) (k : MapId) (l : Loan) → IsBefore sc f w h lots lot → IsOff lot x → k.hart.0 ≡ h.0 → IsLoan w k l → covers l.grant.buffer x ≡ true → k.label.0 ≡ lot.id.label.0 → ⊥
@@ -122,6 +126,13 @@ pub far_mapping : (sc : Scenario) (f : List ℕ) (w : WorldState) (h : HartNo) (
 far_mapping sc f w h lots lot x k b there off is own =
     let m = mapped sc f w k x b.flat there is in
     far_loan sc f w h lots lot x k m.loan b off own m.is m.on
+
+-- so nothing is to come of one where the plan is of the lot
+pub far_rest : (sc : Scenario) (f : List ℕ) (w : WorldState) (h : HartNo) (id : LotId) (k : MapId) (l : Loan) (plan behind : List Step) → Flatness sc f w → (driver_of w h.0).rest ≡ [] → EndsOnly id plan → behind ≡ plan → k.hart.0 ≡ h.0 → loan_of (driver_of w h.0) k ≡ Some l → (k.label.0 ≡ id.label.0 → ⊥)
+    → SameRest k l.lot (driver_of w h.0).rest behind
+far_rest sc f w h id k l plan behind flat idle only left own known far =
+    let is = loan_is sc f w k l flat (ap (λ (g : ℕ). loan_of (driver_of w g) k) own ∙ known) in
+    rest_aside k id l.lot plan (driver_of w h.0).rest behind only (λ same. far (sym (ap (λ (i : LotId). i.label.0) is.lot_is ∙ is.label) ∙ same)) idle left
 
 -- what the book knows of a mapping of the hart
 pub known_here : (w : WorldState) (h : HartNo) (k : MapId) (l : Loan) → k.hart.0 ≡ h.0 → (book_of w).loan k ≡ Some l → loan_of (driver_of w h.0) k ≡ Some l

@@ -24,6 +24,7 @@ use Rattle.nc_rules.specs.declared.lots.Side.TheVariants as sides
 use Rattle.nc_rules.specs.declared.steps.Step.{Step}
 use Rattle.nc_rules.specs.declared.steps.Turn.{Turn}
 use Rattle.nc_rules.specs.declared.steps.Turn.TheVariants as turns
+use Rattle.nc_rules.specs.Machine.{queue_of}
 use Rattle.nc_rules.specs.Lots.{Fixed, lot_id, lot_named, is_lot, is_named, is_labelled, is_wanted, same_kind, lot_waits, some_lot_waits}
 use Rattle.nc_rules.specs.Turns.{is_area, lots_after, transfers_of, turned_by}
 use Rattle.nc_rules.specs.Plans.{lend_steps}
@@ -43,6 +44,7 @@ use Rattle.nc_flatness.specs.Books.{loan_by, loan_of}
 use Rattle.nc_flatness.specs.Covered.{is_lending}
 use Rattle.nc_flatness.specs.Flatness.{IsMapping, IsStillOrWanted, makes_kind, IsStillOrMade, BytesStand, Flatness}
 use Rattle.nc_flatness.specs.Plans.{IsStill, StillDevice, StillSynced, StillOwn, StillSent}
+use Rattle.nc_flatness.specs.Tokens.{TokenStands}
 use Rattle.nc_flatness.proofs.Outcomes.{gone}
 use Rattle.nc_flat_starts.proofs.Bases.{IsBase, with_these, label_one}
 use Rattle.nc_flat_starts.proofs.Lots.{loan_in, find_only, kept_loans}
@@ -50,6 +52,7 @@ use Rattle.nc_flat_starts.proofs.OpenRows.{lend_opens}
 use Rattle.nc_flat_starts.proofs.Opens.{opens_bytes}
 use Rattle.nc_flat_starts.proofs.Quiets.{quiet_bytes}
 use Rattle.nc_flat_starts.proofs.Sides.{Others}
+use Rattle.nc_flat_starts.proofs.Tokens.{AreKept, WereLent, lots_stand}
 
 -- ---- the hart with the lots that a call goes on with
 
@@ -60,7 +63,8 @@ pub record IsCall (sc : Scenario) (f : List ℕ) (w : WorldState) (h : HartNo) (
   pub each : EveryoneIn w h.0 (with_these w h.0 lots slots)
   pub mappings : All (IsMapping (driver_of w h.0).fixed) lots
   pub loans : (k : MapId) → loan_in (driver_of w h.0).fixed lots k ≡ loan_of (driver_of w h.0) k
-  pub kept : (other : Lot) → In other (driver_of w h.0).lots → is_wanted other.side ≡ false → In other lots
+  pub kept : AreKept w h lots
+  pub lent : WereLent w h lots
   pub still : All (IsStillOrWanted (driver_of w h.0).fixed) (driver_of w h.0).lots
   pub now : All (IsStillOrMade (driver_of w h.0).fixed (Some o)) lots
   pub hand : in_hand (driver_of w h.0) ≡ Some o
@@ -78,7 +82,7 @@ call_base sc f w h o lots lot c here placed_so others = record {
   placed = placed_so;
   loans = λ k far. c.loans k;
   kept = c.kept;
-  still = c.still;
+  lent = c.lent;
   others = others;
   idle = c.idle;
 }
@@ -105,7 +109,6 @@ gives_bytes sc f w h o r flat lt idle still =
       flat = flat;
       lt = lt;
       idle = idle;
-      still = still;
       rest = refl;
       transfers = refl;
       fixed = refl;
@@ -115,6 +118,7 @@ gives_bytes sc f w h o r flat lt idle still =
         stands = all_filtered (IsStillOrWanted fx) (IsStill fx) (λ (lot : Lot). not (is_wanted lot.side)) d.lots still (still_lent fx);
         idle = refl;
       };
+      tokens = λ light. left_all (TokenStands [] (queue_of w.machine h.0)) (λ lot. not (is_wanted lot.side)) d.lots (subst (λ (rest : List Step). All (TokenStands rest (queue_of w.machine h.0)) d.lots) idle (flat.bytes.tokens h.0 lt light));
     })
 
 -- it tries this slot word next
@@ -125,12 +129,12 @@ search_bytes sc f w h o lots k c =
       flat = c.flat;
       lt = c.lt;
       idle = c.idle;
-      still = c.still;
       rest = refl;
       transfers = refl;
       fixed = refl;
       loans = c.loans;
       drives = record { lots = c.mappings; stands = subst (λ (p : Option Op). All (IsStillOrMade d.fixed p) lots) (sym c.hand) c.now; idle = refl };
+      tokens = λ light. lots_stand sc f w h lots c.flat c.lt c.idle c.each.knows.names c.kept c.lent light;
     })
 
 -- ---- an opening

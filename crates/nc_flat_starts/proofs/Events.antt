@@ -1,8 +1,10 @@
 -- The starts of operations that lend and take back, and their searches, as events.
 use Rattle.std.specs.Prelude.{Option, Some, None, not, is_none, is_some, Bool, true, false}
-use Rattle.std.proofs.Common.{◌≡◌, ℕ, ◌<◌, List, [], length, refl, ap, ◌∙◌}
-use Rattle.std.proofs.lemmas.Bool.{cond-true}
+use Rattle.std.proofs.Common.{◌≡◌, ℕ, List, [], refl, ap, ◌∙◌, subst}
+use Rattle.std.proofs.lemmas.Bool.{and_parts, cond-true}
 use Rattle.nc_num.specs.declared.names.HartNo.{HartNo}
+use Rattle.nc_num.specs.declared.names.Label.{Label}
+use Rattle.nc_queue.specs.Rules.{lends}
 use Rattle.nc_slots.specs.SlotWords.{holder_of, tried}
 use Rattle.nc_ops.specs.declared.ops.Op.{Op}
 use Rattle.nc_scen.specs.declared.events.Event.TheVariants as events
@@ -10,32 +12,20 @@ use Rattle.nc_scen.specs.declared.scenario.Scenario.{Scenario}
 use Rattle.nc_rules.specs.declared.steps.Next.{Next}
 use Rattle.nc_rules.specs.declared.steps.Next.TheVariants as nexts
 use Rattle.nc_rules.specs.declared.steps.Phase.TheVariants.{Steps}
-use Rattle.nc_rules.specs.Lots.{Fixed}
+use Rattle.nc_rules.specs.Machine.{queue_of}
 use Rattle.nc_rules.specs.Operations.{has_start}
-use Rattle.nc_rules.specs.Driver.{DriverState, in_hand, next_of, next_of_op, next_in, searching, started, told}
-use Rattle.nc_rules.specs.Events.{enabled}
+use Rattle.nc_rules.specs.Driver.{DriverState, in_hand, next_of, next_of_op, next_in, waited_in, waits_for, searching, started, told}
+use Rattle.nc_rules.specs.Events.{is_out, may_go_on, enabled}
 use Rattle.nc_rules.specs.Outcomes.{start_outcome, step_outcome, try_outcome, told_outcome, got_word, told_slots, at_word, outcome}
 use Rattle.nc_rules.specs.Records.{try_records, told_records}
 use Rattle.nc_rules.specs.World.{WorldState, driver_of}
-use Rattle.nc_flatness.specs.Covered.{IsCovered, may_lend, is_lending}
-use Rattle.nc_flatness.specs.Flatness.{Flatness}
+use Rattle.nc_flatness.specs.Covered.{is_lending}
 use Rattle.nc_flatness.specs.Steps.{IsNow, Goes, StartsAreFlat}
 use Rattle.nc_flatness.proofs.Outcomes.{gone, goes_go, goes_silent}
-use Rattle.nc_flatness.proofs.Owned.{covered_op}
-use Rattle.nc_flat_starts.proofs.Bases.{fixed_is}
-use Rattle.nc_flat_starts.proofs.Lendings.{lending_starts, lends_now}
+use Rattle.nc_flat_starts.proofs.Lendings.{lending_starts}
 use Rattle.nc_flat_starts.proofs.Searches.{told_bytes}
 use Rattle.nc_flat_starts.proofs.AllStarts.{start_bytes}
-use Rattle.nc_flat_starts.proofs.Starts.{at_steps}
-
-not_so : (b : Bool) → not b ≡ true → b ≡ false
-not_so true e = absurd cc
-not_so false e = refl
-
--- where scripts may lend fences are full
-pub full_fences : (sc : Scenario) (f : List ℕ) (w : WorldState) (h : HartNo) (o : Op) → IsCovered sc → Flatness sc f w → h.0 < length sc.harts → in_hand (driver_of w h.0) ≡ Some o → is_lending o ≡ true → (driver_of w h.0).fixed.light ≡ false
-full_fences sc f w h o covered flat lt hand is =
-    ap (λ (k : Fixed). k.light) (fixed_is sc f w h flat lt) ∙ not_so sc.light (lends_now (may_lend sc) o is (covered_op sc w h.0 o covered flat.world lt hand))
+use Rattle.nc_flat_starts.proofs.Starts.{IsOut, at_steps}
 
 -- ---- a start
 
@@ -47,14 +37,26 @@ pub issues : (w : WorldState) (h : HartNo) (nx : Next) → next_of (driver_of w 
 unfolding outcome
 issues w h nx is = ap (step_outcome w h) is
 
+not_so : (b : Bool) → not b ≡ true → b ≡ false
+not_so true e = absurd cc
+not_so false e = refl
+
+-- the token of the label that it waits for is out of the queue
+start_out : (w : WorldState) (h : HartNo) (o : Op) (n : ℕ) → enabled w (events.Issue h) ≡ true → in_hand (driver_of w h.0) ≡ Some o → (driver_of w h.0).phase ≡ Steps n → IsOut w h o
+unfolding enabled waits_for
+start_out w h o n may hand phase label light waits =
+    let d = driver_of w h.0 in
+    let is : waits_for d ≡ Some label = cond-true d.fixed.light (waited_in (in_hand d) d.phase) None light ∙ ap (λ (p : Option Op). waited_in p d.phase) hand ∙ ap (waited_in (Some o)) phase ∙ waits in
+    let out = (and_parts (is_out w.machine h (waits_for d)) (may_go_on w h (next_of d)) may).0 in
+    not_so (lends (queue_of w.machine h.0) label.0) (subst (λ (k : Option Label). is_out w.machine h k ≡ true) is out)
+
 start_goes : (sc : Scenario) (f : List ℕ) (w : WorldState) (h : HartNo) (o : Op) (n : ℕ) → IsNow sc f w (events.Issue h) → in_hand (driver_of w h.0) ≡ Some o → is_lending o ≡ true → (driver_of w h.0).phase ≡ Steps n → Goes sc f w (events.Issue h)
 unfolding step_outcome start_outcome
 start_goes sc f w h o n now hand is phase =
     let d = driver_of w h.0 in
     let went = started d w.owners w.pages in
-    let full = full_fences sc f w h o now.covered now.flat now.there hand is in
     goes_go sc f w (events.Issue h) h w.machine went w.slots None [] now.may (issues w h nexts.Start (next_start d o n hand is phase))
-    (λ none. goes_silent sc f [] (gone w h w.machine went) refl (start_bytes sc f w h o (at_steps sc f w h o n now.flat now.there full hand is phase)))
+    (λ none. goes_silent sc f [] (gone w h w.machine went) refl (start_bytes sc f w h o (at_steps sc f w h o n now.flat now.there (start_out w h o n now.may hand phase) hand is phase)))
 
 -- ---- a search
 

@@ -1,10 +1,10 @@
--- The operations that lend and take back have a start step, and are covered where scripts may lend.
-use Rattle.std.specs.Prelude.{Bool, true}
+-- The operations that lend and take back have a start step.
+use Rattle.std.specs.Prelude.{true}
 use Rattle.std.proofs.Common.{◌≡◌, refl}
 use Rattle.nc_ops.specs.declared.ops.Op.{Op}
 use Rattle.nc_ops.specs.declared.ops.Op.TheVariants as ops
 use Rattle.nc_rules.specs.Operations.{has_start}
-use Rattle.nc_flatness.specs.Covered.{is_lending, is_covered_op}
+use Rattle.nc_flatness.specs.Covered.{is_lending}
 
 pub lending_starts : (o : Op) → is_lending o ≡ true → has_start o ≡ true
 lending_starts (ops.Map label buf off len dir chan) is = refl
@@ -31,30 +31,3 @@ lending_starts (ops.Poll chan) is = absurd cc
 lending_starts (ops.Regr chan off width) is = absurd cc
 lending_starts (ops.Regw chan off width value) is = absurd cc
 lending_starts (ops.Copy chan src src_off dst dst_off len cfg) is = absurd cc
-
--- scripts may lend
-pub lends_now : (lends : Bool) (o : Op) → is_lending o ≡ true → is_covered_op lends o ≡ true → lends ≡ true
-lends_now lends (ops.Map label buf off len dir chan) is covered = covered
-lends_now lends (ops.Unmap label) is covered = covered
-lends_now lends (ops.ToCpu label) is covered = covered
-lends_now lends (ops.ToDev label) is covered = covered
-lends_now lends (ops.Ld spot off len) is covered = absurd cc
-lends_now lends (ops.St spot off bytes) is covered = absurd cc
-lends_now lends (ops.Cbo op buf off) is covered = absurd cc
-lends_now lends (ops.Fence pred succ) is covered = absurd cc
-lends_now lends (ops.MapSg label entries dir chan) is covered = covered
-lends_now lends (ops.UnmapSg label count) is covered = covered
-lends_now lends (ops.Calloc label count chan) is covered = covered
-lends_now lends (ops.Cgive label) is covered = covered
-lends_now lends (ops.Ctake label) is covered = covered
-lends_now lends (ops.Cfree label) is covered = covered
-lends_now lends (ops.Hand buf to) is covered = absurd cc
-lends_now lends (ops.Take buf) is covered = absurd cc
-lends_now lends (ops.Claim chan) is covered = absurd cc
-lends_now lends (ops.Free chan) is covered = absurd cc
-lends_now lends (ops.Regs chan src dst len cfg) is covered = absurd cc
-lends_now lends (ops.Run chan) is covered = absurd cc
-lends_now lends (ops.Poll chan) is covered = absurd cc
-lends_now lends (ops.Regr chan off width) is covered = absurd cc
-lends_now lends (ops.Regw chan off width value) is covered = absurd cc
-lends_now lends (ops.Copy chan src src_off dst dst_off len cfg) is covered = absurd cc

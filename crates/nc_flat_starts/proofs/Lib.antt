@@ -6,10 +6,12 @@ pub mod Pieces
 pub mod PlanComes
 pub mod Sides
 pub mod PlanOps
+pub mod PlanEnds
 pub mod PlansGo
 pub mod ReturnsGo
 pub mod Lots
 pub mod Blocks
+pub mod Tokens
 pub mod Bases
 pub mod Befores
 pub mod Opens
@@ -21,6 +23,7 @@ pub mod Lendings
 pub mod AreaPlans
 pub mod Calls
 pub mod Starts
+pub mod MakeStarts
 pub mod MapStarts
 pub mod FreshAreas
 pub mod AllocStarts

@@ -2,7 +2,7 @@
 use Rattle.std.specs.Prelude.{Option, Some, None, ◌+◌, ◌-◌, ◌/◌, Bool, true, false, slice_get}
 use Rattle.std.specs.List.{list_any}
 use Rattle.std.proofs.Common.{◌≡◌, ◌⊎◌, ℕ, ◌<◌, ◌≤◌, List, [], ◌∷◌, length, refl, sym, ap, ◌∙◌, inl, inr, subst, arith}
-use Rattle.std.proofs.lemmas.Bool.{cases_lt, both_ways, false_from_ne_true, cond-false}
+use Rattle.std.proofs.lemmas.Bool.{cases_lt, both_ways, cond-false}
 use Rattle.std.proofs.lemmas.List.{get_or_past}
 use Rattle.std.proofs.lemmas.Option.{slice_get_within}
 use Rattle.nc_num.specs.Memory.{byte}
@@ -16,7 +16,6 @@ use Rattle.nc_model.proofs.Faults.{covers-from, covers-low, covers-high}
 use Rattle.nc_model.specs.declared.owners.Owner.{Owner}
 use Rattle.nc_queue.specs.Entries.{AllFit}
 use Rattle.nc_queue.specs.declared.entry.Entry.{Entry as QueueEntry}
-use Rattle.nc_queue.specs.declared.entry.Entry.TheVariants as entries
 use Rattle.nc_hart.specs.HartState.{HartState}
 use Rattle.nc_lines.specs.Lines.{gives_at}
 use Rattle.nc_plan.specs.Parts.{comes_back}
@@ -41,14 +40,13 @@ use Rattle.nc_rules.specs.Turns.{is_area, set_side, of_those, to_side}
 use Rattle.nc_rules.specs.Driver.{DriverState, Went, in_hand, stands, with_lots, went_to}
 use Rattle.nc_rules.specs.World.{WorldState, driver_of}
 use Rattle.nc_scripts.specs.Drivers.{BouncesSo}
-use Rattle.nc_holds.specs.Tokens.{token_of}
-use Rattle.nc_holds.proofs.ListsA.{all_at, at_get, none_of}
+use Rattle.nc_holds.proofs.ListsA.{all_at, at_get}
 use Rattle.nc_holds.proofs.OwnerLots.{entry_in}
-use Rattle.nc_rows.specs.Ahead.{ends, names, coming}
+use Rattle.nc_rows.specs.Ahead.{ends, coming}
 use Rattle.nc_rows.specs.Laws.{seen_at}
 use Rattle.nc_rows.specs.Places.{ThreadRow, CalmRow, Alone}
 use Rattle.nc_rows.specs.Rows.{Loan, back, gives_here, gives_block, ahead_of, Either, ByDir, LendingTo, LendingFrom, LentRow, SyncedRow, Row}
-use Rattle.nc_row_plans.specs.Begins.{NoneQueued, LendsAhead, IsReady}
+use Rattle.nc_row_plans.specs.Begins.{LendsAhead, IsReady}
 use Rattle.nc_row_plans.specs.Plans.{WritesBack, DropsBlocks, IsPlaceOf, IsEntryOf as IsEntryOfLot}
 use Rattle.nc_row_plans.proofs.LendingPlans.{plans_lend}
 use Rattle.nc_row_plans.proofs.PlanBegins.{rows_begin}
@@ -56,8 +54,9 @@ use Rattle.nc_flatness.specs.Books.{book_of}
 use Rattle.nc_flatness.specs.Covered.{is_lending}
 use Rattle.nc_flatness.specs.Flatness.{Flatness}
 use Rattle.nc_flatness.specs.Plans.{device_of}
+use Rattle.nc_flatness.specs.Tokens.{is_lending_side}
 use Rattle.nc_flatness.proofs.Seen.{slot_at, slot_slots, slot_whole}
-use Rattle.nc_flat_starts.proofs.Bases.{IsBase, fixed_is, base_lot, base_beside, base_planned, base_unseen, waits_not, slot_in, in_slot_so}
+use Rattle.nc_flat_starts.proofs.Bases.{IsBase, fixed_is, base_lot, base_beside, base_one, base_planned, base_unseen, waits_not, slot_in, in_slot_so}
 use Rattle.nc_flat_starts.proofs.Befores.{base_before}
 use Rattle.nc_flat_starts.proofs.Blocks.{none_in_block, whole_range}
 use Rattle.nc_flat_starts.proofs.Effects.{writes, drops}
@@ -65,7 +64,8 @@ use Rattle.nc_flat_starts.proofs.Frames.{IsPlace}
 use Rattle.nc_flat_starts.proofs.Lots.{loan_for}
 use Rattle.nc_flat_starts.proofs.Opens.{Opens, base_owner, side_mine}
 use Rattle.nc_flat_starts.proofs.PlansGo.{Lends, lend_so}
-use Rattle.nc_flat_starts.proofs.Sides.{hand_set, turned_lot}
+use Rattle.nc_flat_starts.proofs.Sides.{hand_set, set_named, turned_lot}
+use Rattle.nc_flat_starts.proofs.Tokens.{none_named}
 
 -- ---- what is known of the hart
 
@@ -81,21 +81,6 @@ dropping sc f w h flat lt =
 
 pub sizes : (sc : Scenario) (f : List ℕ) (w : WorldState) (h : HartNo) → Flatness sc f w → h.0 < length sc.harts → (driver_of w h.0).fixed.size ≡ w.machine.size
 sizes sc f w h flat lt = sym (flat.world.holds.each h.0 (omega (arith, lt, flat.world.of_scenario.harts))).setting.block
-
-named_token : (n : MapId) (e : QueueEntry) → names n e ≡ true → (id : LotId) × (token_of e ≡ Some id)
-named_token n (entries.Lend label first count) is = (record { label = label; first = first }, refl)
-named_token n (entries.Store span bytes kind) is = absurd cc
-named_token n (entries.Cbo block op) is = absurd cc
-named_token n (entries.Reg chan off width value) is = absurd cc
-named_token n (entries.Mail buf to) is = absurd cc
-named_token n (entries.Mark pred succ) is = absurd cc
-
--- where fences are full no token is queued
-pub unnamed : (sc : Scenario) (f : List ℕ) (w : WorldState) (h : HartNo) (n : MapId) → Flatness sc f w → h.0 < length sc.harts → (driver_of w h.0).fixed.light ≡ false → NoneQueued (names n) w.machine h.0
-unnamed sc f w h n flat lt full =
-    none_of (names n) (queue_of w.machine h.0)
-    (λ e there. false_from_ne_true (names n e)
-    (λ is. let t = named_token n e is in both_ways (driver_of w h.0).fixed.light full ((flat.world.holds.each h.0 (omega (arith, lt, flat.world.of_scenario.harts))).tokens.light e t.0 there t.1)))
 
 queue_past : (m : MachineState) (g : ℕ) → length m.harts ≤ g → queue_of m g ≡ []
 queue_past m g past = ap (λ (k : HartState). k.queue.entries) (get_or_past m.harts g no_hart past)
@@ -155,6 +140,10 @@ in_slot_at sc f w h lots lot i e y b there bounced on =
 
 abbrev pub IsReadySide : Lot → Type 0
 IsReadySide lot = (lot.side ≡ sides.Wanted) ⊎ (lot.side ≡ sides.Synced)
+
+ready_unsent : (lot : Lot) → IsReadySide lot → is_lending_side lot.side ≡ false
+ready_unsent lot (inl wanted) = ap is_lending_side wanted
+ready_unsent lot (inr synced) = ap is_lending_side synced
 
 synced_thread : (n : MapId) (o : Option Loan) (v : ℕ) (m : MachineState) (x : ℕ) → SyncedRow n o v m x → ThreadRow n.hart.0 v m x
 synced_thread n None v m x row = absurd row
@@ -246,7 +235,7 @@ lend_opens sc f w h o went lots lot b plain hand lends side driver transfers =
     let size = sizes sc f w h b.flat b.lt in
     let z = b.flat.world.machine.block_size in
     let k : Lends fx now (turned_lot sides.Lending lot) plan =
-    lend_so fx now (turned_lot sides.Lending lot) (hand_set fx sides.Lending false lots lot b.here plain b.others) (record { light = planned.light; size = planned.size; some = planned.some; off = planned.off; slots = planned.slots; buffers = planned.buffers }) writes_so in
+    lend_so fx now (turned_lot sides.Lending lot) (hand_set fx sides.Lending false lots lot b.here plain b.others) (set_named sides.Lending lot.id lots) (record { size = planned.size; some = planned.some; off = planned.off; slots = planned.slots; buffers = planned.buffers }) writes_so in
     record {
       before = base_before sc f w h lots lot b;
       hand = hand;
@@ -254,8 +243,8 @@ lend_opens sc f w h o went lots lot b plain hand lends side driver transfers =
       driver = driver ∙ went_work (with_lots d lots) now d.saw lot.id plan k.plan.ended;
       transfers = transfers;
       lent = refl;
-      silent = k.plan.silent;
-      lasting = k.plan.first;
+      of_plan = k.plan;
+      unsent = ready_unsent lot side;
       goes = k.goes;
       was = λ i. owner_of_side (map_id h lot.id i) lot.side;
       owned = λ i e x place. base_owner sc f w h lots lot i e x b place;
@@ -270,7 +259,7 @@ lend_opens sc f w h o went lots lot b plain hand lends side driver transfers =
           let ahead : ahead_of c n l ≡ coming n lot.id plan = ap (λ (ss : List Step). coming n lot.id ss) rest in
           let entry : IsEntryOfLot n lot = record { label = refl; from = omega arith; before = omega (arith, slice_get_within lot.list.entries i e place.entry) } in
           let at = place_is fx lot i e x place.entry place.on in
-          let none = unnamed sc f w h n b.flat b.lt planned.light in
+          let none = none_named sc f w h lots lot n b.flat b.lt b.kept (λ other k same. base_one sc f w h lots lot other b k same) (ready_unsent lot side) refl in
           let own = own_row w h lot i x v side row in
           let ready = subst (λ (es : List QueueEntry). IsReady m x y es) (sym ahead)
           (ready_so sc f w h lots lot i e x (coming n lot.id plan) b place side (λ u bounced over. subst (λ (s : ℕ). list_any (gives_at s u) (coming n lot.id plan) ≡ true) size (k.stores i e u place.entry bounced over n)) e.bounced refl) in

@@ -1,8 +1,8 @@
 -- An opening turn: a lot is lent, or is taken back, with its plan in hand.
-use Rattle.std.specs.Prelude.{Option, Some, None, All, true, false, option_map, slice_get}
+use Rattle.std.specs.Prelude.{Option, Some, All, ◌&&◌, not, Bool, true, false, option_map, slice_get}
 use Rattle.std.specs.List.{list_any}
-use Rattle.std.proofs.Common.{◌≡◌, ◌⊎◌, ℕ, ◌<◌, List, length, refl, sym, ap, ◌∙◌, inl, inr, subst}
-use Rattle.std.proofs.lemmas.Bool.{both_ways}
+use Rattle.std.proofs.Common.{◌≡◌, ◌⊎◌, ℕ, ◌<◌, List, [], length, refl, sym, ap, ◌∙◌, inl, inr, subst}
+use Rattle.std.proofs.lemmas.Bool.{both_ways, false_from_ne_true}
 use Rattle.nc_num.specs.Memory.{byte}
 use Rattle.nc_num.specs.Places.{covers}
 use Rattle.nc_num.specs.declared.names.HartNo.{HartNo}
@@ -20,35 +20,43 @@ use Rattle.nc_rules.specs.declared.lots.Side.{Side}
 use Rattle.nc_rules.specs.declared.lots.Side.TheVariants as sides
 use Rattle.nc_rules.specs.declared.steps.Phase.TheVariants.{Work}
 use Rattle.nc_rules.specs.declared.steps.Step.{Step}
-use Rattle.nc_rules.specs.Lots.{is_wanted, map_id, owner_of_side}
+use Rattle.nc_rules.specs.Lots.{is_lot, is_wanted, map_id, owner_of_side}
 use Rattle.nc_rules.specs.Machine.{hart_of, queue_of}
 use Rattle.nc_rules.specs.Turns.{is_area, set_side, of_those, to_side}
 use Rattle.nc_rules.specs.Driver.{DriverState, Went, in_hand, stands, with_lots}
 use Rattle.nc_rules.specs.Watched.{owner_of}
 use Rattle.nc_rules.specs.World.{WorldState, driver_of, owners_moved}
+use Rattle.nc_scripts.proofs.Lists.{all_in}
 use Rattle.nc_scripts.proofs.LotLaws.{its_name}
+use Rattle.nc_holds.proofs.ListsA.{all_at}
 use Rattle.nc_holds.proofs.OwnerLots.{same_named}
 use Rattle.nc_holds.proofs.OwnerMoves.{moved_off}
 use Rattle.nc_holds.proofs.OwnerSides.{side_move, move_covers, owners_set}
-use Rattle.nc_rows.specs.Ahead.{posts, sending}
+use Rattle.nc_rows.specs.Ahead.{ends, sending}
 use Rattle.nc_rows.specs.Laws.{seen_at}
 use Rattle.nc_rows.specs.Rows.{Loan, Book, Row}
 use Rattle.nc_rows.specs.Parts.{rest_last}
+use Rattle.nc_plan.specs.Plans.{In}
 use Rattle.nc_rows.proofs.Steps.{steps_ahead}
 use Rattle.nc_flatness.specs.Covered.{is_lending}
 use Rattle.nc_flatness.specs.Books.{loan_by, loan_of, book_of, mapping_in, LiesIn}
-use Rattle.nc_flatness.specs.Flatness.{IsMapping, PlanLeft, PlanIs, PlanOf, Drives, BytesStand}
+use Rattle.nc_flatness.specs.Flatness.{PlanLeft, PlanIs, PlanOf, Drives, BytesStand}
 use Rattle.nc_flatness.specs.Plans.{PlanGoes}
-use Rattle.nc_flatness.specs.Tokens.{TokenStands}
+use Rattle.nc_flatness.specs.Tokens.{is_lending_side, TokenStands}
 use Rattle.nc_flatness.proofs.Loans.{loan_is}
 use Rattle.nc_flatness.proofs.Outcomes.{gone}
-use Rattle.nc_flatness.proofs.Rests.{none_light}
+use Rattle.nc_flatness.proofs.Lents.{all_sided, sides_mapping}
+use Rattle.nc_flatness.proofs.Stands.{stands_by, none_stands}
+use Rattle.nc_flatness.proofs.Tokens.{ended_unsent}
 use Rattle.nc_flatness.proofs.Owned.{owned_ram}
 use Rattle.nc_flat_starts.proofs.Bases.{IsBase, me_of}
-use Rattle.nc_flat_starts.proofs.Befores.{IsBefore, driven, its_mapping, its_first, its_only, mapping_rest, far_loan, far_mapping, known_here, all_idle, idle_free, seen_aside}
+use Rattle.nc_flat_starts.proofs.Befores.{IsBefore, driven, its_first, its_only, far_loan, far_mapping, far_rest, known_here, all_idle, idle_free, seen_aside}
 use Rattle.nc_flat_starts.proofs.Frames.{IsPlace, IsOff, On, Off, somewhere, StaysAside, rewrites_none, goes_still, loan_hart, loan_aside, rest_hart, last_none}
 use Rattle.nc_flat_starts.proofs.Lots.{loan_in, loan_for, loan_here, other_set}
-use Rattle.nc_flat_starts.proofs.Sides.{turned_lot, set_all, set_here, set_one}
+use Rattle.nc_flat_starts.proofs.PlanComes.{only_one}
+use Rattle.nc_flat_starts.proofs.PlanOps.{IsPlan}
+use Rattle.nc_flat_starts.proofs.Sides.{turned_lot, set_here, set_one}
+use Rattle.nc_flat_starts.proofs.Tokens.{no_token}
 use Rattle.nc_flat_starts.proofs.TurnBytes.{turn_bytes}
 
 -- ---- the operation in hand
@@ -88,6 +96,20 @@ side_mapping n k sides.Returning e = cc
 side_mapping n k sides.Synced e = cc
 side_mapping n k sides.Own e = absurd cc
 
+-- ---- tokens
+
+-- the lot has its end in the plan, and of the others what is queued stays
+open_stands : (sc : Scenario) (f : List ℕ) (w : WorldState) (h : HartNo) (lots : List Lot) (lot : Lot) (side : Side) (plan : List Step) → IsBefore sc f w h lots lot → is_lending_side lot.side ≡ false → IsPlan lot.id plan → (driver_of w h.0).fixed.light ≡ true
+    → All (TokenStands plan (queue_of w.machine h.0)) (set_side side lot.id lots)
+open_stands sc f w h lots lot side plan b unsent p light =
+    let q = queue_of w.machine h.0 in
+    let turned : TokenStands plan q (turned_lot side lot) = none_stands plan q (turned_lot side lot) (no_token sc f w h lots lot b.flat b.lt b.names b.kept b.here unsent) (ended_unsent plan (turned_lot side lot) p.ended) in
+    all_sided (λ (l : Lot). In l lots) (TokenStands plan q) side lot.id lots (all_in (λ (l : Lot). In l lots) lots (λ l here. here))
+    (λ l here is. subst (λ (k : Lot). TokenStands plan q (turned_lot side k)) (sym (same_named lots lot.id l lot b.names here b.here is (its_name lot lot.id refl))) turned)
+    (λ l here off.
+    let none : list_any (ends l.id) plan ≡ false = false_from_ne_true (list_any (ends l.id) plan) (λ ended. both_ways (is_lot lot.id l) off (p.only l.id ended)) in
+    stands_by [] plan q q l l.side refl (ap (λ (t : Bool). is_lending_side l.side && not t) none) (all_at (TokenStands [] q) lots l (b.tokens light) here))
+
 -- ---- a lot with a new side and a plan
 
 pub record Opens (sc : Scenario) (f : List ℕ) (w : WorldState) (h : HartNo) (o : Op) (went : Went) (lots : List Lot) (lot : Lot) (side : Side) (plan : List Step) : Type 0 where
@@ -97,9 +119,10 @@ pub record Opens (sc : Scenario) (f : List ℕ) (w : WorldState) (h : HartNo) (o
   pub driver : went.driver ≡ stands (with_lots (driver_of w h.0) lots) Work plan (set_side side lot.id lots) (driver_of w h.0).saw
   pub transfers : went.moves.transfers ≡ of_those (to_side (driver_of w h.0).fixed.me side) lot.id lots
   pub lent : is_wanted side ≡ false
-  pub silent : (b : ℕ) → list_any (posts b) plan ≡ false
-  pub lasting : rest_last plan ≡ None
+  pub of_plan : IsPlan lot.id plan
   pub goes : PlanGoes (driver_of w h.0).fixed (set_side side lot.id lots) plan
+  -- with light fences none of its tokens is queued
+  pub unsent : is_lending_side lot.side ≡ false
   -- the owner of each place before
   pub was : ℕ → Owner
   pub owned : (i : ℕ) (e : Entry) (x : ℕ) → IsPlace lot i e x → owner_of w x ≡ was i
@@ -146,15 +169,15 @@ opens_bytes sc f w h o went lots lot side plan t =
     let behind = stands (with_lots d lots) Work plan now d.saw in
     let v = gone w h m went in
     let lt = driven sc f w h b.flat b.lt in
-    let full = (its_mapping sc f w h lots lot b).full in
-    let its = set_all (IsMapping fx) side lot.id lots (λ l is. record { kind = is.kind; full = is.full }) b.mappings in
     let known : (i : ℕ) (e : Entry) → slice_get lot.list.entries i ≡ Some e → (book_of v).loan (map_id h lot.id i) ≡ Some (loan_for fx h lot i e) =
     λ i e there. loan_hart w h m went (map_id h lot.id i) lt refl ∙ ap (λ (k : DriverState). loan_of k (map_id h lot.id i)) t.driver ∙ open_loan sc f w h lots lot side i e b t.lent there in
     let rest : (book_of v).rest h.0 ≡ plan = rest_hart w h m went h.0 lt refl ∙ ap (λ (k : DriverState). k.rest) t.driver in
     let stays : (k : MapId) → (k.label.0 ≡ lot.id.label.0 → ⊥) → loan_of went.driver k ≡ loan_of d k =
     λ k far. ap (λ (j : DriverState). loan_of j k) t.driver ∙ ap (option_map (loan_by fx k)) (other_set side lot.id k lots far) ∙ b.loans k far in
     let others : (x : ℕ) (k : MapId) → x < sc.ram → IsOff lot x → mapping_in (owner_of w x) ≡ Some k → StaysAside w h went (owner_of w x) k =
-    λ x k there off is own. (stays k (far_mapping sc f w h lots lot x k b there off is own), inl (mapping_rest sc f w h x k b.flat b.still there is own)) in
+    λ x k there off is own.
+    let far = far_mapping sc f w h lots lot x k b there off is own in
+    (stays k far, inr (λ l lent. far_rest sc f w h lot.id k l plan went.driver.rest b.flat b.idle t.of_plan.only (ap (λ (j : DriverState). j.rest) t.driver) own lent far)) in
     let on : (i : ℕ) (e : Entry) (x : ℕ) → IsPlace lot i e x → owner_in (owners_moved w.owners went.moves.transfers) x ≡ owner_of_side (map_id h lot.id i) side =
     λ i e x place. ap (λ (ts : List (Span × Owner)). owner_in (owners_moved w.owners ts) x) t.transfers ∙ open_on sc f w h lots lot side i e x b place in
     let off : (x : ℕ) → IsOff lot x → owner_in (owners_moved w.owners went.moves.transfers) x ≡ owner_of w x =
@@ -169,16 +192,16 @@ opens_bytes sc f w h o went lots lot side plan t =
       areas = λ x k l beside own is area over. stays k (far_loan sc f w h lots lot x k l b beside own (loan_is sc f w k l b.flat is) over) ∙ known_here w h k l own is;
       pooled = λ i e x place over. inr (record { id = map_id h lot.id i; loan = loan_for fx h lot i e; lent = known i e place.entry; area = t.area i e x place over; on = place.on });
       free = λ i e x place over. inl (idle_free sc f w h x b.flat b.idle (λ k is. mine i e x k place is) (subst (λ (p : Span). covers p x ≡ true) (sym b.flat.world.of_scenario.pool) over));
-      silent = λ c. ap (λ (j : DriverState). sending c j.rest) t.driver ∙ steps_ahead.send_none c plan (t.silent c) ∙ sym (ap (λ (ss : List Step). sending c ss) b.idle);
+      silent = λ c. ap (λ (j : DriverState). sending c j.rest) t.driver ∙ steps_ahead.send_none c plan (t.of_plan.silent c) ∙ sym (ap (λ (ss : List Step). sending c ss) b.idle);
       fixed = ap (λ (j : DriverState). j.fixed) t.driver;
       drives = subst (λ (j : DriverState). Drives j) (sym t.driver) (record {
-        lots = its;
-        stands = subst (λ (k : Option Op). PlanOf behind k) (sym t.hand) (lending_plan behind o t.lends (record { goes = t.goes; one = λ light. absurd (both_ways fx.light full light) }));
+        lots = sides_mapping fx side lot.id lots b.mappings;
+        stands = subst (λ (k : Option Op). PlanOf behind k) (sym t.hand) (lending_plan behind o t.lends (record { goes = t.goes; one = λ light. only_one lot.id plan t.of_plan.only }));
         idle = tt;
       });
-      lasting = last_none (book_of v) f h.0 (hart_of m h.0).last (rest_last went.driver.rest) (ap (λ (j : DriverState). rest_last j.rest) t.driver ∙ t.lasting);
+      lasting = last_none (book_of v) f h.0 (hart_of m h.0).last (rest_last went.driver.rest) (ap (λ (j : DriverState). rest_last j.rest) t.driver ∙ t.of_plan.first);
       queue = all_idle sc f w h (book_of v) (owner_of v) b.flat b.idle;
-      tokens = subst (λ (j : DriverState). j.fixed.light ≡ true → All (TokenStands j.rest (queue_of m h.0)) j.lots) (sym t.driver) (none_light fx now (TokenStands plan (queue_of m h.0)) its);
+      tokens = subst (λ (j : DriverState). j.fixed.light ≡ true → All (TokenStands j.rest (queue_of m h.0)) j.lots) (sym t.driver) (λ light. open_stands sc f w h lots lot side plan b t.unsent t.of_plan light);
       passes = λ x u there unslotted beside row. row;
       lies = λ i e x k there place is.
           subst (λ (j : MapId). LiesIn ((book_of v).loan j) x) (side_mapping (map_id h lot.id i) k side is) (subst (λ (l : Option Loan). LiesIn l x) (sym (known i e place.entry)) place.on);

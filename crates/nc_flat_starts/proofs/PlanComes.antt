@@ -1,8 +1,8 @@
 -- What is to come of operations and the steps behind them.
-use Rattle.std.specs.Prelude.{Option, Some, None, ◌||◌, ◌-◌, is_some, Bool, true, false, flat_map}
+use Rattle.std.specs.Prelude.{Option, Some, None, ◌==◌, ◌||◌, ◌-◌, is_some, Bool, true, false, flat_map}
 use Rattle.std.specs.List.{list_any}
 use Rattle.std.proofs.Common.{◌≡◌, ℕ, List, [], ◌∷◌, ◌++◌, refl, sym, ap, ◌∙◌, inl, inr}
-use Rattle.std.proofs.lemmas.Bool.{or_right, cases_Bool, cond-true, cond-false}
+use Rattle.std.proofs.lemmas.Bool.{and_parts, or_right, cases_Bool, cond-true, cond-false, eqb-true, false_from_ne_true}
 use Rattle.std.proofs.lemmas.List.Elements.{All-nil, All-cons, All-head, All-tail}
 use Rattle.std.proofs.lemmas.List.Folds.{list_any-append}
 use Rattle.nc_num.specs.Memory.{byte}
@@ -22,9 +22,10 @@ use Rattle.nc_rules.specs.declared.lots.LotId.{LotId}
 use Rattle.nc_rules.specs.declared.steps.Step.{Step}
 use Rattle.nc_rules.specs.declared.steps.Turn.{Turn}
 use Rattle.nc_rules.specs.Plans.{hart_step, op_steps, turning, ending}
-use Rattle.nc_rows.specs.Ahead.{ends, posts, is_full, op_coming, coming}
+use Rattle.nc_rows.specs.Ahead.{same_lot, ends, posts, is_full, op_coming, coming}
 use Rattle.nc_rows.proofs.Steps.{next}
 use Rattle.nc_row_plans.proofs.LendingPlans.{is_plain, Are, are_flat}
+use Rattle.nc_flatness.specs.Plans.{EndsOne}
 use Rattle.nc_flat_starts.proofs.Pieces.{Move, stored}
 
 -- ---- operations
@@ -41,6 +42,26 @@ plain_ends id (hart.Mark pred succ) is = absurd cc
 pub ends_behind : (id : LotId) (ops : List HartOp) (rest : List Step) → list_any (ends id) rest ≡ true → list_any (ends id) (op_steps ops ++ rest) ≡ true
 ends_behind id [] rest some = some
 ends_behind id (o ∷ ops) rest some = or_right (ends id (hart_step o)) (list_any (ends id) (op_steps ops ++ rest)) (ends_behind id ops rest some)
+
+-- it ends the stay of no lot of another name
+abbrev pub EndsOnly : LotId → List Step → Type 0
+EndsOnly id rest = (b : LotId) → list_any (ends b) rest ≡ true → same_lot b id ≡ true
+
+pub only_ops : (id : LotId) (ops : List HartOp) (rest : List Step) → Are is_plain ops → EndsOnly id rest → EndsOnly id (op_steps ops ++ rest)
+only_ops id [] rest all only b ended = only b ended
+only_ops id (o ∷ ops) rest all only b ended =
+    only_ops id ops rest (All-tail (λ (k : HartOp). is_plain k ≡ true) o ops all) only b
+    (sym (ap (λ (t : Bool). t || list_any (ends b) (op_steps ops ++ rest)) (plain_ends b o (All-head (λ (k : HartOp). is_plain k ≡ true) o ops all))) ∙ ended)
+
+same_label : (a b : LotId) → same_lot a b ≡ true → a.label.0 ≡ b.label.0
+same_label a b same = eqb-true a.label.0 b.label.0 (and_parts (a.label.0 == b.label.0) (a.first == b.first) same).0
+
+pub only_one : (id : LotId) (rest : List Step) → EndsOnly id rest → EndsOne rest
+only_one id rest only a b here there = same_label a id (only a here) ∙ sym (same_label b id (only b there))
+
+-- none of another label
+pub only_far : (id other : LotId) (rest : List Step) → EndsOnly id rest → (other.label.0 ≡ id.label.0 → ⊥) → list_any (ends other) rest ≡ false
+only_far id other rest only far = false_from_ne_true (list_any (ends other) rest) (λ ended. far (same_label other id (only other ended)))
 
 or_assoc : (a b c : Bool) → (a || (b || c)) ≡ ((a || b) || c)
 or_assoc true b c = refl

@@ -39,7 +39,7 @@ use Rattle.nc_row_plans.specs.Plans.{WritesBack, DropsBlocks}
 use Rattle.nc_row_plans.proofs.LendingPlans.{is_plain, Are}
 use Rattle.nc_flatness.specs.Plans.{LoadsFirst, device_of}
 use Rattle.nc_flat_starts.proofs.Pieces.{Move, piece_of, moves_of, AreCutApart, CutsEven}
-use Rattle.nc_flat_starts.proofs.PlanComes.{ops_of}
+use Rattle.nc_flat_starts.proofs.PlanComes.{EndsOnly, ops_of}
 
 -- ---- what the plans of a lot need of it
 
@@ -51,7 +51,6 @@ abbrev pub out_cut : Fixed → Entry → Span × Span
 out_cut f e = (device_of f e, e.span)
 
 pub record IsPlanned (f : Fixed) (lot : Lot) : Type 0 where
-  pub light : f.light ≡ false
   pub size : IsBlockSize f.size
   pub some : (i : ℕ) (e : Entry) → slice_get lot.list.entries i ≡ Some e → 0 < e.span.len
   pub off : (i : ℕ) (e : Entry) → slice_get lot.list.entries i ≡ Some e → is_bounced (sg.part_of lot.list.dir f.slots_at e) ≡ e.bounced
@@ -68,9 +67,11 @@ in_even f e = device_len f e e.bounced refl
 pub out_even : (f : Fixed) → CutsEven (out_cut f)
 out_even f e = sym (device_len f e e.bounced refl)
 
--- what is known of a plan at its start beside: it ends the lot's stay, it has no message, and a store comes first nowhere
+-- what is known of a plan at its start beside: it ends the lot's stay and no other's, it has no message, and a store comes
+-- first nowhere
 pub record IsPlan (id : LotId) (plan : List Step) : Type 0 where
   pub ended : list_any (ends id) plan ≡ true
+  pub only : EndsOnly id plan
   pub silent : (b : ℕ) → list_any (posts b) plan ≡ false
   pub first : LoadsFirst plan
 

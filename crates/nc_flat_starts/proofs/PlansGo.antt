@@ -1,16 +1,15 @@
 -- The plan with which a lot is lent goes through: what each of its steps is for, at its start.
-use Rattle.std.specs.Prelude.{Some, ◌||◌, Bool, true, false, if◌then◌else◌, All, flat_map, slice_get}
+use Rattle.std.specs.Prelude.{Some, ◌||◌, Bool, true, false, All, flat_map, slice_get}
 use Rattle.std.specs.List.{list_any}
 use Rattle.std.proofs.Common.{◌≡◌, ◌⊎◌, ℕ, List, [], ◌∷◌, ◌++◌, refl, sym, ap, ◌∙◌, inl, inr, subst}
-use Rattle.std.proofs.lemmas.Bool.{or_left, or_right, or_from, false_from_ne_true, cond-false}
+use Rattle.std.proofs.lemmas.Bool.{or_left, or_right, or_from, false_from_ne_true}
 use Rattle.std.proofs.lemmas.List.Elements.{All-cons, All-head, All-tail}
 use Rattle.nc_num.specs.Places.{covers}
 use Rattle.nc_num.specs.declared.names.MapId.{MapId}
 use Rattle.nc_num.specs.declared.names.MemType.TheVariants.{Pma}
 use Rattle.nc_num.specs.declared.places.Span.{Span}
-use Rattle.nc_queue.specs.declared.entry.Entry.TheVariants as entries
 use Rattle.nc_lines.specs.Lines.{gives_at}
-use Rattle.nc_plan.specs.Plans.{In, full, written_back}
+use Rattle.nc_plan.specs.Plans.{In, written_back}
 use Rattle.nc_plan.specs.declared.ops.HartOp.{HartOp}
 use Rattle.nc_plan.specs.declared.ops.HartOp.TheVariants as hart
 use Rattle.nc_plan.specs.declared.ops.Payload.TheVariants.{Last}
@@ -19,19 +18,18 @@ use Rattle.nc_rules.specs.declared.lots.Lot.{Lot}
 use Rattle.nc_rules.specs.declared.lots.LotId.{LotId}
 use Rattle.nc_rules.specs.declared.lots.Side.TheVariants as sides
 use Rattle.nc_rules.specs.declared.steps.Step.{Step}
-use Rattle.nc_rules.specs.declared.steps.Turn.TheVariants as turns
 use Rattle.nc_rules.specs.Lots.{Fixed, parts}
-use Rattle.nc_rules.specs.Plans.{hart_step, op_steps, turning, carried, token_steps, lend_steps}
+use Rattle.nc_rules.specs.Plans.{hart_step, op_steps, lending_end, lend_steps}
 use Rattle.nc_holds.specs.Held.{SharesNone}
-use Rattle.nc_rows.specs.Ahead.{turns_lot, gives_lot, ends, op_coming, token, coming}
-use Rattle.nc_rows.proofs.Steps.{last}
+use Rattle.nc_rows.specs.Ahead.{ends, op_coming, coming}
 use Rattle.nc_row_plans.specs.Plans.{WritesBack}
 use Rattle.nc_row_plans.proofs.LendingPlans.{is_plain, Are}
-use Rattle.nc_flatness.specs.Plans.{IsInHand, HasFull, HasByte, LoadsFirst, GoesIn, ComesOut, Loads, Stores, WritesBack as WritesBackGoes, Drops, Gives, PlanGoes, device_of}
+use Rattle.nc_flatness.specs.Plans.{IsInHand, HasFull, HasByte, LoadsFirst, GoesIn, ComesOut, Loads, Stores, WritesBack as WritesBackGoes, Drops, PlanGoes, device_of}
 use Rattle.nc_flat_starts.proofs.Pieces.{Move, stored, moves_of, IsMove, MovesApart, moves_are, moves_apart, move_at, pairs_apart}
-use Rattle.nc_flat_starts.proofs.PlanComes.{ops_of, ends_behind, silent_ops, comes_ops, full_behind, copies_are, copies_give, steps_append, append_steps}
-use Rattle.nc_flat_starts.proofs.Sides.{given_still}
-use Rattle.nc_flat_starts.proofs.PlanOps.{in_cut, IsPlanned, in_even, IsPlan, same_id, ins_are, IsWriting, written_are, IsDropping, writing_are_plain, dropping_are_plain, writes_first, drops_first, writings_give}
+use Rattle.nc_flat_starts.proofs.PlanComes.{ops_of, only_ops, ends_behind, silent_ops, comes_ops, full_behind, copies_are, copies_give, steps_append, append_steps}
+use Rattle.nc_flat_starts.proofs.Sides.{NamesLent}
+use Rattle.nc_flat_starts.proofs.PlanOps.{in_cut, IsPlanned, in_even, IsPlan, ins_are, IsWriting, written_are, IsDropping, writing_are_plain, dropping_are_plain, writes_first, drops_first, writings_give}
+use Rattle.nc_flat_starts.proofs.PlanEnds.{LendingEnd, lending_end_so}
 
 -- ---- write-backs go
 
@@ -129,21 +127,6 @@ copies_go f lots lot cut (m ∷ ms) rest here ways all apart ended first once go
 
 -- ---- a lot is lent
 
-abbrev give_step : LotId → Step
-give_step id = turning (turns.Give id) (hart_step full)
-
-give_ends : (id : LotId) → list_any (ends id) (give_step id ∷ []) ≡ true
-give_ends id = or_left (ends id (give_step id)) false (or_left (turns_lot id (turns.Give id)) false (same_id id))
-
-give_byte : (f : Fixed) (id : LotId) (x : ℕ) → HasByte f id (give_step id ∷ []) x false
-give_byte f id x n =
-    ap (list_any (gives_at f.size x)) (last n id (give_step id) [] (or_left (turns_lot id (turns.Give id)) false (same_id id)))
-    ∙ none (gives_lot id (turns.Give id))
-  where
-    none : (t : Bool) → list_any (gives_at f.size x) (entries.Mark 15 15 ∷ (if t then token n ∷ [] else [])) ≡ false
-    none true = refl
-    none false = refl
-
 pub some_gives : (cut : Entry → Span × Span) (ms : List Move) (m : Move) (x : ℕ) → In m ms → covers (stored cut m) x ≡ true → list_any (λ k. covers (stored cut k) x) ms ≡ true
 some_gives cut [] m x here on = absurd here
 some_gives cut (k ∷ ms) m x (inl same) on = or_left (covers (stored cut k) x) (list_any (λ k. covers (stored cut k) x) ms) (subst (λ (j : Move). covers (stored cut j) x ≡ true) (sym same) on)
@@ -155,34 +138,34 @@ pub record Lends (f : Fixed) (lots : List Lot) (lot : Lot) (steps : List Step) :
   pub plan : IsPlan lot.id steps
   pub stores : (i : ℕ) (e : Entry) (y : ℕ) → slice_get lot.list.entries i ≡ Some e → e.bounced ≡ true → covers (device_of f e) y ≡ true → HasByte f lot.id steps y true
 
-pub lend_so : (f : Fixed) (lots : List Lot) (lot : Lot) → IsInHand f lots lot false sides.Lending → IsPlanned f lot → WritesBack f.effects → Lends f lots lot (lend_steps f lot)
-lend_so f lots lot hand is writes =
+pub lend_so : (f : Fixed) (lots : List Lot) (lot : Lot) → IsInHand f lots lot false sides.Lending → NamesLent lot.id lots → IsPlanned f lot → WritesBack f.effects → Lends f lots lot (lend_steps f lot)
+lend_so f lots lot hand named is writes =
     let es = lot.list.entries in
     let cut = in_cut f in
     let ms = moves_of cut es in
     let copied = flat_map (ops_of cut) ms in
     let backs = flat_map (written_back f.effects f.size) (parts f lot) in
     let all = written_are f lot writes in
-    let end = give_step lot.id ∷ [] in
+    let end = lending_end f lot in
+    let k : LendingEnd f lots lot end = lending_end_so f lots lot false hand named in
     let tail = op_steps backs ++ end in
     let plain = writing_are_plain backs all in
-    let ended = ends_behind lot.id backs end (give_ends lot.id) in
-    let given : PlanGoes f lots end = (Gives (record { lot = lot; hand = hand; step = refl; over = refl }), given_still f lot.id lots hand.others) in
+    let ended = ends_behind lot.id backs end k.plan.ended in
     let whole : lend_steps f lot ≡ op_steps copied ++ tail =
-    ap (λ (ss : List Step). op_steps (carried f.effects f.size (parts f lot)) ++ ss) (cond-false f.light (token_steps lot) end is.light)
-    ∙ ap (λ (ops : List HartOp). op_steps (ops ++ backs) ++ end) (ins_are f lot.list.dir es is.off) ∙ ap (λ (ss : List Step). ss ++ end) (steps_append copied backs) ∙ append_steps (op_steps copied) (op_steps backs) end in
+    ap (λ (ops : List HartOp). op_steps (ops ++ backs) ++ end) (ins_are f lot.list.dir es is.off) ∙ ap (λ (ss : List Step). ss ++ end) (steps_append copied backs) ∙ append_steps (op_steps copied) (op_steps backs) end in
     subst (λ (ss : List Step). Lends f lots lot ss) (sym whole) (record {
-      goes = copies_go f lots lot cut ms tail hand.here (λ e ops all_plain. inl (record { hand = hand; later = ends_behind lot.id ops tail ended; from_is = refl; to_is = refl })) (moves_are cut es) (moves_apart cut es (in_even f) (pairs_apart cut es is.slots)) ended (writes_first backs end all refl)
+      goes = copies_go f lots lot cut ms tail hand.here (λ e ops all_plain. inl (record { hand = hand; later = ends_behind lot.id ops tail ended; from_is = refl; to_is = refl })) (moves_are cut es) (moves_apart cut es (in_even f) (pairs_apart cut es is.slots)) ended (writes_first backs end all k.plan.first)
           (λ m x there on n.
-          comes_ops (gives_at f.size x) n lot.id backs end plain (give_ends lot.id)
-          ∙ or_from (list_any (gives_at f.size x) (flat_map op_coming backs)) (list_any (gives_at f.size x) (coming n lot.id end)) (writings_give f.size x backs all) (give_byte f lot.id x n))
-          (writes_go f lots lot backs end hand all (give_ends lot.id) refl given);
+          comes_ops (gives_at f.size x) n lot.id backs end plain k.plan.ended
+          ∙ or_from (list_any (gives_at f.size x) (flat_map op_coming backs)) (list_any (gives_at f.size x) (coming n lot.id end)) (writings_give f.size x backs all) (k.byte f.size x n))
+          (writes_go f lots lot backs end hand all k.plan.ended k.plan.first k.goes);
       plan = record {
         ended = ends_behind lot.id copied tail ended;
-        silent = λ b. silent_ops b copied tail (copies_are cut ms) (silent_ops b backs end plain refl);
-        first = copies_first cut ms tail (writes_first backs end all refl);
+        only = only_ops lot.id copied tail (copies_are cut ms) (only_ops lot.id backs end plain k.plan.only);
+        silent = λ b. silent_ops b copied tail (copies_are cut ms) (silent_ops b backs end plain (k.plan.silent b));
+        first = copies_first cut ms tail (writes_first backs end all k.plan.first);
       };
       stores = λ i e y there bounced on n.
-          let k = move_at cut es i e y (in_even f) there bounced on in
-          copies_byte f lot.id cut ms tail y n ended ∙ or_left (list_any (λ j. covers (stored cut j) y) ms) (list_any (gives_at f.size y) (coming n lot.id tail)) (some_gives cut ms k.0 y k.1 k.2);
+          let to = move_at cut es i e y (in_even f) there bounced on in
+          copies_byte f lot.id cut ms tail y n ended ∙ or_left (list_any (λ j. covers (stored cut j) y) ms) (list_any (gives_at f.size y) (coming n lot.id tail)) (some_gives cut ms to.0 y to.1 to.2);
     })

@@ -1,6 +1,6 @@
 -- A call with which a plan neither begins nor is left: nothing changes its owner, or a lot that is synced ends.
 use Rattle.std.specs.Prelude.{Option, Some, None, All, true, false, slice_get, option_map}
-use Rattle.std.proofs.Common.{◌≡◌, ℕ, ◌<◌, List, [], length, refl, sym, ap, ◌∙◌, inl, subst, arith}
+use Rattle.std.proofs.Common.{◌≡◌, ℕ, ◌<◌, List, [], length, refl, sym, ap, ◌∙◌, inr, subst, arith}
 use Rattle.std.proofs.lemmas.Bool.{both_ways, cond-false}
 use Rattle.nc_num.specs.Memory.{byte}
 use Rattle.nc_num.specs.Places.{covers}
@@ -38,15 +38,14 @@ use Rattle.nc_rows.specs.Places.{ThreadRow}
 use Rattle.nc_rows.specs.Rows.{Loan, Row, SyncedRow}
 use Rattle.nc_rows.specs.Parts.{rest_last}
 use Rattle.nc_flatness.specs.Books.{loan_by, loan_of, book_of, mapping_in}
-use Rattle.nc_flatness.specs.Flatness.{IsMapping, IsStillOrWanted, Drives, BytesStand, Flatness}
+use Rattle.nc_flatness.specs.Flatness.{IsMapping, Drives, BytesStand, Flatness}
 use Rattle.nc_flatness.specs.Plans.{IsStill}
 use Rattle.nc_flatness.specs.Tokens.{TokenStands}
 use Rattle.nc_flatness.proofs.Loans.{loan_is}
 use Rattle.nc_flatness.proofs.Outcomes.{gone}
-use Rattle.nc_flatness.proofs.Rests.{none_light}
 use Rattle.nc_flatness.proofs.Owned.{owned_ram}
 use Rattle.nc_flat_starts.proofs.Bases.{IsBase, me_of, base_beside}
-use Rattle.nc_flat_starts.proofs.Befores.{base_before, driven, mapping_rest, far_loan, far_mapping, known_here, all_idle, seen_aside}
+use Rattle.nc_flat_starts.proofs.Befores.{base_before, driven, rest_none, far_loan, far_mapping, known_here, all_idle, seen_aside}
 use Rattle.nc_flat_starts.proofs.Frames.{IsPlace, IsOff, On, Off, somewhere, StaysAside, rewrites_none, goes_still, loan_aside, last_none}
 use Rattle.nc_flat_starts.proofs.Lots.{other_without}
 use Rattle.nc_flat_starts.proofs.Opens.{base_owner, side_mine}
@@ -59,12 +58,12 @@ pub record IsQuiet (sc : Scenario) (f : List ℕ) (w : WorldState) (h : HartNo) 
   pub flat : Flatness sc f w
   pub lt : h.0 < length sc.harts
   pub idle : (driver_of w h.0).rest ≡ []
-  pub still : All (IsStillOrWanted (driver_of w h.0).fixed) (driver_of w h.0).lots
   pub rest : went.driver.rest ≡ []
   pub transfers : went.moves.transfers ≡ []
   pub fixed : went.driver.fixed ≡ (driver_of w h.0).fixed
   pub loans : (k : MapId) → loan_of went.driver k ≡ loan_of (driver_of w h.0) k
   pub drives : Drives went.driver
+  pub tokens : went.driver.fixed.light ≡ true → All (TokenStands [] (queue_of w.machine h.0)) went.driver.lots
 
 no_lot : Lot
 no_lot = record { id = lot_id (record { 0 = 0 }) 0; kind = Single; chan = record { 0 = 0 }; list = record { dir = Both; entries = [] }; side = sides.Own }
@@ -76,9 +75,10 @@ none_at i e x place = let no : slice_get {X = Entry} [] i ≡ Some e = place.ent
 pub quiet_bytes : (sc : Scenario) (f : List ℕ) (w : WorldState) (h : HartNo) (went : Went) → IsQuiet sc f w h went → BytesStand sc f (gone w h w.machine went)
 quiet_bytes sc f w h went q =
     let m = w.machine in
+    let d = driver_of w h.0 in
     let v = gone w h m went in
     let lt = driven sc f w h q.flat q.lt in
-    let others : (x : ℕ) (k : MapId) → x < sc.ram → mapping_in (owner_of w x) ≡ Some k → StaysAside w h went (owner_of w x) k = λ x k there is own. (q.loans k, inl (mapping_rest sc f w h x k q.flat q.still there is own)) in
+    let others : (x : ℕ) (k : MapId) → x < sc.ram → mapping_in (owner_of w x) ≡ Some k → StaysAside w h went (owner_of w x) k = λ x k there is own. (q.loans k, inr (λ l known. rest_none k l.lot d.rest went.driver.rest q.idle q.rest)) in
     let off : (x : ℕ) → owner_in (owners_moved w.owners went.moves.transfers) x ≡ owner_of w x = λ x. ap (λ (ts : List (Span × Owner)). owner_in (owners_moved w.owners ts) x) q.transfers in
     turn_bytes sc f f w h m went no_lot (λ n. Thread n.hart) q.flat lt (rewrites_none sc f w h no_lot) (goes_still sc f w h q.flat.bytes) (record {
       on = λ i e x there place. absurd (none_at i e x place);
@@ -94,7 +94,7 @@ quiet_bytes sc f w h went q =
       drives = q.drives;
       lasting = last_none (book_of v) f h.0 (hart_of m h.0).last (rest_last went.driver.rest) (ap rest_last q.rest);
       queue = all_idle sc f w h (book_of v) (owner_of v) q.flat q.idle;
-      tokens = none_light went.driver.fixed went.driver.lots (TokenStands went.driver.rest (queue_of m h.0)) q.drives.lots;
+      tokens = subst (λ (rest : List Step). went.driver.fixed.light ≡ true → All (TokenStands rest (queue_of m h.0)) went.driver.lots) (sym q.rest) q.tokens;
       passes = λ x u there unslotted beside row. row;
       lies = λ i e x k there place is. absurd (none_at i e x place);
       row = λ i e x there place row. absurd (none_at i e x place);
@@ -147,7 +147,7 @@ end_bytes sc f w h went lots lot t =
     let stays : (k : MapId) → (k.label.0 ≡ lot.id.label.0 → ⊥) → loan_of went.driver k ≡ loan_of d k =
     λ k far. ap (λ (j : DriverState). loan_of j k) t.driver ∙ ap (option_map (loan_by fx k)) (other_without lot.id k lots far) ∙ b.loans k far in
     let others : (x : ℕ) (k : MapId) → x < sc.ram → IsOff lot x → mapping_in (owner_of w x) ≡ Some k → StaysAside w h went (owner_of w x) k =
-    λ x k there beside is own_hart. (stays k (far_mapping sc f w h lots lot x k p there beside is own_hart), inl (mapping_rest sc f w h x k b.flat b.still there is own_hart)) in
+    λ x k there beside is own_hart. (stays k (far_mapping sc f w h lots lot x k p there beside is own_hart), inr (λ l known. rest_none k l.lot d.rest went.driver.rest b.idle (ap (λ (j : DriverState). j.rest) t.driver))) in
     let its = without_all (IsMapping fx) lot.id lots (all_to (IsMapping fx) (λ other. is_lot lot.id other ≡ false → IsMapping fx other) lots b.mappings (λ other is far. is)) in
     let unpooled : (i : ℕ) (e : Entry) (x : ℕ) → IsPlace lot i e x → covers (pool_of sc) x ≡ true → ⊥ = λ i e x place over. both_ways (covers (pool_of sc) x) (base_beside sc f w h lots lot i e x b t.plain place.entry place.on).0 over in
     turn_bytes sc f f w h m went lot (λ n. Thread n.hart) b.flat lt (rewrites_none sc f w h lot) (goes_still sc f w h b.flat.bytes) (record {
@@ -168,7 +168,7 @@ end_bytes sc f w h went lots lot t =
       });
       lasting = last_none (book_of v) f h.0 (hart_of m h.0).last (rest_last went.driver.rest) (ap (λ (j : DriverState). rest_last j.rest) t.driver);
       queue = all_idle sc f w h (book_of v) (owner_of v) b.flat b.idle;
-      tokens = subst (λ (j : DriverState). j.fixed.light ≡ true → All (TokenStands j.rest (queue_of m h.0)) j.lots) (sym t.driver) (none_light fx (without_lot lot.id lots) (TokenStands [] (queue_of m h.0)) its);
+      tokens = subst (λ (j : DriverState). j.fixed.light ≡ true → All (TokenStands j.rest (queue_of m h.0)) j.lots) (sym t.driver) (λ light. without_all (TokenStands [] (queue_of m h.0)) lot.id lots (all_to (TokenStands [] (queue_of m h.0)) (λ other. is_lot lot.id other ≡ false → TokenStands [] (queue_of m h.0) other) lots (p.tokens light) (λ other stands off. stands)));
       passes = λ x u there unslotted beside row. row;
       lies = λ i e x k there place is. absurd cc;
       row = λ i e x there place row.

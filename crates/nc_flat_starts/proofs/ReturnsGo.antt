@@ -31,14 +31,15 @@ use Rattle.nc_rules.specs.Plans.{hart_step, op_steps, turning, ending, return_st
 use Rattle.nc_scripts.proofs.Lists.{all_in}
 use Rattle.nc_holds.specs.Held.{SharesNone}
 use Rattle.nc_holds.proofs.ListsA.{get_at}
-use Rattle.nc_rows.specs.Ahead.{turns_lot, gives_lot, ends, is_full, op_coming, token, coming}
+use Rattle.nc_rows.specs.Ahead.{same_lot, turns_lot, gives_lot, ends, is_full, op_coming, token, coming}
 use Rattle.nc_rows.proofs.Steps.{next, last}
 use Rattle.nc_row_plans.specs.Plans.{DropsBlocks}
 use Rattle.nc_flatness.specs.Plans.{IsInHand, HasFull, IsBack, Loads, Stores, Fences, Ends, PlanGoes, device_of}
 use Rattle.nc_flat_starts.proofs.Pieces.{Move, stored, moves_of, IsMove, MovesApart, moves_are, moves_apart, move_at, pairs_apart}
-use Rattle.nc_flat_starts.proofs.PlanComes.{ops_of, ends_behind, silent_ops, full_behind, copies_are, copies_give, ending_last, steps_append, append_steps}
+use Rattle.nc_flat_starts.proofs.PlanComes.{ops_of, only_ops, ends_behind, silent_ops, full_behind, copies_are, copies_give, ending_last, steps_append, append_steps}
 use Rattle.nc_flat_starts.proofs.Sides.{IsSingly, back_still}
 use Rattle.nc_flat_starts.proofs.PlanOps.{out_cut, IsPlanned, out_even, IsPlan, same_id, outs_of, outs_are, IsDropping, dropped_are, dropping_are_plain, drops_first}
+use Rattle.nc_flat_starts.proofs.PlanEnds.{only_turn}
 use Rattle.nc_flat_starts.proofs.PlansGo.{drops_go, copies_first, copies_byte, copies_go, some_gives}
 
 -- ---- a lot is taken back
@@ -46,6 +47,11 @@ use Rattle.nc_flat_starts.proofs.PlansGo.{drops_go, copies_first, copies_byte, c
 pub back_turns : (id : LotId) (turn : Turn) → IsBack id turn → (turns_lot id turn ≡ true) × (gives_lot id turn ≡ false)
 back_turns id turn (inl is) = (ap (turns_lot id) is ∙ same_id id, ap (gives_lot id) is)
 back_turns id turn (inr is) = (ap (turns_lot id) is ∙ same_id id, ap (gives_lot id) is)
+
+-- it is a turn of no other
+back_same : (id : LotId) (turn : Turn) → IsBack id turn → (b : LotId) → turns_lot b turn ≡ same_lot b id
+back_same id turn (inl is) b = ap (turns_lot b) is
+back_same id turn (inr is) b = ap (turns_lot b) is
 
 -- the step that makes the turn
 turn_ends : (id : LotId) (turn : Turn) (o : HartOp) (rest : List Step) → IsBack id turn → ends id (turning turn (hart_step o)) ≡ true
@@ -238,7 +244,7 @@ return_by f lots lot turn ms hand is all back single from (NoMove none) outs =
     let ended : list_any (ends lot.id) end ≡ true = or_left (ends lot.id (turning turn (hart_step full))) false (turn_ends lot.id turn full [] back) in
     subst (λ (ss : List Step). Returns f lots lot ss) (sym whole) (record {
       goes = drops_go f lots lot ops end hand all ended (λ n. ap (list_any is_full) (turn_comes n lot.id turn full back)) refl (direct_end f lots lot turn hand back single (straight_so f lot (comes_back lot.list.dir) refl is (from ∙ none)));
-      plan = record { ended = ends_behind lot.id ops end ended; silent = λ b. silent_ops b ops end (dropping_are_plain f lot ops all) refl; first = drops_first f lot ops end all refl };
+      plan = record { ended = ends_behind lot.id ops end ended; only = only_ops lot.id ops end (dropping_are_plain f lot ops all) (only_turn lot.id turn full (back_same lot.id turn back) (λ b. refl)); silent = λ b. silent_ops b ops end (dropping_are_plain f lot ops all) refl; first = drops_first f lot ops end all refl };
     })
 return_by f lots lot turn ms hand is all back single from (Before init m sp) outs =
     let cut = out_cut f in
@@ -255,6 +261,8 @@ return_by f lots lot turn ms hand is all back single from (Before init m sp) out
       goes = drops_go f lots lot ops (hart_step full ∷ rest) hand all later (λ n. fence_comes n lot.id rest ended) refl (outs_go f lots lot turn init m hand is comes.0 back single comes.1);
       plan = record {
         ended = ends_behind lot.id ops (hart_step full ∷ rest) later;
+        only = only_ops lot.id ops (hart_step full ∷ rest) (dropping_are_plain f lot ops all)
+            (only_ops lot.id copied (last_copy cut turn m) (copies_are cut init) (only_turn lot.id turn (hart.Store (stored cut m) Pma Last) (back_same lot.id turn back) (λ b. refl)));
         silent = λ b. silent_ops b ops (hart_step full ∷ rest) (dropping_are_plain f lot ops all) (silent_ops b copied (last_copy cut turn m) (copies_are cut init) refl);
         first = drops_first f lot ops (hart_step full ∷ rest) all refl;
       };

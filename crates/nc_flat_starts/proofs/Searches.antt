@@ -39,8 +39,9 @@ use Rattle.nc_flatness.specs.Books.{loan_by}
 use Rattle.nc_flatness.specs.Covered.{is_lending}
 use Rattle.nc_flatness.specs.Flatness.{IsMapping, IsStillOrWanted, makes_kind, IsStillOrMade, StandsAt, BytesStand, Flatness}
 use Rattle.nc_flatness.specs.Plans.{IsStill, StillDevice, StillSynced, StillOwn, StillSent}
+use Rattle.nc_flatness.specs.Tokens.{is_lending_side}
 use Rattle.nc_flatness.proofs.Outcomes.{gone}
-use Rattle.nc_flat_starts.proofs.Calls.{IsCall, kind_of, gives_bytes, search_bytes, Makes, OneMap, ListMap, placed_bytes}
+use Rattle.nc_flat_starts.proofs.Calls.{wanted_side, IsCall, kind_of, gives_bytes, search_bytes, Makes, OneMap, ListMap, placed_bytes}
 use Rattle.nc_flat_starts.proofs.Bases.{area_placed}
 use Rattle.nc_flat_starts.proofs.Lots.{slot_loans}
 use Rattle.nc_flat_starts.proofs.Starts.{short, holds_here}
@@ -103,6 +104,25 @@ given_kept k (lot ∷ lots) other unlent here lent =
           (elim here [ inl same ↦ absurd (both_ways (is_wanted other.side) lent (subst (λ (l : Lot). is_wanted l.side ≡ true) same (All-head P lot lots unlent waits))) | inr there ↦ inr there ])
       | inr off ↦ subst (λ (ls : List Lot). In other ls) (sym (cond-false (lot_waits lot) (with_slot k lot ∷ lots) (lot ∷ slot_given k lots) off))
           (elim here [ inl same ↦ inl same | inr there ↦ inr (given_kept k lots other (All-tail P lot lots unlent) there lent) ])
+    ]
+
+-- and one that is being lent was there
+given_lent : (k : ℕ) (lots : List Lot) (other : Lot) → WaitsUnlent lots → In other (slot_given k lots) → is_lending_side other.side ≡ true → In other lots
+given_lent k [] other unlent here lends = absurd here
+given_lent k (lot ∷ lots) other unlent here lends =
+    let P : Lot → Type 0 = λ (l : Lot). lot_waits l ≡ true → is_wanted l.side ≡ true in
+    elim (cases_Bool (lot_waits lot)) [
+      | inl waits ↦
+          elim (subst (λ (ls : List Lot). In other ls) (cond-true (lot_waits lot) (with_slot k lot ∷ lots) (lot ∷ slot_given k lots) waits) here) [
+            | inl same ↦
+                let wanted = wanted_side lot.side (All-head P lot lots unlent waits) in
+                absurd (both_ways (is_lending_side other.side) (ap (λ (l : Lot). is_lending_side l.side) (sym same) ∙ ap is_lending_side wanted) lends)
+            | inr there ↦ inr there
+          ]
+      | inr off ↦ elim (subst (λ (ls : List Lot). In other ls) (cond-false (lot_waits lot) (with_slot k lot ∷ lots) (lot ∷ slot_given k lots) off) here) [
+        | inl same ↦ inl same
+        | inr there ↦ inr (given_lent k lots other (All-tail P lot lots unlent) there lends)
+      ]
     ]
 
 still_with : (f : Fixed) (k : ℕ) (lot : Lot) → IsStill f lot → IsStill f (with_slot k lot)
@@ -200,6 +220,7 @@ search_so sc f w h k o flat lt is =
         mappings = drives.lots;
         loans = λ n. refl;
         kept = λ other there lent. there;
+        lent = λ other there lends. there;
         still = all_to (IsStillOrMade fx (Some o)) (IsStillOrWanted fx) d.lots now (or_wanted fx (Some o));
         now = now;
         hand = is.hand;
@@ -227,9 +248,10 @@ got_call sc f w h k o s free =
       lt = c.lt;
       slots = slice_set w.slots k (Some fx.me);
       each = change_stays owner_laws ram harts h.0 fx _ _ (held_of w h.0) (Got k) (everyone_from w h.0 c.flat.world.holds (short sc f w h c.flat c.lt)) ((s.unlent, s.few), (record { waits = s.waits; unlent = s.unlent; free = free }, s.few), tt);
-      mappings = given_all (IsMapping fx) k d.lots c.mappings (λ lot is. record { kind = is.kind; full = is.full });
+      mappings = given_all (IsMapping fx) k d.lots c.mappings (λ lot is. record { kind = is.kind });
       loans = λ n. ap (option_map (loan_by fx n)) (slot_loans k n d.lots s.unlent);
       kept = λ other there lent. given_kept k d.lots other s.unlent there lent;
+      lent = λ other there lends. given_lent k d.lots other s.unlent there lends;
       still = c.still;
       now = given_all (IsStillOrMade fx (Some o)) k d.lots c.now (still_given fx (Some o) k);
       hand = c.hand;

@@ -1,5 +1,5 @@
 -- The lots of a hart behind a turn of one of them.
-use Rattle.std.specs.Prelude.{All, not, Bool, true, false, filter}
+use Rattle.std.specs.Prelude.{All, ◌==◌, ◌&&◌, not, Bool, true, false, filter}
 use Rattle.std.proofs.Common.{◌≡◌, List, [], ◌∷◌, refl, sym, ap, ◌∙◌, inl, inr, subst}
 use Rattle.std.proofs.lemmas.Bool.{cases_Bool, both_ways, cond-true, cond-false, not_from_true, not_from_false}
 use Rattle.std.proofs.lemmas.List.Elements.{All-nil, All-cons, All-head, All-tail}
@@ -14,7 +14,9 @@ use Rattle.nc_rules.specs.declared.steps.Turn.TheVariants as turns
 use Rattle.nc_rules.specs.Lots.{Fixed, is_lot}
 use Rattle.nc_rules.specs.Turns.{is_area, with_side, set_side, lots_after}
 use Rattle.nc_scripts.proofs.LotLaws.{its_name}
-use Rattle.nc_flatness.specs.Plans.{IsStill, StillDevice, StillSynced, StillOwn, IsInHand, IsBack, IsAreaBack}
+use Rattle.nc_scripts.proofs.Lists.{all_in}
+use Rattle.nc_holds.proofs.ListsA.{all_at}
+use Rattle.nc_flatness.specs.Plans.{IsStill, StillDevice, StillSynced, StillOwn, StillSent, IsInHand, IsBack, IsAreaBack}
 
 abbrev pub without_lot : LotId → List Lot → List Lot
 without_lot id lots = filter (λ lot. not (is_lot id lot)) lots
@@ -28,16 +30,6 @@ Others P id lots = All (λ other. is_lot id other ≡ false → P other) lots
 -- the lot with its new side
 abbrev pub turned_lot : Side → Lot → Lot
 turned_lot side lot = record lot { side = side }
-
-pub set_all : (P : Lot → Type 0) (side : Side) (id : LotId) (lots : List Lot) → ((lot : Lot) → P lot → P (turned_lot side lot)) → All P lots → All P (set_side side id lots)
-set_all P side id [] keeps all = All-nil P
-set_all P side id (lot ∷ lots) keeps all =
-    let first = All-head P lot lots all in
-    let now : P (with_side side id lot) = elim (cases_Bool (is_lot id lot)) [
-      | inl is ↦ subst P (sym (cond-true (is_lot id lot) (turned_lot side lot) lot is)) (keeps lot first)
-      | inr off ↦ subst P (sym (cond-false (is_lot id lot) (turned_lot side lot) lot off)) first
-    ] in
-    All-cons P (with_side side id lot) (set_side side id lots) now (set_all P side id lots keeps (All-tail P lot lots all))
 
 pub set_here : (side : Side) (lots : List Lot) (lot : Lot) → In lot lots → In (turned_lot side lot) (set_side side lot.id lots)
 set_here side [] lot here = absurd here
@@ -89,6 +81,13 @@ set_still f side id (x ∷ lots) now all =
     ] in
     All-cons (IsStill f) (with_side side id x) (set_side side id lots) first (set_still f side id lots (λ lot there is. now lot (inr there) is) (All-tail P x lots all))
 
+-- those of the name have it
+pub set_named : (side : Side) (id : LotId) (lots : List Lot) (now : Lot) → In now (set_side side id lots) → is_lot id now ≡ true → now.side ≡ side
+set_named side id lots now there is =
+    let from = set_from side id lots now there in
+    let was : is_lot id from.0 ≡ true = sym (ap (λ (i : LotId). i.label.0 == id.label.0 && i.first == id.first) (ap (λ (l : Lot). l.id) from.2 ∙ with_same side id from.0)) ∙ is in
+    ap (λ (l : Lot). l.side) (from.2 ∙ cond-true (is_lot id from.0) (turned_lot side from.0) from.0 was)
+
 -- ---- without the lot
 
 pub without_all : (P : Lot → Type 0) (id : LotId) (lots : List Lot) → Others P id lots → All P (without_lot id lots)
@@ -106,6 +105,18 @@ without_all P id (x ∷ lots) all =
 
 pub given_still : (f : Fixed) (id : LotId) (lots : List Lot) → Others (IsStill f) id lots → All (IsStill f) (lots_after (turns.Give id) lots)
 given_still f id lots others = set_still f sides.Device id lots (λ lot there is. StillDevice refl) others
+
+-- with light fences one of which the token is queued is still
+abbrev pub NamesLent : LotId → List Lot → Type 0
+NamesLent id lots = (lot : Lot) → In lot lots → is_lot id lot ≡ true → lot.side ≡ sides.Lending
+
+pub sent_still : (f : Fixed) (id : LotId) (lots : List Lot) → f.light ≡ true → NamesLent id lots → Others (IsStill f) id lots → All (IsStill f) lots
+sent_still f id lots light named others =
+    all_in (IsStill f) lots
+    (λ lot there. elim (cases_Bool (is_lot id lot)) [
+      | inl is ↦ StillSent (named lot there is) light
+      | inr off ↦ all_at (λ other. is_lot id other ≡ false → IsStill f other) lots lot others there off
+    ])
 
 -- a sync is of a single mapping
 abbrev pub IsSingly : LotId → Turn → List Lot → Type 0

@@ -1,65 +1,49 @@
--- The start of an operation that lends or takes back: what it makes, and the ways in which it opens.
-use Rattle.std.specs.Prelude.{Some, All, Result, Ok, Err, true, false, option_map, flat_map}
-use Rattle.std.proofs.Common.{◌≡◌, ◌⊎◌, ℕ, ◌<◌, List, [], ◌∷◌, ◌++◌, length, refl, sym, ap, ◌∙◌, inl, inr, subst, arith}
-use Rattle.std.proofs.lemmas.Bool.{cond-false, and_parts}
+-- The start of an operation that lends or takes back, and the ways in which it opens for a lot that the hart has.
+use Rattle.std.specs.Prelude.{Some, All, true, false}
+use Rattle.std.proofs.Common.{◌≡◌, ℕ, ◌<◌, List, [], ◌++◌, length, refl, sym, ap, ◌∙◌, inl, inr, subst, arith}
+use Rattle.std.proofs.lemmas.Bool.{both_ways, cond-false, and_parts}
 use Rattle.std.proofs.lemmas.List.{append-nil}
 use Rattle.std.proofs.lemmas.List.Folds.{list_any_none}
-use Rattle.std.proofs.lemmas.List.Elements.{All-nil, All-cons, All-append}
-use Rattle.nc_num.specs.declared.names.ChanNo.{ChanNo}
-use Rattle.nc_num.specs.declared.names.Dir.{Dir}
 use Rattle.nc_num.specs.declared.names.HartNo.{HartNo}
 use Rattle.nc_num.specs.declared.names.Label.{Label}
+use Rattle.nc_queue.specs.Entries.{lends_label}
+use Rattle.nc_queue.specs.Rules.{lends}
 use Rattle.nc_plan.specs.Plans.{In}
-use Rattle.nc_plan.proofs.PlanLaws.{in_left}
-use Rattle.nc_model.specs.declared.owners.Owner.{Owner}
-use Rattle.nc_coherent.specs.Pages.{PageMap}
 use Rattle.nc_ops.specs.declared.ops.Op.{Op}
-use Rattle.nc_ops.specs.declared.ops.Op.TheVariants as ops
-use Rattle.nc_ops.specs.declared.ops.SgEntry.{SgEntry}
 use Rattle.nc_scen.specs.declared.scenario.Scenario.{Scenario}
-use Rattle.nc_rules.specs.declared.answers.Refusal.{Refusal}
 use Rattle.nc_rules.specs.declared.lots.Kind.{Kind}
 use Rattle.nc_rules.specs.declared.lots.Kind.TheVariants as kinds
 use Rattle.nc_rules.specs.declared.lots.Lot.{Lot}
 use Rattle.nc_rules.specs.declared.lots.Side.TheVariants as sides
 use Rattle.nc_rules.specs.declared.steps.Phase.{Phase}
 use Rattle.nc_rules.specs.declared.steps.Phase.TheVariants.{Steps}
+use Rattle.nc_rules.specs.declared.steps.Step.{Step}
 use Rattle.nc_rules.specs.declared.steps.Turn.{Turn}
 use Rattle.nc_rules.specs.declared.steps.Turn.TheVariants as turns
-use Rattle.nc_rules.specs.Lots.{Fixed, lot_id, lot_named, is_lot, is_named, is_labelled, is_wanted, same_kind, lot_waits, some_lot_waits, slots_held, ranges_lot}
+use Rattle.nc_rules.specs.Lots.{Fixed, lot_named, is_lot, is_named, is_labelled, is_wanted, same_kind, lot_waits, some_lot_waits}
 use Rattle.nc_rules.specs.Turns.{is_area}
-use Rattle.nc_rules.specs.Refusals.{◌>>=◌, all_some, ranges_of, unused, owned_from, lendable, placeable}
 use Rattle.nc_rules.specs.Plans.{lend_steps, return_steps, ending}
-use Rattle.nc_rules.specs.Mappings as mappings
-use Rattle.nc_rules.specs.Mappings.{with_lot, needs_lot, unmap_turn, unmap_steps, to_cpu_turn, to_cpu_steps, to_dev_turn, to_dev_steps}
-use Rattle.nc_rules.specs.ScatterLists as lists
-use Rattle.nc_rules.specs.ScatterLists.{some_entries, unmap_sg_begin, unmap_sg_turn, unmap_sg_steps}
-use Rattle.nc_rules.specs.Operations.{meaning, begin, opening, plan_of}
-use Rattle.nc_rules.specs.Driver.{DriverState, Went, in_hand, stays, searches, with_lots, opened, placed, begun}
+use Rattle.nc_rules.specs.Machine.{queue_of}
+use Rattle.nc_rules.specs.Operations.{opening, plan_of, waited_label}
+use Rattle.nc_rules.specs.Driver.{DriverState, Went, in_hand, stays, searches, with_lots, opened, placed}
 use Rattle.nc_rules.specs.World.{WorldState, driver_of}
-use Rattle.nc_scripts.specs.Drivers.{IsSettled, AreMade, IsPhase}
-use Rattle.nc_scripts.proofs.DriverSteps.{passed}
-use Rattle.nc_scripts.proofs.EveryDriver.{in_hand_is}
+use Rattle.nc_scripts.specs.Drivers.{IsSettled, IsPhase}
 use Rattle.nc_scripts.proofs.Lists.{all_in, all_to, found}
-use Rattle.nc_scripts.proofs.NewLots.{ranges_begin, behind_ranges, placeable_is, new_is}
-use Rattle.nc_holds.specs.Changes.{Made, MayMake}
-use Rattle.nc_holds.specs.Holds.{held_of, DriverHolds}
+use Rattle.nc_holds.specs.Holds.{DriverHolds}
 use Rattle.nc_holds.specs.Rests.{RestAt}
-use Rattle.nc_holds.proofs.CallNew.{NewIs, Plain, OneArea, new_lots}
 use Rattle.nc_holds.proofs.EventFrom.{everyone_from}
-use Rattle.nc_holds.proofs.EventHart.{change_stays}
-use Rattle.nc_holds.proofs.ListsA.{all_at}
-use Rattle.nc_holds.proofs.OwnerFacts.{NoAreas}
-use Rattle.nc_holds.proofs.OwnerGiven.{owner_laws}
-use Rattle.nc_flatness.specs.Books.{loan_by, loan_of}
+use Rattle.nc_holds.proofs.ListsA.{all_at, none_at}
+use Rattle.nc_flatness.specs.Books.{loan_of}
 use Rattle.nc_flatness.specs.Covered.{is_lending}
-use Rattle.nc_flatness.specs.Flatness.{is_mapping, IsMapping, IsStillOrWanted, makes_kind, IsStillOrMade, StandsAt, Drives, BytesStand, Flatness}
+use Rattle.nc_flatness.specs.Flatness.{IsStillOrWanted, IsStillOrMade, StandsAt, Drives, BytesStand, Flatness}
 use Rattle.nc_flatness.specs.Plans.{IsStill, IsBack}
 use Rattle.nc_flatness.proofs.Loans.{entry_loan}
+use Rattle.nc_flatness.specs.Tokens.{lot_token, TokenStands}
 use Rattle.nc_flatness.proofs.Outcomes.{gone}
+use Rattle.nc_flatness.proofs.Rests.{lend_light}
+use Rattle.nc_flatness.proofs.Tokens.{lent_sent, sent_queued}
 use Rattle.nc_flat_starts.proofs.Bases.{IsBase}
-use Rattle.nc_flat_starts.proofs.Calls.{wanted_side, IsCall, call_base, gives_bytes, opened_so, Makes, OneMap, ListMap, placed_bytes}
-use Rattle.nc_flat_starts.proofs.Lots.{more_wanted}
+use Rattle.nc_flat_starts.proofs.Calls.{IsCall, call_base, opened_so}
 use Rattle.nc_flat_starts.proofs.OpenRows.{lend_opens}
 use Rattle.nc_flat_starts.proofs.BackRows.{AreKnown, return_opens}
 use Rattle.nc_flat_starts.proofs.Opens.{opens_bytes}
@@ -67,10 +51,14 @@ use Rattle.nc_flat_starts.proofs.Quiets.{quiet_bytes, end_bytes}
 
 -- ---- a driver at steps
 
+-- with light fences the token of the label that the operation waits for is out of the queue
+abbrev pub IsOut : WorldState → HartNo → Op → Type 0
+IsOut w h o = (label : Label) → (driver_of w h.0).fixed.light ≡ true → waited_label o ≡ Some label → lends (queue_of w.machine h.0) label.0 ≡ false
+
 pub record IsStart (sc : Scenario) (f : List ℕ) (w : WorldState) (h : HartNo) (o : Op) : Type 0 where
   pub flat : Flatness sc f w
   pub lt : h.0 < length sc.harts
-  pub full : (driver_of w h.0).fixed.light ≡ false
+  pub out : IsOut w h o
   pub hand : in_hand (driver_of w h.0) ≡ Some o
   pub lends : is_lending o ≡ true
   pub still : All (IsStill (driver_of w h.0).fixed) (driver_of w h.0).lots
@@ -83,14 +71,14 @@ short sc f w h flat lt = omega (arith, lt, flat.world.of_scenario.harts)
 pub holds_here : (sc : Scenario) (f : List ℕ) (w : WorldState) (h : HartNo) → Flatness sc f w → h.0 < length sc.harts → DriverHolds w h.0
 holds_here sc f w h flat lt = flat.world.holds.each h.0 (short sc f w h flat lt)
 
-pub at_steps : (sc : Scenario) (f : List ℕ) (w : WorldState) (h : HartNo) (o : Op) (n : ℕ) → Flatness sc f w → h.0 < length sc.harts → (driver_of w h.0).fixed.light ≡ false → in_hand (driver_of w h.0) ≡ Some o → is_lending o ≡ true → (driver_of w h.0).phase ≡ Steps n → IsStart sc f w h o
-at_steps sc f w h o n flat lt full hand lends phase =
+pub at_steps : (sc : Scenario) (f : List ℕ) (w : WorldState) (h : HartNo) (o : Op) (n : ℕ) → Flatness sc f w → h.0 < length sc.harts → IsOut w h o → in_hand (driver_of w h.0) ≡ Some o → is_lending o ≡ true → (driver_of w h.0).phase ≡ Steps n → IsStart sc f w h o
+at_steps sc f w h o n flat lt out hand lends phase =
     let d = driver_of w h.0 in
     let drives = flat.bytes.drives h.0 lt in
     record {
       flat = flat;
       lt = lt;
-      full = full;
+      out = out;
       hand = hand;
       lends = lends;
       still = subst (λ (p : Phase). StandsAt d p) phase drives.stands;
@@ -113,6 +101,7 @@ here_call sc f w h o s =
       mappings = (s.flat.bytes.drives h.0 s.lt).lots;
       loans = λ k. refl;
       kept = λ other there lent. there;
+      lent = λ other there lends. there;
       still = as_wanted d.fixed d.lots s.still;
       now = all_to (IsStill d.fixed) (IsStillOrMade d.fixed (Some o)) d.lots s.still (λ lot is. inl is);
       hand = s.hand;
@@ -120,103 +109,15 @@ here_call sc f w h o s =
       idle = s.idle;
     }
 
--- ---- map
-
--- the lots that it makes
-ranges_kind : (f : Fixed) (lots : List Lot) (label : Label) (kind : Kind) (dir : Dir) (chan : ChanNo) (os : List Owner) (es : List SgEntry) (new : List Lot) → ranges_begin f lots label kind dir chan os es ≡ Ok new → All (λ lot. lot.kind ≡ kind) new
-ranges_kind f lots label kind dir chan os es new e =
-    let p1 = passed (all_some es) (λ _. ranges_of f es >>= λ ranges. behind_ranges f lots label kind dir chan os ranges) new e in
-    let p2 = passed (ranges_of f es) (λ ranges. behind_ranges f lots label kind dir chan os ranges) new p1.rest in
-    let lot = ranges_lot f (lot_id label 0) kind dir chan p2.value in
-    let p3 = passed (unused lots label) (λ _. owned_from f.me (lot_id label 0) 0 os p2.value >>= λ _. lendable f.effects dir >>= λ _. placeable f (lot ∷ [])) new p2.rest in
-    let p4 = passed (owned_from f.me (lot_id label 0) 0 os p2.value) (λ _. lendable f.effects dir >>= λ _. placeable f (lot ∷ [])) new p3.rest in
-    let p5 = passed (lendable f.effects dir) (λ _. placeable f (lot ∷ [])) new p4.rest in
-    let there = placeable_is f (lot ∷ []) new p5.rest in
-    subst (λ (ls : List Lot). All (λ lot. lot.kind ≡ kind) ls) there.same (All-cons (λ (l : Lot). l.kind ≡ kind) lot [] refl (All-nil (λ (l : Lot). l.kind ≡ kind)))
-
-self_kind : (kind : Kind) → same_kind kind kind ≡ true
-self_kind kinds.Single = refl
-self_kind kinds.List = refl
-self_kind kinds.Area = refl
-self_kind kinds.Copy = refl
-
-map_kinds : (f : Fixed) (lots new : List Lot) (os : List Owner) (pages : PageMap) (label : Label) (buf off len : ℕ) (dir : Dir) (chan : ChanNo) → begin f lots os pages (ops.Map label buf off len dir chan) ≡ Ok new → All (λ lot. lot.kind ≡ kinds.Single) new
-unfolding begin meaning mappings.map_single
-map_kinds f lots new os pages label buf off len dir chan e = ranges_kind f lots label kinds.Single dir chan os (record { buf = buf; off = off; len = len } ∷ []) new e
-
-list_kinds : (f : Fixed) (lots new : List Lot) (os : List Owner) (pages : PageMap) (label : Label) (es : List SgEntry) (dir : Dir) (chan : ChanNo) → begin f lots os pages (ops.MapSg label es dir chan) ≡ Ok new → All (λ lot. lot.kind ≡ kinds.List) new
-unfolding begin meaning lists.map_sg
-list_kinds f lots new os pages label es dir chan e =
-    let p = passed (some_entries es) (λ _. ranges_begin f lots label kinds.List dir chan os es) new e in
-    ranges_kind f lots label kinds.List dir chan os es new p.rest
-
--- of which kind they are
-pub record NewKinds (o : Op) (new : List Lot) : Type 0 where
-  pub made : All (λ lot. makes_kind o lot.kind ≡ true) new
-  pub mapping : (f : Fixed) → f.light ≡ false → All (IsMapping f) new
-
-kinds_so : (o : Op) (new : List Lot) (kind : Kind) → All (λ lot. lot.kind ≡ kind) new → makes_kind o kind ≡ true → (kind ≡ kinds.Single) ⊎ (kind ≡ kinds.List) → NewKinds o new
-kinds_so o new kind all makes one = record {
-  made = all_to (λ (lot : Lot). lot.kind ≡ kind) (λ (lot : Lot). makes_kind o lot.kind ≡ true) new all (λ lot is. ap (makes_kind o) is ∙ makes);
-  mapping = λ f full. all_to (λ (lot : Lot). lot.kind ≡ kind) (IsMapping f) new all
-      (λ lot is. record { kind = elim one [ inl single ↦ ap is_mapping (is ∙ single) | inr list ↦ ap is_mapping (is ∙ list) ]; full = full });
-}
-
-new_kinds : (o : Op) (f : Fixed) (lots new : List Lot) (os : List Owner) (pages : PageMap) → Makes o → begin f lots os pages o ≡ Ok new → NewKinds o new
-new_kinds o f lots new os pages (OneMap label buf off len dir chan is) e =
-    kinds_so o new kinds.Single (map_kinds f lots new os pages label buf off len dir chan (subst (λ (p : Op). begin f lots os pages p ≡ Ok new) is e)) (ap (λ (p : Op). makes_kind p kinds.Single) is) (inl refl)
-new_kinds o f lots new os pages (ListMap label es dir chan is) e =
-    kinds_so o new kinds.List (list_kinds f lots new os pages label es dir chan (subst (λ (p : Op). begin f lots os pages p ≡ Ok new) is e)) (ap (λ (p : Op). makes_kind p kinds.List) is) (inr refl)
-
-no_area_op : (o : Op) (label : Label) (count : ℕ) (chan : ChanNo) → Makes o → o ≡ ops.Calloc label count chan → ⊥
-no_area_op o label count chan (OneMap l buf off len dir c is) e = let no : ops.Map l buf off len dir c ≡ ops.Calloc label count chan = sym is ∙ e in absurd cc
-no_area_op o label count chan (ListMap l es dir c is) e = let no : ops.MapSg l es dir c ≡ ops.Calloc label count chan = sym is ∙ e in absurd cc
-
-plain_new : (o : Op) (new : List Lot) → Makes o → NewIs o new → (flat_map slots_held new ≡ []) × NoAreas new
-plain_new o new makes (Plain unplaced areas) = (unplaced, areas)
-plain_new o new makes (OneArea label count chan span is same) = absurd (no_area_op o label count chan makes is)
-
-made_call : (sc : Scenario) (f : List ℕ) (w : WorldState) (h : HartNo) (o : Op) (new : List Lot) → IsStart sc f w h o → Makes o → begin (driver_of w h.0).fixed (driver_of w h.0).lots w.owners w.pages o ≡ Ok new
-    → IsCall sc f w h o ((driver_of w h.0).lots ++ new) × AreMade o ((driver_of w h.0).lots ++ new)
-made_call sc f w h o new s makes e =
-    let d = driver_of w h.0 in
-    let fx = d.fixed in
-    let ram = length w.machine.cache.ram in
-    let harts = length w.machine.harts in
-    let k = holds_here sc f w h s.flat s.lt in
-    let n = new_is ram harts fx d.lots new w.owners w.pages o k.driver.fixed s.settled k.driver.apart k.setting.pages (in_hand_is ram harts d o k.driver.fixed s.hand).fits e in
-    let plain = plain_new o new makes (new_lots fx d.lots new w.owners w.pages o e) in
-    let may : MayMake fx (held_of w h.0) new = record { op = o; begins = e; settled = s.settled } in
-    let its = new_kinds o fx d.lots new w.owners w.pages makes e in (
-      record {
-        flat = s.flat;
-        lt = s.lt;
-        slots = w.slots;
-        each = change_stays owner_laws ram harts h.0 fx _ _ (held_of w h.0) (Made new) (everyone_from w h.0 s.flat.world.holds (short sc f w h s.flat s.lt)) ((record { may = may; op = o; each = n }, plain.1), may, plain.0);
-        mappings = All-append (IsMapping fx) d.lots new (s.flat.bytes.drives h.0 s.lt).lots (its.mapping fx s.full);
-        loans = λ k. ap (option_map (loan_by fx k)) (more_wanted k d.lots new n.wanted);
-        kept = λ other there lent. in_left other d.lots new there;
-        still = as_wanted fx d.lots s.still;
-        now = All-append (IsStillOrMade fx (Some o)) d.lots new (all_to (IsStill fx) (IsStillOrMade fx (Some o)) d.lots s.still (λ lot is. inl is))
-            (all_in (IsStillOrMade fx (Some o)) new (λ lot there. inr (wanted_side lot.side (all_at (λ (l : Lot). is_wanted l.side ≡ true) new lot n.wanted there), all_at (λ (l : Lot). makes_kind o l.kind ≡ true) new lot its.made there)));
-        hand = s.hand;
-        lends = s.lends;
-        idle = s.idle;
-      },
-      record { old = d.lots; new = new; all = refl; settled = s.settled; names = n.names; wanted = n.wanted },
-    )
-
-pub map_bytes : (sc : Scenario) (f : List ℕ) (w : WorldState) (h : HartNo) (o : Op) (r : Result (List Lot) Refusal) → IsStart sc f w h o → Makes o → begin (driver_of w h.0).fixed (driver_of w h.0).lots w.owners w.pages o ≡ r → BytesStand sc f (gone w h w.machine (begun (driver_of w h.0) o r))
-map_bytes sc f w h o (Err r) s makes e = gives_bytes sc f w h o r s.flat s.lt s.idle (as_wanted (driver_of w h.0).fixed (driver_of w h.0).lots s.still)
-map_bytes sc f w h o (Ok new) s makes e = let c = made_call sc f w h o new s makes e in placed_bytes sc f w h o ((driver_of w h.0).lots ++ new) makes c.0 c.1
-
--- ---- the others
+-- ---- a lot that it has
 
 -- a lot that is found
 pub record IsThere (sc : Scenario) (f : List ℕ) (w : WorldState) (h : HartNo) (lot : Lot) (label : Label) (kind : Kind) : Type 0 where
   pub base : IsBase sc f w h (driver_of w h.0).lots lot
   pub its_kind : lot.kind ≡ kind
   pub still : IsStill (driver_of w h.0).fixed lot
+  -- with light fences its token is out of the queue
+  pub unsent : lot.side ≡ sides.Lending → ⊥
 
 kind_is : (a b : Kind) → same_kind a b ≡ true → b ≡ a
 kind_is kinds.Single kinds.Single e = refl
@@ -236,14 +137,23 @@ kind_is kinds.Copy kinds.Single e = absurd cc
 kind_is kinds.Copy kinds.List e = absurd cc
 kind_is kinds.Copy kinds.Area e = absurd cc
 
-pub there_so : (sc : Scenario) (f : List ℕ) (w : WorldState) (h : HartNo) (o : Op) (lot : Lot) (label : Label) (kind : Kind) → IsStart sc f w h o → lot_named (driver_of w h.0).lots label kind ≡ Some lot → IsThere sc f w h lot label kind
-there_so sc f w h o lot label kind s is =
+out_unsent : (sc : Scenario) (f : List ℕ) (w : WorldState) (h : HartNo) (o : Op) (lot : Lot) (label : Label) → IsStart sc f w h o → waited_label o ≡ Some label → In lot (driver_of w h.0).lots → is_labelled label lot ≡ true → lot.side ≡ sides.Lending → ⊥
+out_unsent sc f w h o lot label s waits here is side =
+    let d = driver_of w h.0 in
+    let q = queue_of w.machine h.0 in
+    let light = lend_light d.fixed lot side (all_at (IsStill d.fixed) d.lots lot s.still here) in
+    let stands : TokenStands [] q lot = all_at (TokenStands [] q) d.lots lot (subst (λ (rest : List Step). All (TokenStands rest q) d.lots) s.idle (s.flat.bytes.tokens h.0 s.lt light)) here in
+    both_ways (is_labelled label lot) (none_at (lends_label label.0) q (lot_token lot) (s.out label light waits) (sent_queued [] q lot stands (lent_sent [] lot side refl))) is
+
+pub there_so : (sc : Scenario) (f : List ℕ) (w : WorldState) (h : HartNo) (o : Op) (lot : Lot) (label : Label) (kind : Kind) → IsStart sc f w h o → waited_label o ≡ Some label → lot_named (driver_of w h.0).lots label kind ≡ Some lot → IsThere sc f w h lot label kind
+there_so sc f w h o lot label kind s waits is =
     let d = driver_of w h.0 in
     let it = found (λ (l : Lot). In l d.lots) (is_named label kind) d.lots lot (all_in (λ (l : Lot). In l d.lots) d.lots (λ l there. there)) is in
     record {
       base = call_base sc f w h o d.lots lot (here_call sc f w h o s) it.is (all_at IsSettled d.lots lot s.settled it.is).placed (all_to (IsStill d.fixed) (λ other. is_lot lot.id other ≡ false → IsStill d.fixed other) d.lots s.still (λ other is far. is));
       its_kind = kind_is kind lot.kind (and_parts (is_labelled label lot) (same_kind kind lot.kind) it.passes).1;
       still = all_at (IsStill d.fixed) d.lots lot s.still it.is;
+      unsent = out_unsent sc f w h o lot label s waits it.is (and_parts (is_labelled label lot) (same_kind kind lot.kind) it.passes).0;
     }
 
 -- its mappings
@@ -271,12 +181,13 @@ stays_bytes sc f w h o s first steps =
       flat = s.flat;
       lt = s.lt;
       idle = s.idle;
-      still = as_wanted d.fixed d.lots s.still;
       rest = ap (λ (k : DriverState). k.rest) so.driver;
       transfers = so.transfers;
       fixed = ap (λ (k : DriverState). k.fixed) so.driver;
       loans = λ k. ap (λ (j : DriverState). loan_of j k) so.driver;
       drives = subst (λ (k : DriverState). Drives k) (sym so.driver) (record { lots = (s.flat.bytes.drives h.0 s.lt).lots; stands = s.still; idle = refl });
+      tokens = subst (λ (k : DriverState). k.fixed.light ≡ true → All (TokenStands [] (queue_of w.machine h.0)) k.lots) (sym so.driver)
+          (λ light. subst (λ (rest : List Step). All (TokenStands rest (queue_of w.machine h.0)) d.lots) s.idle (s.flat.bytes.tokens h.0 s.lt light));
     })
 
 pub lends_bytes : (sc : Scenario) (f : List ℕ) (w : WorldState) (h : HartNo) (o : Op) (lot : Lot) (label : Label) (kind : Kind) → IsStart sc f w h o → IsThere sc f w h lot label kind → is_area kind ≡ false → lot.side ≡ sides.Synced → opening (driver_of w h.0).fixed (driver_of w h.0).lots o ≡ turns.Lend lot.id

@@ -42,7 +42,7 @@ all_sided P Q side id (lot ∷ lots) all hit miss =
 
 -- each lot stays a mapping
 pub sides_mapping : (f : Fixed) (side : Side) (id : LotId) (lots : List Lot) → All (IsMapping f) lots → All (IsMapping f) (set_side side id lots)
-sides_mapping f side id lots all = all_sided (IsMapping f) (IsMapping f) side id lots all (λ lot is hit. record { kind = is.kind; full = is.full }) (λ lot is miss. is)
+sides_mapping f side id lots all = all_sided (IsMapping f) (IsMapping f) side id lots all (λ lot is hit. record { kind = is.kind }) (λ lot is miss. is)
 
 -- ---- the channel has it
 

@@ -23,12 +23,11 @@ use Rattle.nc_rules.specs.Driver.{DriverState, in_hand}
 use Rattle.nc_rules.specs.Lots.{Fixed, is_lot}
 use Rattle.nc_rules.specs.Turns.{is_area, with_side, set_side, lots_after}
 use Rattle.nc_rules.specs.World.{WorldState, no_driver, driver_of}
-use Rattle.nc_scripts.proofs.Lists.{all_to}
 use Rattle.nc_holds.proofs.ListsA.{all_at, in_filter, same_some}
 use Rattle.nc_holds.specs.Rests.{RestAt}
 use Rattle.nc_rows.specs.Ahead.{same_lot, turns_lot, stores_io, tokens_lot, ends, is_settling, settling}
 use Rattle.nc_rows.specs.Parts.{act_last, rest_last}
-use Rattle.nc_flatness.specs.Flatness.{IsMapping, IsHanding, PlanLeft, PlanIs, PlanOf, StandsAt, Drives}
+use Rattle.nc_flatness.specs.Flatness.{IsHanding, PlanLeft, PlanIs, PlanOf, StandsAt, Drives}
 use Rattle.nc_flatness.specs.Plans.{IsStill, StillDevice, StillSynced, StillOwn, StillSent, IsInHand, HasEnd, IsCopied, token_step, IsStore, StepGoes, Loads, Stores, WritesBack, Drops, Gives, Fences, Ends, Zeroes, Flushes, Settles, GivesArea, TakesBack, Marks, Posts, PlanGoes, EndsOne}
 
 -- ---- the end of a lot
@@ -75,10 +74,6 @@ lend_light f lot is (StillSent side light) = light
 
 pub lend_moves : (f : Fixed) (lot : Lot) → lot.side ≡ sides.Lending → f.light ≡ false → IsStill f lot → ⊥
 lend_moves f lot is full still = false≢true (sym full ∙ lend_light f lot is still)
-
--- where fences are full there are no lots of light ones
-pub none_light : (f : Fixed) (lots : List Lot) (P : Lot → Type 0) → All (IsMapping f) lots → f.light ≡ true → All P lots
-none_light f lots P all light = all_to (IsMapping f) P lots all (λ lot is. absurd (false≢true (sym is.full ∙ light)))
 
 -- ---- what a rest ends
 

@@ -68,10 +68,8 @@ is_mapping kinds.List = true
 is_mapping kinds.Area = true
 is_mapping kinds.Copy = false
 
--- where fences are full
 pub record IsMapping (f : Fixed) (lot : Lot) : Type 0 where
   pub kind : is_mapping lot.kind ≡ true
-  pub full : f.light ≡ false
 
 -- it is still, or waits for its slots
 abbrev pub IsStillOrWanted : Fixed → Lot → Type 0
