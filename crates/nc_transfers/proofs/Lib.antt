@@ -1,0 +1,5 @@
+pub mod ConfigValues
+pub mod SettingUp
+pub mod Reads
+pub mod Writes
+pub mod Control
