@@ -1,5 +1,6 @@
 pub mod ConfigValues
 pub mod SettingUp
-pub mod Reads
-pub mod Writes
-pub mod Control
+pub mod ReadSteps
+pub mod WriteSteps
+pub mod Telling
+pub mod Stages

@@ -1,6 +1,6 @@
 //! The laws of a copy's channel, over the definitions alone.
 
-ghost use Rattle.nc_transfers.specs.Laws.{CopiesRead, CopiesSetUp, CopiesTell, CopiesWrite};
+ghost use Rattle.nc_transfers.specs.Laws.{CopiesGoOn, CopiesRead, CopiesSetUp, CopiesTell, CopiesWrite};
 
 /// A claim, and the stores of the plan one after another, set the channel's Next registers. The start moves them to Exec,
 /// and the channel runs with nothing written yet; a copy of no bytes is done at once.
@@ -11,21 +11,28 @@ pub fn copies_set_up()
 
 /// While the channel runs, a read takes bytes of the source alone, those behind the ones that were read, and is never an
 /// error. Where memory has flat memory's bytes there, the FIFO has them.
-#[tactic(auto, using(crate::proofs::Reads::copies_read))]
+#[tactic(auto, using(crate::proofs::ReadSteps::copies_read))]
 pub fn copies_read()
     ensures { CopiesRead }
 {}
 
 /// While the channel runs, a write gives bytes to the destination alone, those behind the ones that it has, and is never
 /// an error. Done is told exactly where they are the last, and then the destination has the source's bytes.
-#[tactic(auto, using(crate::proofs::Writes::copies_write))]
+#[tactic(auto, using(crate::proofs::WriteSteps::copies_write))]
 pub fn copies_write()
     ensures { CopiesWrite }
 {}
 
 /// While the channel runs, Control has neither done nor error; after the last write it has done alone. A store of 0 then
 /// releases the channel.
-#[tactic(auto, using(crate::proofs::Control::copies_tell))]
+#[tactic(auto, using(crate::proofs::Telling::copies_tell))]
 pub fn copies_tell()
     ensures { CopiesTell }
+{}
+
+/// At whatever stage a copy is, a store of its plan takes it to the next; a read, a write, and a change of flat memory
+/// beside its two ends leave it where it is.
+#[tactic(auto, using(crate::proofs::Stages::copies_go_on))]
+pub fn copies_go_on()
+    ensures { CopiesGoOn }
 {}

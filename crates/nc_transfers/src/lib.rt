@@ -8,4 +8,4 @@
 
 mod laws;
 
-pub use laws::{copies_read, copies_set_up, copies_tell, copies_write};
+pub use laws::{copies_go_on, copies_read, copies_set_up, copies_tell, copies_write};

@@ -3,7 +3,7 @@ use Rattle.std.proofs.Common.{◌≡◌, ◌⊎◌, inl, inr, ℕ, ◌+◌, ◌-
 use Rattle.std.specs.Prelude.{Option, ◌&&◌, not, if◌then◌else◌}
 use Rattle.std.proofs.lemmas.Bool.{cases_lt}
 use Rattle.std.proofs.lemmas.Bool.Decides.{nat_tests}
-use Rattle.std.proofs.lemmas.List.{get_or-take, get_or-drop, drop_all, length-take}
+use Rattle.std.proofs.lemmas.List.{get_or-take, get_or-drop, drop_all, length-take-le}
 use Rattle.nc_num.specs.Memory.{byte}
 use Rattle.nc_num.specs.declared.places.Span.{Span}
 use Rattle.nc_pdma_regs.specs.Config.{config_kept, repeat_of}
@@ -20,7 +20,7 @@ use Rattle.nc_transfers.specs.Transfers.{Ends, AreEnds, IsMoving, IsMoved}
 use Rattle.nc_transfers.specs.Bytes.{GetsBytes, written_for}
 use Rattle.nc_transfers.specs.Laws.{IsTargetWrite, CopiesWrite}
 use Rattle.nc_transfers.proofs.ConfigValues.{repeat_of-kept}
-use Rattle.nc_transfers.proofs.Reads.{place_known}
+use Rattle.nc_transfers.proofs.ReadSteps.{place_known}
 
 -- whether these bytes are the last
 last_is : (left n : ℕ) → (left - n == 0) ≡ true → n ≤ left → n ≡ left
@@ -38,7 +38,7 @@ gives e f w c size s bytes done h m is =
       here = omega (arith, r.span.here, m.destination);
       some = r.span.some;
       inside = omega (arith, r.span.here, m.destination, fits, m.left);
-      long = ap length r.bytes_are ∙ length-take s.len c.fifo r.in_fifo;
+      long = ap length r.bytes_are ∙ length-take-le s.len c.fifo r.in_fifo;
       last = λ yes. let all = last_is (e.len - w) s.len (sym told ∙ yes) fits in omega (arith, all, m.left);
       more = λ no. let some = more_is (e.len - w) s.len (sym told ∙ no) in omega (arith, some);
     }
