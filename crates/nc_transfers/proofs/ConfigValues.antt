@@ -1,6 +1,5 @@
 -- What Config keeps of a value.
-use Rattle.std.proofs.Common.{◌≡◌, ℕ, ◌+◌, ◌*◌, ◌/◌, ◌%◌, ◌^◌, ◌==◌, Bool, false, refl, ap, ◌∙◌, arith}
-use Rattle.nc_pdma_regs.specs.Control.{bit}
+use Rattle.std.proofs.Common.{◌≡◌, ℕ, ◌+◌, ◌*◌, ◌/◌, ◌%◌, ◌^◌, ◌==◌, ap, arith}
 use Rattle.nc_pdma_regs.specs.Config.{config_kept, repeat_of}
 use Rattle.nc_pdma_regs.specs.Writes.{low}
 

@@ -4,3 +4,4 @@ pub mod ReadSteps
 pub mod WriteSteps
 pub mod Telling
 pub mod Stages
+pub mod Ends

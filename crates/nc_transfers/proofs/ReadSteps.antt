@@ -1,11 +1,10 @@
 -- The reads of a copy's channel.
-use Rattle.std.proofs.Common.{◌≡◌, ◌⊎◌, inl, inr, ℕ, ◌+◌, ◌-◌, ◌<◌, ◌≤◌, Bool, true, false, List, ◌++◌, length, Some, refl, sym, ap, ◌∙◌, subst, arith, length-append}
-use Rattle.std.specs.Prelude.{Option, nat_le, ◌&&◌, if◌then◌else◌}
+use Rattle.std.proofs.Common.{◌≡◌, inl, inr, ℕ, ◌+◌, ◌-◌, ◌<◌, ◌≤◌, Bool, true, false, List, ◌++◌, length, Some, refl, sym, ap, ◌∙◌, subst, arith, length-append}
+use Rattle.std.specs.Prelude.{Option, if◌then◌else◌}
 use Rattle.std.proofs.lemmas.Bool.{cases_lt}
 use Rattle.std.proofs.lemmas.Bool.Decides.{nat_tests}
 use Rattle.std.proofs.lemmas.List.{get_or_append_left, get_or-append_right}
 use Rattle.nc_num.specs.Memory.{byte}
-use Rattle.nc_num.specs.Memory as memory
 use Rattle.nc_num.specs.declared.places.Span.{Span}
 use Rattle.nc_num.proofs.MemoryLaws.{byte-span, length-span}
 use Rattle.nc_pdma.specs.declared.channel.ChanStep.{ChanStep}
@@ -16,7 +15,7 @@ use Rattle.nc_pdma.specs.Steps.{may_read, read_at, read_len, read_next, read_tol
 use Rattle.nc_pdma.specs.Laws.{IsReadOf}
 use Rattle.nc_pdma.proofs.Transactions.{each_read}
 use Rattle.nc_transfers.specs.Transfers.{Ends, AreEnds, IsMoving}
-use Rattle.nc_transfers.specs.Bytes.{ShowsSource, read_for}
+use Rattle.nc_transfers.specs.Bytes.{ShowsSource}
 use Rattle.nc_transfers.specs.Laws.{IsSourceRead, CopiesRead}
 
 takes : (e : Ends) (f : List ℕ) (w : ℕ) (c : ChannelState) (ram : List ℕ) (s : Span) (bytes : List ℕ) (done : Bool) → IsChannel c → IsMoving e f w c → read_told c ram ≡ Moved s bytes done → IsSourceRead e w c s done
@@ -53,11 +52,11 @@ no_error e f w c ram bus len are m is =
 -- ---- what the FIFO has
 
 read_byte : (e : Ends) (f : List ℕ) (w : ℕ) (c : ChannelState) (ram : List ℕ) (s : Span) (bytes : List ℕ) (done : Bool) (i : ℕ) → IsMoving e f w c → IsReadOf c ram s bytes done → ShowsSource e f ram s → length c.fifo ≤ i → i < length c.fifo + s.len
-    → byte (c.fifo ++ bytes) i ≡ byte f (e.from + (w + i))
+    → byte (c.fifo ++ bytes) i ≡ byte f (e.source + (w + i))
 read_byte e f w c ram s bytes done i m r shows low high =
     let k : ℕ = i - length c.fifo in
-    let there : s.at ≡ e.source + w + length c.fifo = omega (arith, r.span.here, m.source) in
-    let place : e.from + (s.at + k - e.source) ≡ e.from + (w + i) = omega (arith, there, low) in
+    let there : s.at ≡ e.reads_at + w + length c.fifo = omega (arith, r.span.here, m.source) in
+    let place : e.source + (s.at + k - e.reads_at) ≡ e.source + (w + i) = omega (arith, there, low) in
     get_or-append_right c.fifo bytes (length c.fifo) i 0 refl low
     ∙ ap (λ (bs : List ℕ). byte bs k) r.bytes_are
     ∙ byte-span ram s.at s.len k (omega (arith, low, high))
@@ -85,7 +84,7 @@ moves e f w c ram s bytes done h m is shows =
         | inl old ↦ get_or_append_left c.fifo bytes 0 i old ∙ m.fifo i old
         | inr new ↦ read_byte e f w c ram s bytes done i m r shows new (omega (arith, lt, all))
       ];
-      moved = m.moved;
+      copied = m.copied;
     })
 
 -- ---- a channel that does not run

@@ -1,9 +1,9 @@
 -- The registers of a copy's channel, from the claim to the start.
-use Rattle.std.proofs.Common.{◌≡◌, ℕ, zero, suc, ◌+◌, ◌-◌, ◌<◌, ◌==◌, Bool, true, false, List, [], Some, refl, sym, ap, ◌∙◌, subst, arith}
+use Rattle.std.proofs.Common.{◌≡◌, ℕ, zero, suc, ◌+◌, ◌<◌, ◌==◌, Bool, true, false, List, [], Some, refl, sym, ap, ◌∙◌, subst, arith}
 use Rattle.std.specs.Prelude.{◌&&◌, not, if◌then◌else◌, slice_get}
+use Rattle.std.proofs.Math.Bool.{and-false}
 use Rattle.std.proofs.lemmas.Bool.Decides.{nat_tests}
 use Rattle.nc_num.specs.declared.names.ChanNo.{ChanNo}
-use Rattle.nc_plan.specs.declared.ops.HartOp.{HartOp}
 use Rattle.nc_plan.specs.declared.ops.HartOp.TheVariants.{IoStore}
 use Rattle.nc_plan.specs.declared.ops.IoTarget.TheVariants.{Reg}
 use Rattle.nc_pdma_regs.specs.Control.{ControlBits}
@@ -37,36 +37,32 @@ config_stored e c h =
 bytes_stored : (e : Ends) (c : ChannelState) → IsSet e 1 c → IsSet e 2 (channel_write c 8 8 e.len)
 bytes_stored e c h = next_stored e 1 c (record c.regs.next { bytes = e.len }) c.regs.control.claim h.claimed h (ap (λ (t : Transfer). record t { bytes = e.len }) h.next)
 
-destination_stored : (e : Ends) (c : ChannelState) → IsSet e 2 c → IsSet e 3 (channel_write c 16 8 (ram_base + e.target))
+destination_stored : (e : Ends) (c : ChannelState) → IsSet e 2 c → IsSet e 3 (channel_write c 16 8 (ram_base + e.writes_at))
 destination_stored e c h =
-    next_stored e 2 c (record c.regs.next { destination = ram_base + e.target }) c.regs.control.claim h.claimed h (ap (λ (t : Transfer). record t { destination = ram_base + e.target }) h.next)
+    next_stored e 2 c (record c.regs.next { destination = ram_base + e.writes_at }) c.regs.control.claim h.claimed h (ap (λ (t : Transfer). record t { destination = ram_base + e.writes_at }) h.next)
 
-source_stored : (e : Ends) (c : ChannelState) → IsSet e 3 c → IsSet e 4 (channel_write c 24 8 (ram_base + e.source))
-source_stored e c h = next_stored e 3 c (record c.regs.next { source = ram_base + e.source }) c.regs.control.claim h.claimed h (ap (λ (t : Transfer). record t { source = ram_base + e.source }) h.next)
+source_stored : (e : Ends) (c : ChannelState) → IsSet e 3 c → IsSet e 4 (channel_write c 24 8 (ram_base + e.reads_at))
+source_stored e c h = next_stored e 3 c (record c.regs.next { source = ram_base + e.reads_at }) c.regs.control.claim h.claimed h (ap (λ (t : Transfer). record t { source = ram_base + e.reads_at }) h.next)
 
 -- the channel after a store that the plan names
-pub same_store : (c : ChannelState) (chan to : ChanNo) (o n u off width v : ℕ) → Some (IoStore (Reg chan o n u)) ≡ Some (IoStore (Reg to off width v)) → channel_write c o n u ≡ channel_write c off width v
-same_store c chan to o n u off width v is =
+pub same_store : (c : ChannelState) (chan named : ChanNo) (o n u off width v : ℕ) → Some (IoStore (Reg chan o n u)) ≡ Some (IoStore (Reg named off width v)) → channel_write c o n u ≡ channel_write c off width v
+same_store c chan named o n u off width v is =
     let at : o ≡ off = cc in
     let wide : n ≡ width = cc in
     let value : u ≡ v = cc in
     λ i. channel_write c (at i) (wide i) (value i)
 
-pub store : (e : Ends) (c : ChannelState) (k : ℕ) (chan to : ChanNo) (off width v : ℕ) → k < 4 → slice_get (register_stores chan e) k ≡ Some (IoStore (Reg to off width v)) → IsSet e k c
+pub store : (e : Ends) (c : ChannelState) (k : ℕ) (chan named : ChanNo) (off width v : ℕ) → k < 4 → slice_get (register_stores chan e) k ≡ Some (IoStore (Reg named off width v)) → IsSet e k c
     → IsSet e (suc k) (channel_write c off width v)
-store e c zero chan to off width v lt is h = subst (λ (d : ChannelState). IsSet e 1 d) (same_store c chan to 4 4 e.config off width v is) (config_stored e c h)
-store e c (suc zero) chan to off width v lt is h = subst (λ (d : ChannelState). IsSet e 2 d) (same_store c chan to 8 8 e.len off width v is) (bytes_stored e c h)
-store e c (suc (suc zero)) chan to off width v lt is h =
-    subst (λ (d : ChannelState). IsSet e 3 d) (same_store c chan to 16 8 (ram_base + e.target) off width v is) (destination_stored e c h)
-store e c (suc (suc (suc zero))) chan to off width v lt is h =
-    subst (λ (d : ChannelState). IsSet e 4 d) (same_store c chan to 24 8 (ram_base + e.source) off width v is) (source_stored e c h)
-store e c (suc (suc (suc (suc k)))) chan to off width v lt is h = absurd (omega arith)
+store e c zero chan named off width v lt is h = subst (λ (d : ChannelState). IsSet e 1 d) (same_store c chan named 4 4 e.config off width v is) (config_stored e c h)
+store e c (suc zero) chan named off width v lt is h = subst (λ (d : ChannelState). IsSet e 2 d) (same_store c chan named 8 8 e.len off width v is) (bytes_stored e c h)
+store e c (suc (suc zero)) chan named off width v lt is h =
+    subst (λ (d : ChannelState). IsSet e 3 d) (same_store c chan named 16 8 (ram_base + e.writes_at) off width v is) (destination_stored e c h)
+store e c (suc (suc (suc zero))) chan named off width v lt is h =
+    subst (λ (d : ChannelState). IsSet e 4 d) (same_store c chan named 24 8 (ram_base + e.reads_at) off width v is) (source_stored e c h)
+store e c (suc (suc (suc (suc k)))) chan named off width v lt is h = absurd (omega arith)
 
 -- ---- the start
-
-and_off : (b : Bool) → (b && false) ≡ false
-and_off true = refl
-and_off false = refl
 
 -- the flags after a start: it runs, or is done where there are no bytes
 flags : Bool → ControlBits
@@ -74,9 +70,9 @@ flags none = record { claim = true; run = not none; done_ie = false; error_ie = 
 
 flags_started : (c : ControlBits) (none : Bool) → c.claim ≡ true → c.run ≡ false → control_after c none 3 ≡ flags none
 unfolding flags
-flags_started c none claimed idle = rw (idle, claimed, and_off c.done, and_off c.error) refl
+flags_started c none claimed idle = rw (idle, claimed, and-false c.done, and-false c.error) refl
 
-emptied : (b : Bool) (fifo : List ℕ) → fifo ≡ [] → (if b then [] else fifo) ≡ []
+pub emptied : (b : Bool) (fifo : List ℕ) → fifo ≡ [] → (if b then [] else fifo) ≡ []
 emptied true fifo none = refl
 emptied false fifo none = none
 
@@ -106,7 +102,7 @@ start e f c some h =
       left = some;
       within = omega arith;
       fifo = λ i lt. absurd (omega (arith, lt));
-      moved = λ i lt. absurd (omega (arith, lt));
+      copied = record { seen = λ i lt. refl; same = λ i lt. absurd (omega (arith, lt)) };
     })
 
 start_of_none : (e : Ends) (f : List ℕ) (c : ChannelState) → e.len ≡ 0 → IsSet e 4 c → IsMoved e f (channel_write c 0 4 3)
@@ -118,7 +114,7 @@ start_of_none e f c none h =
       done = refl;
       no_error = refl;
       empty = refl;
-      moved = λ i lt. absurd (omega (arith, lt));
+      copied = record { seen = λ i lt. refl; same = λ i lt. absurd (omega (arith, lt, none)) };
     })
 
 pub copies_set_up : CopiesSetUp

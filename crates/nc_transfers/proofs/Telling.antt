@@ -1,6 +1,6 @@
 -- What Control tells of a copy, and its release.
-use Rattle.std.proofs.Common.{◌≡◌, ◌⊎◌, inl, inr, ℕ, Bool, true, false, List, [], refl, sym, ap, ◌∙◌, subst}
-use Rattle.std.specs.Prelude.{◌&&◌, ◌||◌, not, if◌then◌else◌}
+use Rattle.std.proofs.Common.{◌≡◌, inl, inr, ℕ, Bool, true, false, List, refl, ◌∙◌}
+use Rattle.std.specs.Prelude.{◌||◌}
 use Rattle.std.proofs.lemmas.Bool.{both_ways}
 use Rattle.nc_pdma_regs.specs.Control.{bit, number_of}
 use Rattle.nc_pdma_regs.specs.Writes.{control_write}
@@ -8,6 +8,7 @@ use Rattle.nc_pdma_regs.proofs.Bits.{done_is, error_is}
 use Rattle.nc_pdma.specs.Channel.{ChannelState, channel_write}
 use Rattle.nc_transfers.specs.Transfers.{Ends, IsMoving, IsMoved, IsStarted, IsFree}
 use Rattle.nc_transfers.specs.Laws.{CopiesTell}
+use Rattle.nc_transfers.proofs.SettingUp.{emptied}
 
 moving : (e : Ends) (f : List ℕ) (w : ℕ) (c : ChannelState) → IsMoving e f w c → (bit (number_of c.regs.control) 30 ≡ false) × (bit (number_of c.regs.control) 31 ≡ false)
 moving e f w c m = (done_is c.regs.control ∙ m.not_done, error_is c.regs.control ∙ m.no_error)
@@ -24,10 +25,6 @@ over e f c (inl on) is =
     let no = moving e f on.0 c on.1 in
     absurd (both_ways (bit (number_of c.regs.control) 30 || bit (number_of c.regs.control) 31) (neither (bit (number_of c.regs.control) 30) (bit (number_of c.regs.control) 31) no.0 no.1) is)
 over e f c (inr m) is = m
-
-emptied : (b : Bool) (fifo : List ℕ) → fifo ≡ [] → (if b then [] else fifo) ≡ []
-emptied true fifo none = refl
-emptied false fifo none = none
 
 release : (e : Ends) (f : List ℕ) (c : ChannelState) → IsMoved e f c → IsFree (channel_write c 0 4 0)
 unfolding control_write

@@ -1,14 +1,14 @@
 -- The writes of a copy's channel.
-use Rattle.std.proofs.Common.{◌≡◌, ◌⊎◌, inl, inr, ℕ, ◌+◌, ◌-◌, ◌<◌, ◌≤◌, ◌==◌, Bool, true, false, List, [], length, take, drop, Some, refl, sym, ap, ◌∙◌, subst, arith, length-drop}
-use Rattle.std.specs.Prelude.{Option, ◌&&◌, not, if◌then◌else◌}
+use Rattle.std.proofs.Common.{◌≡◌, inl, inr, ℕ, ◌+◌, ◌-◌, ◌<◌, ◌≤◌, ◌==◌, Bool, true, false, List, length, drop, Some, refl, sym, ap, ◌∙◌, subst, arith, length-drop}
+use Rattle.std.specs.Prelude.{Option, if◌then◌else◌}
 use Rattle.std.proofs.lemmas.Bool.{cases_lt}
 use Rattle.std.proofs.lemmas.Bool.Decides.{nat_tests}
 use Rattle.std.proofs.lemmas.List.{get_or-take, get_or-drop, drop_all, length-take-le}
 use Rattle.nc_num.specs.Memory.{byte}
 use Rattle.nc_num.specs.declared.places.Span.{Span}
-use Rattle.nc_pdma_regs.specs.Config.{config_kept, repeat_of}
+use Rattle.nc_pdma_regs.specs.Config.{repeat_of}
 use Rattle.nc_pdma_regs.specs.Registers.{Registers}
-use Rattle.nc_pdma_regs.specs.Moves.{bytes_written, finished, starts_again, written_on}
+use Rattle.nc_pdma_regs.specs.Moves.{bytes_written, finished, written_on}
 use Rattle.nc_pdma.specs.declared.channel.ChanStep.{ChanStep}
 use Rattle.nc_pdma.specs.declared.channel.ChanStep.TheVariants.{Idle, Moved, Error}
 use Rattle.nc_pdma.specs.Bus.{place_of, ram_base}
@@ -17,7 +17,7 @@ use Rattle.nc_pdma.specs.Steps.{may_write, write_at, write_len, write_next, writ
 use Rattle.nc_pdma.specs.Laws.{IsWriteOf}
 use Rattle.nc_pdma.proofs.Transactions.{each_write}
 use Rattle.nc_transfers.specs.Transfers.{Ends, AreEnds, IsMoving, IsMoved}
-use Rattle.nc_transfers.specs.Bytes.{GetsBytes, written_for}
+use Rattle.nc_transfers.specs.Bytes.{GetsBytes}
 use Rattle.nc_transfers.specs.Laws.{IsTargetWrite, CopiesWrite}
 use Rattle.nc_transfers.proofs.ConfigValues.{repeat_of-kept}
 use Rattle.nc_transfers.proofs.ReadSteps.{place_known}
@@ -60,27 +60,27 @@ no_error e f w c size bus len are m is =
 -- ---- flat memory after a write
 
 -- a byte of the source is not written, since the ends are apart
-source_kept : (e : Ends) (f g : List ℕ) (w : ℕ) (size : ℕ) (s : Span) (bytes : List ℕ) (i : ℕ) → AreEnds size e → s.at ≡ e.target + w → w + s.len ≤ e.len → GetsBytes e f g s bytes → i < e.len → byte g (e.from + i) ≡ byte f (e.from + i)
-source_kept e f g w size s bytes i are here fits gets lt = gets.away (e.from + i) (elim are.apart [
+source_kept : (e : Ends) (f g : List ℕ) (w : ℕ) (size : ℕ) (s : Span) (bytes : List ℕ) (i : ℕ) → AreEnds size e → s.at ≡ e.writes_at + w → w + s.len ≤ e.len → GetsBytes e f g s bytes → i < e.len → byte g (e.source + i) ≡ byte f (e.source + i)
+source_kept e f g w size s bytes i are here fits gets lt = gets.away (e.source + i) (elim are.apart [
   | inl before ↦ inl (omega (arith, before, here, lt))
   | inr behind ↦ inr (omega (arith, behind, here, lt, fits))
 ])
 
 -- the first bytes of the destination are the source's
 written_byte : (e : Ends) (f g : List ℕ) (w : ℕ) (c : ChannelState) (size : ℕ) (s : Span) (bytes : List ℕ) (done : Bool) (i : ℕ) → AreEnds size e → IsMoving e f w c → IsWriteOf c size s bytes done → GetsBytes e f g s bytes → i < w + s.len → w + s.len ≤ e.len
-    → byte g (e.to + i) ≡ byte g (e.from + i)
+    → byte g (e.target + i) ≡ byte g (e.source + i)
 written_byte e f g w c size s bytes done i are m r gets lt fits =
-    let here : s.at ≡ e.target + w = omega (arith, r.span.here, m.destination) in
+    let here : s.at ≡ e.writes_at + w = omega (arith, r.span.here, m.destination) in
     let kept = source_kept e f g w size s bytes i are here fits gets (omega (arith, lt, fits)) in
     elim (cases_lt i w) [
-      | inl old ↦ gets.away (e.to + i) (inl (omega (arith, old, here))) ∙ m.moved i old ∙ sym kept
+      | inl old ↦ gets.away (e.target + i) (inl (omega (arith, old, here))) ∙ m.copied.same i old ∙ sym kept
       | inr new ↦
           let k : ℕ = i - w in
-          let place : e.to + (e.target + i - e.target) ≡ e.to + i = omega arith in
-          let first : e.target + i - s.at ≡ k = omega (arith, here, new) in
-          let of_fifo : e.from + (w + k) ≡ e.from + i = omega (arith, new) in
+          let place : e.target + (e.writes_at + i - e.writes_at) ≡ e.target + i = omega arith in
+          let first : e.writes_at + i - s.at ≡ k = omega (arith, here, new) in
+          let of_fifo : e.source + (w + k) ≡ e.source + i = omega (arith, new) in
           sym (ap (byte g) place)
-          ∙ gets.here (e.target + i) (omega (arith, here, new)) (omega (arith, here, lt))
+          ∙ gets.here (e.writes_at + i) (omega (arith, here, new)) (omega (arith, here, lt))
           ∙ ap (byte bytes) first
           ∙ ap (λ (bs : List ℕ). byte bs k) r.bytes_are
           ∙ get_or-take s.len c.fifo k 0 (omega (arith, lt, new))
@@ -100,7 +100,7 @@ moves : (e : Ends) (f g : List ℕ) (w : ℕ) (c : ChannelState) (size : ℕ) (s
 moves e f g w c size s bytes are h m is gets =
     let r = each_write c size s bytes false h is in
     let more = (gives e f w c size s bytes false h m is).more refl in
-    let here : s.at ≡ e.target + w = omega (arith, r.span.here, m.destination) in
+    let here : s.at ≡ e.writes_at + w = omega (arith, r.span.here, m.destination) in
     let regs = more_on c.regs s.len (sym r.done_is) in
     let rest : length (drop s.len c.fifo) ≡ length c.fifo - s.len = length-drop s.len c.fifo in
     subst (λ (t : ChanStep). IsMoving e g (w + s.len) (write_next c t)) (sym is)
@@ -116,10 +116,10 @@ moves e f g w c size s bytes are h m is gets =
       left = more;
       within = omega (arith, rest, m.within, r.in_fifo);
       fifo = λ i lt.
-          let place : e.from + (w + (s.len + i)) ≡ e.from + (w + s.len + i) = omega arith in
+          let place : e.source + (w + (s.len + i)) ≡ e.source + (w + s.len + i) = omega arith in
           let kept = source_kept e f g w size s bytes (w + s.len + i) are here (omega (arith, more)) gets (omega (arith, lt, rest, m.within)) in
           get_or-drop s.len c.fifo i 0 ∙ m.fifo (s.len + i) (omega (arith, lt, rest)) ∙ ap (byte f) place ∙ sym kept;
-      moved = λ i lt. written_byte e f g w c size s bytes false i are m r gets lt (omega (arith, more));
+      copied = record { seen = λ i lt. refl; same = λ i lt. written_byte e f g w c size s bytes false i are m r gets lt (omega (arith, more)) };
     }))
 
 finished_is : (r : Registers) (n : ℕ) → repeat_of r.exec.config ≡ false → finished (bytes_written r n) ≡ record { control = record r.control { run = false; done = true }; next = r.next; exec = (bytes_written r n).exec }
@@ -143,7 +143,7 @@ ends e f g w c size s bytes are h m is gets =
       done = refl;
       no_error = m.no_error;
       empty = drop_all s.len c.fifo (omega (arith, last, m.within));
-      moved = λ i lt. written_byte e f g w c size s bytes true i are m r gets (omega (arith, lt, last)) (omega (arith, last));
+      copied = record { seen = λ i lt. refl; same = λ i lt. written_byte e f g w c size s bytes true i are m r gets (omega (arith, lt, last)) (omega (arith, last)) };
     }))
 
 -- ---- a channel that does not run

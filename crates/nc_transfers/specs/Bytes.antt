@@ -6,10 +6,10 @@ use Rattle.nc_transfers.specs.Transfers.{Ends}
 
 -- the place of the source's buffer for which the channel reads at z, and that of the destination's for which it writes
 abbrev pub read_for : Ends → ℕ → ℕ
-read_for e z = e.from + (z - e.source)
+read_for e z = e.source + (z - e.reads_at)
 
 abbrev pub written_for : Ends → ℕ → ℕ
-written_for e z = e.to + (z - e.target)
+written_for e z = e.target + (z - e.writes_at)
 
 -- memory has flat memory's bytes where the channel reads
 abbrev pub ShowsSource : Ends → List ℕ → List ℕ → Span → Type 0
@@ -22,5 +22,5 @@ pub record GetsBytes (e : Ends) (f g : List ℕ) (s : Span) (bytes : List ℕ) :
 
 -- flat memory is the same at both ends
 pub record SameEnds (e : Ends) (f g : List ℕ) : Type 0 where
-  pub source : (i : ℕ) → i < e.len → byte g (e.from + i) ≡ byte f (e.from + i)
-  pub target : (i : ℕ) → i < e.len → byte g (e.to + i) ≡ byte f (e.to + i)
+  pub source : (i : ℕ) → i < e.len → byte g (e.source + i) ≡ byte f (e.source + i)
+  pub target : (i : ℕ) → i < e.len → byte g (e.target + i) ≡ byte f (e.target + i)

@@ -1,5 +1,5 @@
 -- What each access and each transaction does to the channel of a copy, as statements. This project's own.
-use Rattle.std.specs.Prelude.{◌≡◌, ◌<◌, ◌≤◌, ◌+◌, ◌||◌, ℕ, suc, Bool, true, false, List, length, Option, Some, slice_get, take, drop, map, ◌++◌, ◌∷◌, []}
+use Rattle.std.specs.Prelude.{◌≡◌, ◌<◌, ◌≤◌, ◌+◌, ◌||◌, ℕ, suc, Bool, true, false, List, length, Some, slice_get, take, drop, ◌++◌, ◌∷◌}
 use Rattle.nc_num.specs.declared.names.ChanNo.{ChanNo}
 use Rattle.nc_num.specs.declared.places.Span.{Span}
 use Rattle.nc_plan.specs.declared.ops.HartOp.TheVariants.{IoStore}
@@ -22,7 +22,7 @@ pub record CopiesSetUp : Type 0 where
   -- a claim of a channel that nobody has
   pub claim : (e : Ends) (c : ChannelState) → IsChannel c → c.regs.control.claim ≡ false → IsSet e 0 (record { regs = claimed c.regs; fifo = c.fifo })
   -- the stores to its Next registers, one after another
-  pub store : (e : Ends) (c : ChannelState) (k : ℕ) (chan to : ChanNo) (off width v : ℕ) → k < 4 → slice_get (register_stores chan e) k ≡ Some (IoStore (Reg to off width v)) → IsSet e k c
+  pub store : (e : Ends) (c : ChannelState) (k : ℕ) (chan named : ChanNo) (off width v : ℕ) → k < 4 → slice_get (register_stores chan e) k ≡ Some (IoStore (Reg named off width v)) → IsSet e k c
       → IsSet e (suc k) (channel_write c off width v)
   -- the start; a copy of no bytes is done with it
   pub start : (e : Ends) (f : List ℕ) (c : ChannelState) → 0 < e.len → IsSet e 4 c → IsMoving e f 0 (channel_write c 0 4 3)
@@ -32,9 +32,9 @@ pub record CopiesSetUp : Type 0 where
 
 -- a read takes the source's bytes behind those that were read
 pub record IsSourceRead (e : Ends) (w : ℕ) (c : ChannelState) (s : Span) (done : Bool) : Type 0 where
-  pub here : s.at ≡ e.source + w + length c.fifo
+  pub here : s.at ≡ e.reads_at + w + length c.fifo
   pub some : 0 < s.len
-  pub inside : s.at + s.len ≤ e.source + e.len
+  pub inside : s.at + s.len ≤ e.reads_at + e.len
   pub not_done : done ≡ false
 
 pub record CopiesRead : Type 0 where
@@ -48,9 +48,9 @@ pub record CopiesRead : Type 0 where
 
 -- a write gives the destination the bytes behind those that it has, and tells done where they are the last
 pub record IsTargetWrite (e : Ends) (w : ℕ) (s : Span) (bytes : List ℕ) (done : Bool) : Type 0 where
-  pub here : s.at ≡ e.target + w
+  pub here : s.at ≡ e.writes_at + w
   pub some : 0 < s.len
-  pub inside : s.at + s.len ≤ e.target + e.len
+  pub inside : s.at + s.len ≤ e.writes_at + e.len
   pub long : length bytes ≡ s.len
   pub last : done ≡ true → w + s.len ≡ e.len
   pub more : done ≡ false → w + s.len < e.len
@@ -83,13 +83,26 @@ IsFlatAfter e f g (Error bus len) = Unit {0}
 
 pub record CopiesGoOn : Type 0 where
   -- the stores are those of the plan, and the poll comes before the last of them
-  pub plan : (chan : ChanNo) (src dst : Part) (from to cfg : ℕ)
-      → let e : Ends = record { from = from; to = to; source = src.device.at; target = dst.device.at; len = src.device.len; config = cfg } in
+  pub plan : (chan : ChanNo) (src dst : Part) (source target cfg : ℕ)
+      → let e : Ends = record { source = source; target = target; reads_at = src.device.at; writes_at = dst.device.at; len = src.device.len; config = cfg } in
       transfer chan src dst cfg ≡ ops (take 5 (register_stores chan e)) ++ Poll ∷ ops (drop 5 (register_stores chan e))
-  pub store : (e : Ends) (f : List ℕ) (c : ChannelState) (d : ℕ) (chan to : ChanNo) (off width v : ℕ) → 0 < e.len → slice_get (register_stores chan e) d ≡ Some (IoStore (Reg to off width v)) → (d ≡ 5 → IsMoved e f c) → IsCopying e f d c
+  pub store : (e : Ends) (f : List ℕ) (c : ChannelState) (d : ℕ) (chan named : ChanNo) (off width v : ℕ) → 0 < e.len → slice_get (register_stores chan e) d ≡ Some (IoStore (Reg named off width v)) → (d ≡ 5 → IsMoved e f c) → IsCopying e f d c
       → IsCopying e f (suc d) (channel_write c off width v)
-  pub read : (e : Ends) (f : List ℕ) (c : ChannelState) (d : ℕ) (ram : List ℕ) → AreEnds (length ram) e → IsChannel c → ((s : Span) (bytes : List ℕ) (done : Bool) → read_told c ram ≡ Moved s bytes done → ShowsSource e f ram s) → IsCopying e f d c
+  pub read : (e : Ends) (f : List ℕ) (c : ChannelState) (d : ℕ) (ram : List ℕ) → d < 6 → AreEnds (length ram) e → IsChannel c → ((s : Span) (bytes : List ℕ) (done : Bool) → read_told c ram ≡ Moved s bytes done → ShowsSource e f ram s) → IsCopying e f d c
       → IsCopying e f d (read_next c (read_told c ram))
-  pub write : (e : Ends) (f g : List ℕ) (c : ChannelState) (d size : ℕ) → AreEnds size e → IsChannel c → IsFlatAfter e f g (write_told c size) → IsCopying e f d c → IsCopying e g d (write_next c (write_told c size))
+  pub write : (e : Ends) (f g : List ℕ) (c : ChannelState) (d size : ℕ) → d < 6 → AreEnds size e → IsChannel c → IsFlatAfter e f g (write_told c size) → IsCopying e f d c → IsCopying e g d (write_next c (write_told c size))
   -- a change of flat memory elsewhere leaves each stage
   pub stays : (e : Ends) (f g : List ℕ) (c : ChannelState) (d : ℕ) → SameEnds e f g → IsCopying e f d c → IsCopying e g d c
+
+-- until its release the channel is claimed, and does nothing beside the copy
+pub record CopiesStayWithin : Type 0 where
+  pub claimed : (e : Ends) (f : List ℕ) (c : ChannelState) (d : ℕ) → d < 6 → IsCopying e f d c → c.regs.control.claim ≡ true
+  -- it runs after the start alone
+  pub idle : (e : Ends) (f : List ℕ) (c : ChannelState) (d : ℕ) → d < 5 → IsCopying e f d c → c.regs.control.run ≡ false
+  -- what it reads and writes is of the ends, and in RAM
+  pub reads : (e : Ends) (f : List ℕ) (c : ChannelState) (d : ℕ) (ram : List ℕ) (s : Span) (bytes : List ℕ) (done : Bool) → d < 6 → IsChannel c → IsCopying e f d c → read_told c ram ≡ Moved s bytes done
+      → (e.reads_at ≤ s.at) × (s.at + s.len ≤ e.reads_at + e.len)
+  pub writes : (e : Ends) (f : List ℕ) (c : ChannelState) (d size : ℕ) (s : Span) (bytes : List ℕ) (done : Bool) → d < 6 → IsChannel c → IsCopying e f d c → write_told c size ≡ Moved s bytes done
+      → (e.writes_at ≤ s.at) × (s.at + s.len ≤ e.writes_at + e.len)
+  pub reads_no_error : (e : Ends) (f : List ℕ) (c : ChannelState) (d : ℕ) (ram : List ℕ) (bus len : ℕ) → d < 6 → AreEnds (length ram) e → IsCopying e f d c → read_told c ram ≡ Error bus len → ⊥
+  pub writes_no_error : (e : Ends) (f : List ℕ) (c : ChannelState) (d size bus len : ℕ) → d < 6 → AreEnds size e → IsCopying e f d c → write_told c size ≡ Error bus len → ⊥

@@ -1,6 +1,6 @@
 //! The laws of a copy's channel, over the definitions alone.
 
-ghost use Rattle.nc_transfers.specs.Laws.{CopiesGoOn, CopiesRead, CopiesSetUp, CopiesTell, CopiesWrite};
+ghost use Rattle.nc_transfers.specs.Laws.{CopiesGoOn, CopiesRead, CopiesSetUp, CopiesStayWithin, CopiesTell, CopiesWrite};
 
 /// A claim, and the stores of the plan one after another, set the channel's Next registers. The start moves them to Exec,
 /// and the channel runs with nothing written yet; a copy of no bytes is done at once.
@@ -31,8 +31,15 @@ pub fn copies_tell()
 {}
 
 /// At whatever stage a copy is, a store of its plan takes it to the next; a read, a write, and a change of flat memory
-/// beside its two ends leave it where it is.
+/// beside its two ends leave it where it is. From the release on its destination has its source's bytes.
 #[tactic(auto, using(crate::proofs::Stages::copies_go_on))]
 pub fn copies_go_on()
     ensures { CopiesGoOn }
+{}
+
+/// Until its release the channel is claimed, and runs after the start alone; it reads the source alone, writes the
+/// destination alone, and meets no error.
+#[tactic(auto, using(crate::proofs::Ends::copies_stay_within))]
+pub fn copies_stay_within()
+    ensures { CopiesStayWithin }
 {}

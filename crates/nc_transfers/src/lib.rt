@@ -8,4 +8,6 @@
 
 mod laws;
 
-pub use laws::{copies_go_on, copies_read, copies_set_up, copies_tell, copies_write};
+pub use laws::{
+    copies_go_on, copies_read, copies_set_up, copies_stay_within, copies_tell, copies_write,
+};
