@@ -5,3 +5,4 @@ pub mod WriteSteps
 pub mod Telling
 pub mod Stages
 pub mod Ends
+mod Examples
