@@ -11,12 +11,15 @@ use nc_refusals::{
     refusals_leave_all, starts_are_of_plans, words_are_given_back,
 };
 use nc_replay::{lines_law, replay_text_law};
+use nc_sched::replay_law;
 use nc_scripts::{
     drivers_stay, every_driver_begins, every_driver_stays, first_drivers, last_loads_follow,
     new_lots_are_free,
 };
-use nc_sched::replay_law;
 use nc_slot_laws::{noslot_law, slots_law};
+use nc_transfers::{
+    copies_go_on, copies_read, copies_set_up, copies_stay_within, copies_tell, copies_write,
+};
 
 #[test]
 fn laws_are_called() {
@@ -55,4 +58,10 @@ fn laws_are_called() {
     starts_are_of_plans();
     slots_law();
     noslot_law();
+    copies_set_up();
+    copies_read();
+    copies_write();
+    copies_tell();
+    copies_go_on();
+    copies_stay_within();
 }

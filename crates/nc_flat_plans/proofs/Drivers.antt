@@ -126,7 +126,7 @@ pub record IsDone (d : DriverState) (s : Step) (left : List Step) (went : Went) 
   pub drives : Drives went.driver
 
 -- each lot stays a mapping
-turn_mapping : (f : Fixed) (t : Turn) (lots : List Lot) → All (IsMapping f) lots → All (IsMapping f) (lots_after t lots)
+turn_mapping : (f : Fixed) (t : Turn) (lots : List Lot) → All IsMapping lots → All IsMapping (lots_after t lots)
 turn_mapping f turns.Stay lots all = all
 turn_mapping f (turns.Pass range to) lots all = all
 turn_mapping f (turns.Own range) lots all = all
@@ -135,9 +135,9 @@ turn_mapping f (turns.Give id) lots all = sides_mapping f _ id lots all
 turn_mapping f (turns.Return id) lots all = sides_mapping f _ id lots all
 turn_mapping f (turns.Sync id) lots all = sides_mapping f _ id lots all
 turn_mapping f (turns.Settle id) lots all = sides_mapping f _ id lots all
-turn_mapping f (turns.End id) lots all = left_all (IsMapping f) (λ lot. not (is_lot id lot)) lots all
+turn_mapping f (turns.End id) lots all = left_all IsMapping (λ lot. not (is_lot id lot)) lots all
 
-went_drives : (d : DriverState) (o : Op) (lots : List Lot) (saw : Seen) (rest : List Step) → in_hand d ≡ Some o → is_lending o ≡ true → All (IsMapping d.fixed) lots → PlanGoes d.fixed lots rest → (d.fixed.light ≡ true → EndsOne rest) → Drives (went_to d lots saw rest)
+went_drives : (d : DriverState) (o : Op) (lots : List Lot) (saw : Seen) (rest : List Step) → in_hand d ≡ Some o → is_lending o ≡ true → All IsMapping lots → PlanGoes d.fixed lots rest → (d.fixed.light ≡ true → EndsOne rest) → Drives (went_to d lots saw rest)
 went_drives d o lots saw [] hand is all left one = record { lots = all; stands = left; idle = refl }
 went_drives d o lots saw (s ∷ rest) hand is all left one = let now = went_to d lots saw (s ∷ rest) in record {
   lots = all;
@@ -157,7 +157,7 @@ went_rest : (d : DriverState) (lots : List Lot) (saw : Seen) (rest : List Step) 
 went_rest d lots saw [] = refl
 went_rest d lots saw (s ∷ rest) = refl
 
-worked_so : (d : DriverState) (o : Op) (saw : Seen) (s : Step) (rest : List Step) → in_hand d ≡ Some o → is_lending o ≡ true → All (IsMapping d.fixed) d.lots → s.first ≡ turns.Stay → PlanGoes d.fixed (lots_after s.last d.lots) rest
+worked_so : (d : DriverState) (o : Op) (saw : Seen) (s : Step) (rest : List Step) → in_hand d ≡ Some o → is_lending o ≡ true → All IsMapping d.lots → s.first ≡ turns.Stay → PlanGoes d.fixed (lots_after s.last d.lots) rest
     → (d.fixed.light ≡ true → EndsOne rest) → IsDone d s rest (worked d o saw (s ∷ rest))
 unfolding turned_by
 worked_so d o saw s rest hand is all first left one =

@@ -45,7 +45,7 @@ pub record GoesHanding (d : DriverState) (w : Went) (buf : ℕ) (to : HartNo) (l
 
 pub hands_drives : (d e : DriverState) (buf : ℕ) (to : HartNo) (left : List Step) → Drives d → All (IsStill d.fixed) d.lots → Hands d e buf to left → (left ≡ hand_steps buf to) ⊎ (left ≡ mail_step buf to ∷ []) → Drives e
 hands_drives d e buf to left is still hands which = record {
-  lots = rw (hands.fixed, hands.lots) is.lots;
+  lots = rw hands.lots is.lots;
   stands = subst (λ (p : Phase). StandsAt e p) (sym hands.phase)
       (subst (λ (o : Option Op). PlanOf e o) (sym hands.hand)
       (record { left = elim which [ inl all ↦ inl (hands.rest ∙ all) | inr one ↦ inr (hands.rest ∙ one) ]; still = rw (hands.fixed, hands.lots) still }));

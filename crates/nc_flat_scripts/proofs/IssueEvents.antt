@@ -16,7 +16,7 @@ use Rattle.nc_rules.specs.Driver.{DriverState, in_hand, next_of, next_of_op, nex
 use Rattle.nc_rules.specs.Events.{may_go_on}
 use Rattle.nc_rules.specs.Operations.{step_at, has_start}
 use Rattle.nc_rules.specs.World.{WorldState, driver_of}
-use Rattle.nc_flatness.specs.Covered.{is_covered_op, may_lend, is_lending}
+use Rattle.nc_flatness.specs.Covered.{is_covered_op, is_lending}
 use Rattle.nc_flatness.specs.Flatness.{IsHanding, PlanIs, PlanOf, StandsAt}
 use Rattle.nc_flatness.specs.Steps.{Goes, StepsAreFlat}
 use Rattle.nc_flatness.proofs.Outcomes.{goes_go}
@@ -37,31 +37,31 @@ pub record IsHand (o : Op) : Type 0 where
   pub op : o ≡ ops.Hand buf to
 
 -- of those that are covered and neither lend nor take back a hand alone has a start step
-by_number : (lends : Bool) (o : Op) → is_lending o ≡ false → is_covered_op lends o ≡ true → (has_start o ≡ false) ⊎ IsHand o
-by_number lends (ops.Hand buf to) stays covered = inr (record { buf = buf; to = to; op = refl })
-by_number lends (ops.Ld spot off len) stays covered = inl refl
-by_number lends (ops.St spot off bytes) stays covered = inl refl
-by_number lends (ops.Cbo op buf off) stays covered = inl refl
-by_number lends (ops.Fence pred succ) stays covered = inl refl
-by_number lends (ops.Take buf) stays covered = inl refl
-by_number lends (ops.Claim chan) stays covered = inl refl
-by_number lends (ops.Free chan) stays covered = inl refl
-by_number lends (ops.Regs chan src dst len cfg) stays covered = inl refl
-by_number lends (ops.Run chan) stays covered = inl refl
-by_number lends (ops.Poll chan) stays covered = inl refl
-by_number lends (ops.Regr chan off width) stays covered = inl refl
-by_number lends (ops.Regw chan off width value) stays covered = inl refl
-by_number lends (ops.Map label buf off len dir chan) stays covered = absurd cc
-by_number lends (ops.Unmap label) stays covered = absurd cc
-by_number lends (ops.ToCpu label) stays covered = absurd cc
-by_number lends (ops.ToDev label) stays covered = absurd cc
-by_number lends (ops.MapSg label entries dir chan) stays covered = absurd cc
-by_number lends (ops.UnmapSg label count) stays covered = absurd cc
-by_number lends (ops.Calloc label pages chan) stays covered = absurd cc
-by_number lends (ops.Cgive label) stays covered = absurd cc
-by_number lends (ops.Ctake label) stays covered = absurd cc
-by_number lends (ops.Cfree label) stays covered = absurd cc
-by_number lends (ops.Copy chan src src_off dst dst_off len cfg) stays covered = absurd cc
+by_number : (o : Op) → is_lending o ≡ false → is_covered_op o ≡ true → (has_start o ≡ false) ⊎ IsHand o
+by_number (ops.Hand buf to) stays covered = inr (record { buf = buf; to = to; op = refl })
+by_number (ops.Ld spot off len) stays covered = inl refl
+by_number (ops.St spot off bytes) stays covered = inl refl
+by_number (ops.Cbo op buf off) stays covered = inl refl
+by_number (ops.Fence pred succ) stays covered = inl refl
+by_number (ops.Take buf) stays covered = inl refl
+by_number (ops.Claim chan) stays covered = inl refl
+by_number (ops.Free chan) stays covered = inl refl
+by_number (ops.Regs chan src dst len cfg) stays covered = inl refl
+by_number (ops.Run chan) stays covered = inl refl
+by_number (ops.Poll chan) stays covered = inl refl
+by_number (ops.Regr chan off width) stays covered = inl refl
+by_number (ops.Regw chan off width value) stays covered = inl refl
+by_number (ops.Map label buf off len dir chan) stays covered = absurd cc
+by_number (ops.Unmap label) stays covered = absurd cc
+by_number (ops.ToCpu label) stays covered = absurd cc
+by_number (ops.ToDev label) stays covered = absurd cc
+by_number (ops.MapSg label entries dir chan) stays covered = absurd cc
+by_number (ops.UnmapSg label count) stays covered = absurd cc
+by_number (ops.Calloc label pages chan) stays covered = absurd cc
+by_number (ops.Cgive label) stays covered = absurd cc
+by_number (ops.Ctake label) stays covered = absurd cc
+by_number (ops.Cfree label) stays covered = absurd cc
+by_number (ops.Copy chan src src_off dst dst_off len cfg) stays covered = absurd cc
 
 -- its plan is a hand's
 pub record IsAtHand (d : DriverState) (o : Op) : Type 0 where
@@ -151,4 +151,4 @@ pub steps_go : StepsAreFlat
 steps_go sc f w h o now hand lends =
     let here = here_by sc f w h now in
     let d = driver_of w h.0 in
-    phase_goes sc f w h o d.phase here hand lends (by_number (may_lend sc) o lends (covered_op sc w h.0 o now.covered now.flat.world here.lt hand)) refl (now.flat.bytes.drives h.0 here.lt).stands
+    phase_goes sc f w h o d.phase here hand lends (by_number o lends (covered_op sc w h.0 o now.covered now.flat.world here.lt hand)) refl (now.flat.bytes.drives h.0 here.lt).stands

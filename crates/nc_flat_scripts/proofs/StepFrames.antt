@@ -62,7 +62,7 @@ book_same w v same =
 
 pub idle_drives : (d e : DriverState) → Drives d → All (IsStill d.fixed) d.lots → Idles d e → Drives e
 idle_drives d e is still idle = record {
-  lots = rw (idle.fixed, idle.lots) is.lots;
+  lots = rw idle.lots is.lots;
   stands = subst (λ (p : Phase). StandsAt e p) (sym idle.phase) (rw (idle.fixed, idle.lots) still);
   idle = subst (λ (p : Phase). RestAt p e.rest) (sym idle.phase) idle.rest;
 }

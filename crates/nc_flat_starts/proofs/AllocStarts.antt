@@ -167,7 +167,7 @@ added_before sc f w h o lot a =
       names = new.knows.names;
       apart = added_apart sc f w h o lot a;
       theirs = λ other i e x off here on. every.mine.owners other i e x (record { lot_in = old other here.lot_in off; entry = here.entry }) on;
-      mappings = All-append (IsMapping fx) d.lots (lot ∷ []) (s.flat.bytes.drives h.0 s.lt).lots (All-cons (IsMapping fx) lot [] (record { kind = ap is_mapping a.kind }) (All-nil (IsMapping fx)));
+      mappings = All-append IsMapping d.lots (lot ∷ []) (s.flat.bytes.drives h.0 s.lt).lots (All-cons IsMapping lot [] (record { kind = ap is_mapping a.kind }) (All-nil IsMapping));
       here = in_right lot d.lots (lot ∷ []) (inl refl);
       loans = λ k far. ap (option_map (loan_by fx k)) (more_wanted k d.lots (lot ∷ []) (added_new sc f w h o lot a).wanted);
       kept = λ other there lent. in_left other d.lots (lot ∷ []) there;

@@ -55,7 +55,7 @@ pub record IsBase (sc : Scenario) (f : List ℕ) (w : WorldState) (h : HartNo) (
   pub lt : h.0 < length sc.harts
   pub slots : List (Option HartNo)
   pub each : EveryoneIn w h.0 (with_these w h.0 lots slots)
-  pub mappings : All (IsMapping (driver_of w h.0).fixed) lots
+  pub mappings : All IsMapping lots
   pub here : In lot lots
   pub placed : lot_waits lot ≡ false
   -- mappings of other labels are as they are
@@ -80,9 +80,9 @@ name_is : (a b : LotId) → a.label.0 ≡ b.label.0 → a.first ≡ b.first → 
 name_is a b label first i = record { label = record { 0 = label i }; first = first i }
 
 -- lots of a hart that are mappings: those of one label are one
-pub label_one : (ram : ℕ) (f : Fixed) (lots : List Lot) (a b : Lot) → All (IsLotIn ram f) lots → All (IsMapping f) lots → AreApart lots → In a lots → In b lots → a.id.label.0 ≡ b.id.label.0 → a ≡ b
+pub label_one : (ram : ℕ) (f : Fixed) (lots : List Lot) (a b : Lot) → All (IsLotIn ram f) lots → All IsMapping lots → AreApart lots → In a lots → In b lots → a.id.label.0 ≡ b.id.label.0 → a ≡ b
 label_one ram f lots a b all mappings apart here there same =
-    let first : (l : Lot) → In l lots → l.id.first ≡ 0 = λ l k. mapping_first f.pool l.kind l.id l.list.entries (all_at (IsMapping f) lots l mappings k).kind (all_at (IsLotIn ram f) lots l all k).kind in
+    let first : (l : Lot) → In l lots → l.id.first ≡ 0 = λ l k. mapping_first f.pool l.kind l.id l.list.entries (all_at IsMapping lots l mappings k).kind (all_at (IsLotIn ram f) lots l all k).kind in
     same_lot lots a b apart here there (name_is a.id b.id same (first a here ∙ sym (first b there)))
 
 -- ---- the base

@@ -56,7 +56,7 @@ pub record IsBefore (sc : Scenario) (f : List ℕ) (w : WorldState) (h : HartNo)
   pub names : AreApart lots
   pub apart : EntriesAreApart lots
   pub theirs : OthersOwn (driver_of w h.0).fixed.me w.owners lot.id lots
-  pub mappings : All (IsMapping (driver_of w h.0).fixed) lots
+  pub mappings : All IsMapping lots
   pub here : In lot lots
   pub loans : (k : MapId) → (k.label.0 ≡ lot.id.label.0 → ⊥) → loan_in (driver_of w h.0).fixed lots k ≡ loan_of (driver_of w h.0) k
   pub kept : AreKept w h lots
@@ -85,8 +85,8 @@ base_before sc f w h lots lot b = record {
 pub driven : (sc : Scenario) (f : List ℕ) (w : WorldState) (h : HartNo) → Flatness sc f w → h.0 < length sc.harts → h.0 < length w.drivers
 driven sc f w h flat lt = omega (arith, lt, flat.world.of_scenario.harts, flat.world.holds.drivers)
 
-pub its_mapping : (sc : Scenario) (f : List ℕ) (w : WorldState) (h : HartNo) (lots : List Lot) (lot : Lot) → IsBefore sc f w h lots lot → IsMapping (driver_of w h.0).fixed lot
-its_mapping sc f w h lots lot b = all_at (IsMapping (driver_of w h.0).fixed) lots lot b.mappings b.here
+pub its_mapping : (sc : Scenario) (f : List ℕ) (w : WorldState) (h : HartNo) (lots : List Lot) (lot : Lot) → IsBefore sc f w h lots lot → IsMapping lot
+its_mapping sc f w h lots lot b = all_at IsMapping lots lot b.mappings b.here
 
 pub its_first : (sc : Scenario) (f : List ℕ) (w : WorldState) (h : HartNo) (lots : List Lot) (lot : Lot) → IsBefore sc f w h lots lot → lot.id.first ≡ 0
 its_first sc f w h lots lot b =

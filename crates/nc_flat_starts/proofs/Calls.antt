@@ -61,7 +61,7 @@ pub record IsCall (sc : Scenario) (f : List ℕ) (w : WorldState) (h : HartNo) (
   pub lt : h.0 < length sc.harts
   pub slots : List (Option HartNo)
   pub each : EveryoneIn w h.0 (with_these w h.0 lots slots)
-  pub mappings : All (IsMapping (driver_of w h.0).fixed) lots
+  pub mappings : All IsMapping lots
   pub loans : (k : MapId) → loan_in (driver_of w h.0).fixed lots k ≡ loan_of (driver_of w h.0) k
   pub kept : AreKept w h lots
   pub lent : WereLent w h lots
@@ -114,7 +114,7 @@ gives_bytes sc f w h o r flat lt idle still =
       fixed = refl;
       loans = λ k. ap (option_map (loan_by fx k)) (kept_loans k d.lots);
       drives = record {
-        lots = left_all (IsMapping fx) (λ lot. not (is_wanted lot.side)) d.lots (flat.bytes.drives h.0 lt).lots;
+        lots = left_all IsMapping (λ lot. not (is_wanted lot.side)) d.lots (flat.bytes.drives h.0 lt).lots;
         stands = all_filtered (IsStillOrWanted fx) (IsStill fx) (λ (lot : Lot). not (is_wanted lot.side)) d.lots still (still_lent fx);
         idle = refl;
       };

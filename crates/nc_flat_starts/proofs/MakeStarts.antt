@@ -77,12 +77,12 @@ list_kinds f lots new os pages label es dir chan e =
 -- of which kind they are
 pub record NewKinds (o : Op) (new : List Lot) : Type 0 where
   pub made : All (λ lot. makes_kind o lot.kind ≡ true) new
-  pub mapping : (f : Fixed) → All (IsMapping f) new
+  pub mapping : (f : Fixed) → All IsMapping new
 
 kinds_so : (o : Op) (new : List Lot) (kind : Kind) → All (λ lot. lot.kind ≡ kind) new → makes_kind o kind ≡ true → (kind ≡ kinds.Single) ⊎ (kind ≡ kinds.List) → NewKinds o new
 kinds_so o new kind all makes one = record {
   made = all_to (λ (lot : Lot). lot.kind ≡ kind) (λ (lot : Lot). makes_kind o lot.kind ≡ true) new all (λ lot is. ap (makes_kind o) is ∙ makes);
-  mapping = λ f. all_to (λ (lot : Lot). lot.kind ≡ kind) (IsMapping f) new all
+  mapping = λ f. all_to (λ (lot : Lot). lot.kind ≡ kind) IsMapping new all
       (λ lot is. record { kind = elim one [ inl single ↦ ap is_mapping (is ∙ single) | inr list ↦ ap is_mapping (is ∙ list) ] });
 }
 
@@ -124,7 +124,7 @@ made_call sc f w h o new s makes e =
         lt = s.lt;
         slots = w.slots;
         each = change_stays owner_laws ram harts h.0 fx _ _ (held_of w h.0) (Made new) (everyone_from w h.0 s.flat.world.holds (short sc f w h s.flat s.lt)) ((record { may = may; op = o; each = n }, plain.1), may, plain.0);
-        mappings = All-append (IsMapping fx) d.lots new (s.flat.bytes.drives h.0 s.lt).lots (its.mapping fx);
+        mappings = All-append IsMapping d.lots new (s.flat.bytes.drives h.0 s.lt).lots (its.mapping fx);
         loans = λ k. ap (option_map (loan_by fx k)) (more_wanted k d.lots new n.wanted);
         kept = λ other there lent. in_left other d.lots new there;
         lent = new_lent w h new n.wanted;

@@ -148,7 +148,7 @@ end_bytes sc f w h went lots lot t =
     λ k far. ap (λ (j : DriverState). loan_of j k) t.driver ∙ ap (option_map (loan_by fx k)) (other_without lot.id k lots far) ∙ b.loans k far in
     let others : (x : ℕ) (k : MapId) → x < sc.ram → IsOff lot x → mapping_in (owner_of w x) ≡ Some k → StaysAside w h went (owner_of w x) k =
     λ x k there beside is own_hart. (stays k (far_mapping sc f w h lots lot x k p there beside is own_hart), inr (λ l known. rest_none k l.lot d.rest went.driver.rest b.idle (ap (λ (j : DriverState). j.rest) t.driver))) in
-    let its = without_all (IsMapping fx) lot.id lots (all_to (IsMapping fx) (λ other. is_lot lot.id other ≡ false → IsMapping fx other) lots b.mappings (λ other is far. is)) in
+    let its = without_all IsMapping lot.id lots (all_to IsMapping (λ other. is_lot lot.id other ≡ false → IsMapping other) lots b.mappings (λ other is far. is)) in
     let unpooled : (i : ℕ) (e : Entry) (x : ℕ) → IsPlace lot i e x → covers (pool_of sc) x ≡ true → ⊥ = λ i e x place over. both_ways (covers (pool_of sc) x) (base_beside sc f w h lots lot i e x b t.plain place.entry place.on).0 over in
     turn_bytes sc f f w h m went lot (λ n. Thread n.hart) b.flat lt (rewrites_none sc f w h lot) (goes_still sc f w h b.flat.bytes) (record {
       on = λ i e x there place. on i e x there place;

@@ -248,7 +248,7 @@ got_call sc f w h k o s free =
       lt = c.lt;
       slots = slice_set w.slots k (Some fx.me);
       each = change_stays owner_laws ram harts h.0 fx _ _ (held_of w h.0) (Got k) (everyone_from w h.0 c.flat.world.holds (short sc f w h c.flat c.lt)) ((s.unlent, s.few), (record { waits = s.waits; unlent = s.unlent; free = free }, s.few), tt);
-      mappings = given_all (IsMapping fx) k d.lots c.mappings (λ lot is. record { kind = is.kind });
+      mappings = given_all IsMapping k d.lots c.mappings (λ lot is. record { kind = is.kind });
       loans = λ n. ap (option_map (loan_by fx n)) (slot_loans k n d.lots s.unlent);
       kept = λ other there lent. given_kept k d.lots other s.unlent there lent;
       lent = λ other there lends. given_lent k d.lots other s.unlent there lends;

@@ -41,8 +41,8 @@ all_sided P Q side id (lot ∷ lots) all hit miss =
     one false is p = subst Q (sym (cond-false (is_lot id lot) (record lot { side = side }) lot is)) (miss lot p is)
 
 -- each lot stays a mapping
-pub sides_mapping : (f : Fixed) (side : Side) (id : LotId) (lots : List Lot) → All (IsMapping f) lots → All (IsMapping f) (set_side side id lots)
-sides_mapping f side id lots all = all_sided (IsMapping f) (IsMapping f) side id lots all (λ lot is hit. record { kind = is.kind }) (λ lot is miss. is)
+pub sides_mapping : (f : Fixed) (side : Side) (id : LotId) (lots : List Lot) → All IsMapping lots → All IsMapping (set_side side id lots)
+sides_mapping f side id lots all = all_sided IsMapping IsMapping side id lots all (λ lot is hit. record { kind = is.kind }) (λ lot is miss. is)
 
 -- ---- the channel has it
 

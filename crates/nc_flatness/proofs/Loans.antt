@@ -50,11 +50,11 @@ lot_in sc f w h lot flat here =
     let lt = hart_of_lot w h lot flat.world.holds here in
     all_at (IsLotIn (length w.machine.cache.ram) (driver_of w h).fixed) (driver_of w h).lots lot (flat.world.holds.each h lt).driver.lots here
 
-pub lot_of : (sc : Scenario) (f : List ℕ) (w : WorldState) (h : ℕ) (lot : Lot) → Flatness sc f w → In lot (driver_of w h).lots → IsMapping (driver_of w h).fixed lot
+pub lot_of : (sc : Scenario) (f : List ℕ) (w : WorldState) (h : ℕ) (lot : Lot) → Flatness sc f w → In lot (driver_of w h).lots → IsMapping lot
 lot_of sc f w h lot flat here =
     let lt = hart_of_lot w h lot flat.world.holds here in
     let drives = flat.bytes.drives h (subst (λ k. h < k) flat.world.of_scenario.harts lt) in
-    all_at (IsMapping (driver_of w h).fixed) (driver_of w h).lots lot drives.lots here
+    all_at IsMapping (driver_of w h).lots lot drives.lots here
 
 -- a mapping has a script's name
 mapping_named : (pool : Span) (k : Kind) (id : LotId) (es : List Entry) → is_mapping k ≡ true → FitsKind pool k id es → IsNamed id

@@ -26,7 +26,7 @@ use Rattle.nc_holds.specs.Holds.{Holds}
 use Rattle.nc_holds.proofs.ListsA.{all_at, at_get}
 use Rattle.nc_holds.proofs.OwnerLots.{below}
 use Rattle.nc_rows.specs.Rows.{Loan}
-use Rattle.nc_flatness.specs.Covered.{may_lend, is_covered_op, IsCovered, IsCoveredScript}
+use Rattle.nc_flatness.specs.Covered.{is_covered_op, IsCovered, IsCoveredScript}
 use Rattle.nc_flatness.specs.Books.{book_of, mapping_in, LiesIn}
 use Rattle.nc_flatness.specs.Flatness.{IsWorldOf, Flatness}
 use Rattle.nc_flatness.proofs.Loans.{IsLoan, hart_of_lot, lot_in, loan_is}
@@ -102,16 +102,16 @@ owned_ram sc f w x n flat e = elim (cases_lt x sc.ram) [
 
 -- ---- the script of a hart
 
-covered_by : (lends : Bool) (script : List Op) (k : ℕ) (o : Op) → All (λ o. is_covered_op lends o ≡ true) script → slice_get script k ≡ Some o → is_covered_op lends o ≡ true
-covered_by lends script k o all e = all_at (λ (o : Op). is_covered_op lends o ≡ true) script o all (at_get script k o e)
+covered_by : (script : List Op) (k : ℕ) (o : Op) → All (λ o. is_covered_op o ≡ true) script → slice_get script k ≡ Some o → is_covered_op o ≡ true
+covered_by script k o all e = all_at (λ (o : Op). is_covered_op o ≡ true) script o all (at_get script k o e)
 
-script_by : (lends : Bool) (specs : List HartSpec) (h : ℕ) → All (IsCoveredScript lends) specs → h < length specs → IsCoveredScript lends (slice_index_or specs h no_hart_spec)
-script_by lends [] h all lt = absurd (omega (arith, lt))
-script_by lends (s ∷ specs) zero all lt = All-head (IsCoveredScript lends) s specs all
-script_by lends (s ∷ specs) (suc h) all lt = script_by lends specs h (All-tail (IsCoveredScript lends) s specs all) (omega (arith, lt))
+script_by : (specs : List HartSpec) (h : ℕ) → All IsCoveredScript specs → h < length specs → IsCoveredScript (slice_index_or specs h no_hart_spec)
+script_by [] h all lt = absurd (omega (arith, lt))
+script_by (s ∷ specs) zero all lt = All-head IsCoveredScript s specs all
+script_by (s ∷ specs) (suc h) all lt = script_by specs h (All-tail IsCoveredScript s specs all) (omega (arith, lt))
 
 -- the operation in hand is covered
-pub covered_op : (sc : Scenario) (w : WorldState) (h : ℕ) (o : Op) → IsCovered sc → IsWorldOf sc w → h < length sc.harts → in_hand (driver_of w h) ≡ Some o → is_covered_op (may_lend sc) o ≡ true
+pub covered_op : (sc : Scenario) (w : WorldState) (h : ℕ) (o : Op) → IsCovered sc → IsWorldOf sc w → h < length sc.harts → in_hand (driver_of w h) ≡ Some o → is_covered_op o ≡ true
 covered_op sc w h o c world lt e =
-    covered_by (may_lend sc) (hart_spec sc h).script (driver_of w h).op o (script_by (may_lend sc) sc.harts h c.scripts lt)
+    covered_by (hart_spec sc h).script (driver_of w h).op o (script_by sc.harts h c.scripts lt)
     (ap (λ (f : Fixed). slice_get f.script (driver_of w h).op) (sym (world.fixed h lt)) ∙ e)

@@ -109,7 +109,7 @@ row_by a sc (Synced k) x plain = absurd plain
 
 drives_first : (sc : Scenario) (h : ℕ) → Drives (first_driver sc (hart h))
 unfolding first_driver
-drives_first sc h = record { lots = All-nil (IsMapping _); stands = All-nil (IsStill _); idle = refl }
+drives_first sc h = record { lots = All-nil IsMapping; stands = All-nil (IsStill _); idle = refl }
 
 drives_start : (sc : Scenario) (h : ℕ) → h < length sc.harts → Drives (driver_of (start sc) h)
 drives_start sc h lt = subst (λ (d : DriverState). Drives d) (sym (driver_start sc h lt)) (drives_first sc h)

@@ -68,7 +68,7 @@ is_mapping kinds.List = true
 is_mapping kinds.Area = true
 is_mapping kinds.Copy = false
 
-pub record IsMapping (f : Fixed) (lot : Lot) : Type 0 where
+pub record IsMapping (lot : Lot) : Type 0 where
   pub kind : is_mapping lot.kind ≡ true
 
 -- it is still, or waits for its slots
@@ -140,7 +140,7 @@ StandsAt d (Search k) = All (IsStillOrMade d.fixed (in_hand d)) d.lots
 StandsAt d Work = PlanOf d (in_hand d)
 
 pub record Drives (d : DriverState) : Type 0 where
-  pub lots : All (IsMapping d.fixed) d.lots
+  pub lots : All IsMapping d.lots
   pub stands : StandsAt d d.phase
   pub idle : RestAt d.phase d.rest
 

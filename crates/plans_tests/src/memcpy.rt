@@ -1,13 +1,9 @@
-//! What no clause says: a copy between a bounced source and a direct destination, worked by hand; and that the laws of a
-//! copy's channel are ones that a call meets.
+//! What no clause says: a copy between a bounced source and a direct destination, worked by hand.
 
 use nc_env::CboOp;
 use nc_memcpy::{CopyStep, copy_plan, transfer_plan};
 use nc_num::{Block, ChanNo, Dir, MemType, Span};
 use nc_plan::{Effects, HartOp, IoTarget, Part, Payload};
-use nc_transfers::{
-    copies_go_on, copies_read, copies_set_up, copies_stay_within, copies_tell, copies_write,
-};
 
 fn cbo(op: CboOp, block: u32) -> CopyStep {
     CopyStep::Op(HartOp::Cbo {
@@ -101,14 +97,4 @@ fn from_a_slot_to_whole_blocks(rt: HostRuntime) {
         return;
     };
     assert!(rt; rest.get(6..13) == Some(transfer.as_slice()));
-}
-
-#[test]
-fn laws_are_called() {
-    copies_set_up();
-    copies_read();
-    copies_write();
-    copies_tell();
-    copies_go_on();
-    copies_stay_within();
 }
