@@ -1,12 +1,15 @@
 //! The pool of slots that all drivers share, and each driver's seat of it.
 
-ghost use Rattle.std.specs.Prelude.{◌≡◌, ◌<◌, [], true, IfOk, IfSome};
+ghost use Rattle.std.specs.Prelude.{◌≡◌, ℕ, ◌<◌, ◌+◌, ◌&&◌, [], true, length, IfOk};
 ghost use Rattle.nc_pool.specs.Views.{has, is_distinct, without};
 ghost use Rattle.nc_pool.specs.Answers.{found_of};
-ghost use Rattle.nc_live.specs.Logs.{EndsWith};
+ghost use Rattle.nc_turns.specs.Threads.{EndsWith};
+ghost use Rattle.nc_live.specs.Names.{is_held_by};
 
 use nc_num::{HartNo, NoMemory};
 use nc_pool::{NewSeat, Pool, PoolRoot, PoolSeat, PoolTry};
+use nc_turns::SceneName;
+use nc_world::World;
 use std::alloc::Global;
 use std::marker::{Brand, PhantomData};
 
@@ -23,32 +26,37 @@ impl PoolName for Brand {
     ghost pool = { no_pool };
 }
 
-/// The pool that P names, with its number of slots.
+/// The pool that P names, which has as many slots as the scenario that N names.
 #[derive(Drop)]
-pub struct Crew<P: PoolName> {
+pub struct Crew<N: SceneName, P: PoolName> {
     pool: Pool,
     slots: u32,
+    scene: PhantomData<N>,
     of: PhantomData<P>,
     ghost named: { pool.id ≡ P.pool },
     ghost size: { pool.slots ≡ slots },
+    ghost scenario: { slots ≡ N.scene.slots },
+    ghost seats: { pool.seats ≡ length N.scene.harts },
 }
 
-/// A driver with its seat of the pool, and the slots that the seat holds.
+/// The driver of a hart with its seat of the pool, and the slots that the seat holds.
 #[derive(Drop)]
-pub struct Worker<P: PoolName> {
+pub struct Worker<N: SceneName, P: PoolName> {
     me: HartNo,
     seat: PoolSeat,
     mine: Vec<u32>,
+    scene: PhantomData<N>,
     of: PhantomData<P>,
+    ghost hart: { me.0 < length N.scene.harts },
     ghost named: { seat.pool ≡ P.pool },
     ghost same: { seat.held ≡ mine.items },
     ghost distinct: { is_distinct mine.items ≡ true },
 }
 
-impl<P: PoolName> Worker<P> {
+impl<N: SceneName, P: PoolName> Worker<N, P> {
     /// Tries a slot once, and keeps it where it was free.
-    pub fn try_slot(&mut self, crew: &Crew<P>, k: u32) -> Result<PoolTry, NoMemory>
-        requires { k < crew.now.slots }
+    pub fn try_slot(&mut self, crew: &Crew<N, P>, k: u32) -> Result<PoolTry, NoMemory>
+        requires { k < N.scene.slots }
         ensures log { IfOk result (λ a. EndsWith self.new.seat.log (k, found_of a)) }
         ensures hart { self.new.me ≡ self.old.me }
     {
@@ -63,15 +71,49 @@ impl<P: PoolName> Worker<P> {
         }
     }
 
+    /// The hart whose driver it is.
+    pub fn me(&self) -> HartNo
+        ensures { result ≡ self.now.me }
+    {
+        self.me
+    }
+
+    /// Its seat of the pool.
+    pub fn seat(&self) -> &PoolSeat
+        ensures { result.now ≡ self.now.seat }
+    {
+        &self.seat
+    }
+
     /// Tells whether the seat holds a slot.
-    pub fn holds(&self, k: u32) -> bool
+    fn holds(&self, k: u32) -> bool
         ensures { result ≡ has k self.now.mine.items }
     {
         self.mine.iter().any(|x| *x == k)
     }
 
+    /// Gives back each slot that the core does not have as the hart's: its operation gave the core's word back, or its search
+    /// was told of a word that the core had as another hart's.
+    pub fn release(&mut self, crew: &Crew<N, P>, world: &World)
+        ensures slots { (k : ℕ) → k < N.scene.slots → has k self.new.mine.items ≡ (has k self.old.mine.items && is_held_by world.now.at.slots k self.old.me) }
+        ensures hart { self.new.me ≡ self.old.me }
+    {
+        for k in 0..crew.slots {
+            if self.holds(k) && !self.is_mine(world, k) {
+                self.give(crew, k);
+            }
+        }
+    }
+
+    /// Tells whether the core has slot word k as the hart's.
+    fn is_mine(&self, world: &World, k: u32) -> bool
+        ensures { result ≡ is_held_by world.now.at.slots k self.now.me }
+    {
+        world.holder(k) == Some(self.me)
+    }
+
     /// Gives a slot back.
-    pub fn give(&mut self, crew: &Crew<P>, k: u32)
+    fn give(&mut self, crew: &Crew<N, P>, k: u32)
         requires { has k self.old.mine.items ≡ true }
         ensures slots { self.new.mine.items ≡ without k self.old.mine.items }
         ensures hart { self.new.me ≡ self.old.me }
@@ -82,7 +124,7 @@ impl<P: PoolName> Worker<P> {
     }
 
     /// Gives all slots back.
-    pub fn give_all(&mut self, crew: &Crew<P>)
+    fn give_all(&mut self, crew: &Crew<N, P>)
         ensures slots { self.new.mine.items ≡ [] }
         ensures hart { self.new.me ≡ self.old.me }
     {
@@ -93,46 +135,64 @@ impl<P: PoolName> Worker<P> {
     }
 }
 
-impl<P: PoolName> Crew<P> {
+impl<N: SceneName, P: PoolName> Crew<N, P> {
     /// Shares a pool of so many slots.
-    pub fn new(pool: Pool, slots: u32) -> Crew<P>
+    pub fn new(pool: Pool, slots: u32) -> Crew<N, P>
         requires named { pool.id ≡ P.pool }
         requires size { pool.slots ≡ slots }
-        ensures { result.slots ≡ slots }
+        requires scenario { slots ≡ N.scene.slots }
+        requires seats { pool.seats ≡ length N.scene.harts }
     {
         Crew {
             pool,
             slots,
+            scene: PhantomData,
             of: PhantomData,
         }
     }
 
-    /// How many slots there are.
-    pub fn slots(&self) -> u32
-        ensures { result ≡ self.now.slots }
-    {
-        self.slots
-    }
-
-    /// Makes the seat of a driver, where one is left.
-    pub fn recruit(&self, alloc: Global, root: &mut PoolRoot, me: HartNo) -> Option<Worker<P>>
-        requires { root.old.pool ≡ P.pool }
+    /// Makes the seat of a hart's driver.
+    fn recruit(&self, alloc: Global, root: &mut PoolRoot, me: HartNo) -> Worker<N, P>
+        requires hart { me.0 < length N.scene.harts }
+        requires root { root.old.pool ≡ P.pool }
+        requires next { root.old.next ≡ me.0 }
         ensures root { root.new.pool ≡ P.pool }
-        ensures hart { IfSome result (λ w. w.me ≡ me) }
+        ensures next { root.new.next ≡ me.0 + 1 }
+        ensures hart { result.me ≡ me }
     {
         match self.pool.seat(root) {
-            NewSeat::Seat(seat) => Some(Worker {
+            NewSeat::Seat(seat) => Worker {
                 me,
                 seat,
                 mine: Vec::new(alloc),
+                scene: PhantomData,
                 of: PhantomData,
-            }),
-            NewSeat::NoneLeft => None,
+            },
+            NewSeat::NoneLeft => unreachable!(),
         }
     }
 
+    /// Makes the seats of all drivers, in the order of their harts.
+    pub fn recruit_all(
+        &self,
+        alloc: Global,
+        root: &mut PoolRoot,
+        harts: u8,
+    ) -> Result<Vec<Worker<N, P>>, NoMemory>
+        requires harts { harts ≡ length N.scene.harts }
+        requires root { root.old.pool ≡ P.pool }
+        requires next { root.old.next ≡ 0 }
+        ensures { root.new.pool ≡ P.pool }
+    {
+        let mut workers = Vec::new(alloc);
+        for h in 0..harts {
+            workers.push(self.recruit(alloc, root, HartNo(h)))?;
+        }
+        Ok(workers)
+    }
+
     /// Gives back what a driver's seat holds, and ends the seat.
-    pub fn dismiss(&self, root: &mut PoolRoot, worker: Worker<P>)
+    pub fn dismiss(&self, root: &mut PoolRoot, worker: Worker<N, P>)
         requires { root.old.pool ≡ P.pool }
         ensures { root.new.pool ≡ P.pool }
     {
@@ -142,6 +202,7 @@ impl<P: PoolName> Crew<P> {
             me: _,
             seat,
             mine: _,
+            scene: _,
             of: _,
         } = worker;
         self.pool.join(root, seat);

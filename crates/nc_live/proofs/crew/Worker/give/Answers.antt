@@ -10,6 +10,7 @@ invariant_of-self g c =
     let k = c.args.k in
     let items : c.retain.new.self.items ≡ without k old.mine.items = filter_same _ _ _ (λ x b f' h. search rules) _ _ c.retain.ensures.filtered ∙ sym (without_is_filter k old.mine.items) in
     record {
+      hart = old.hart;
       named = ap (λ s. s.pool) c.give.ensures ∙ old.named;
       same = ap (λ s. s.held) c.give.ensures ∙ (ap (without k) old.same ∙ sym items);
       distinct = ap is_distinct items ∙ distinct-without k old.mine.items old.distinct;
