@@ -9,4 +9,4 @@ mod laws;
 mod sched;
 
 pub use laws::replay_law;
-pub use sched::{Phase, Sched};
+pub use sched::{Phase, STREAM, Sched, channel_event, seed_of};

@@ -1,12 +1,12 @@
 //! The events of a schedule, one after another.
 
-ghost use Rattle.std.specs.Prelude.{◌≡◌, ◌<◌, ◌≤◌, ◌+◌, ◌*◌, ◌/◌, [], ◌∷◌, length, MatchOption, IfSome, Some, None};
+ghost use Rattle.std.specs.Prelude.{◌≡◌, ◌<◌, ◌≤◌, ◌+◌, ◌*◌, ◌/◌, [], ◌∷◌, length, MatchOption, IfSome, Some, None, false};
 ghost use Rattle.nc_scen.specs.Accepted.{IsAccepted};
 ghost use Rattle.nc_scen.specs.Events.{IsThere};
 ghost use Rattle.nc_rules.specs.World.{start};
 ghost use Rattle.nc_rules.specs.Events.{enabled};
 ghost use Rattle.nc_rules.specs.Next.{next};
-ghost use Rattle.nc_rules.specs.Schedule.{turn_of, event_of, channel_event, round_event, round_len, size_of, drawn, after_words, sched};
+ghost use Rattle.nc_rules.specs.Schedule.{turn_of, event_of, channel_event, round_event, round_len, size_of, begun, drawn, after_words, sched};
 ghost use Rattle.nc_sched.specs.Stands.{listed, first_phase, seed_of, first_stand, to_come, heard, is_done, settled, given, next_phase, next_generator};
 
 use nc_num::{Block, ChanNo, HartNo};
@@ -17,7 +17,7 @@ use rand_pcg::Lcg64Xsh32;
 use std::marker::Model;
 
 /// The stream of the generator that draws a seeded schedule.
-const STREAM: u64 = 54;
+pub const STREAM: u64 = 54;
 
 /// Where a schedule stands.
 #[derive(Clone, Copy, Debug, PartialEq, Eq)]
@@ -79,7 +79,7 @@ fn first_phase(plan: &Plan) -> Phase
 }
 
 /// The seed of a plan, 0 where its events are listed.
-fn seed_of(plan: &Plan) -> u64
+pub fn seed_of(plan: &Plan) -> u64
     ensures { result ≡ seed_of plan.now }
 {
     match plan {
@@ -129,7 +129,7 @@ fn event_of(w: &World, harts: u32, blocks: u32, a: u32, b: u32) -> Event
 }
 
 /// The event of a channel in a round, of which the first is a read of channel 0.
-fn channel_event(j: usize) -> Event
+pub fn channel_event(j: usize) -> Event
     requires { j < 8 }
     ensures { result ≡ channel_event j }
 {
@@ -207,6 +207,17 @@ impl Sched {
             left: sc.limit,
             phase: first_phase(&sc.plan),
             generator: Lcg64Xsh32::new(seed_of(&sc.plan), STREAM),
+        }
+    }
+
+    /// At the start of finishing rounds, in which so many events may still be tried.
+    pub fn rounds(left: u64) -> Sched
+        ensures { result ≡ record { left = left; phase = Phase.Round 0 false; generator = begun 0 } }
+    {
+        Sched {
+            left,
+            phase: ROUND_START,
+            generator: Lcg64Xsh32::new(0, STREAM),
         }
     }
 

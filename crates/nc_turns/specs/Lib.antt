@@ -1,0 +1,5 @@
+pub mod Named
+pub mod Threads
+pub mod Draws
+pub mod States
+pub mod Played
