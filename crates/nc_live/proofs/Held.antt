@@ -52,3 +52,8 @@ sifted_keep k f ys xs s kept = record {
 
 pub sifted_none : (f : ℕ → Bool) (ys : List ℕ) → Sifted 0 f ys ys
 sifted_none f ys = record { done = λ j below. absurd (omega arith); rest = λ j from. refl }
+
+pub left_fails : (a b : Bool) → (a && not b) ≡ true → b ≡ false
+left_fails true true e = absurd (cc)
+left_fails true false e = refl
+left_fails false b e = absurd (cc)

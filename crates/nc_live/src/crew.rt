@@ -1,6 +1,6 @@
 //! The pool of slots that all drivers share, and each driver's seat of it.
 
-ghost use Rattle.std.specs.Prelude.{◌≡◌, ℕ, ◌<◌, ◌+◌, ◌&&◌, [], true, length, IfOk};
+ghost use Rattle.std.specs.Prelude.{◌≡◌, ℕ, ◌<◌, ◌+◌, ◌&&◌, not, [], true, length, IfOk};
 ghost use Rattle.nc_pool.specs.Views.{has, is_distinct, without};
 ghost use Rattle.nc_pool.specs.Answers.{found_of};
 ghost use Rattle.nc_turns.specs.Threads.{EndsWith};
@@ -99,17 +99,27 @@ impl<N: SceneName, P: PoolName> Worker<N, P> {
         ensures hart { self.new.me ≡ self.old.me }
     {
         for k in 0..crew.slots {
-            if self.holds(k) && !self.is_mine(world, k) {
+            if self.is_left(world, k) {
                 self.give(crew, k);
             }
         }
+    }
+
+    /// Tells whether the seat holds a slot that the core does not have as the hart's.
+    fn is_left(&self, world: &World, k: u32) -> bool
+        ensures { result ≡ (has k self.now.mine.items && not (is_held_by world.now.at.slots k self.now.me)) }
+    {
+        self.holds(k) && !self.is_mine(world, k)
     }
 
     /// Tells whether the core has slot word k as the hart's.
     fn is_mine(&self, world: &World, k: u32) -> bool
         ensures { result ≡ is_held_by world.now.at.slots k self.now.me }
     {
-        world.holder(k) == Some(self.me)
+        match world.holder(k) {
+            Some(g) => g.0 == self.me.0,
+            None => false,
+        }
     }
 
     /// Gives a slot back.

@@ -15,7 +15,6 @@ loop-k-preserved g c =
     let whole : c.loop-k.mine.items ≡ rest ++ k ∷ [] = c.in-Some.ensures.items in
     let parts = distinct-front k rest (ap is_distinct (sym whole) ∙ c.loop-k.invariant.distinct) in
     record {
-      hart = HART;
       named = ap (λ s. s.pool) c.give.ensures ∙ c.loop-k.invariant.named;
       same = ap (λ s. s.held) c.give.ensures ∙ (ap (without k) (c.loop-k.invariant.same ∙ whole) ∙ without-push k rest parts.1);
       distinct = parts.0;
