@@ -3,7 +3,7 @@
 ghost use Rattle.std.specs.Prelude.{◌≡◌, ◌<◌, ◌+◌, ◌&&◌, ◌≢◌, not, length, IfOk, IfSome, OnOk, Some, None, true};
 ghost use Rattle.nc_pool.specs.Answers.{found_of};
 ghost use Rattle.nc_turns.specs.Threads.{made_by, most, search_of, world_of, EndsWith, IsThread};
-ghost use Rattle.nc_live.specs.Turns.{aim_of, goes_on};
+ghost use Rattle.nc_live.specs.Turns.{aim_of, goes_on, SlotFits};
 
 use crate::crew::{Crew, PoolName, Worker};
 use nc_num::{HartNo, NoMemory};
