@@ -1,6 +1,6 @@
 //! What the caller does once the threads have ended: the turns that they left.
 
-ghost use Rattle.std.specs.Prelude.{◌≡◌, ◌+◌, ◌<◌, ◌≤◌, length, IfSome, OnOk, vec_len};
+ghost use Rattle.std.specs.Prelude.{◌≡◌, ◌+◌, ◌<◌, ◌≤◌, length, get_or, IfSome, OnOk};
 ghost use Rattle.nc_turns.specs.Threads.{made_by, most, AreThrough, IsThread};
 
 use crate::crew::{Crew, PoolName, Worker};
@@ -34,9 +34,38 @@ fn make_event<N: SceneName, P: PoolName>(
 
 /// Finds the worker of a hart's driver.
 fn place_of<N: SceneName, P: PoolName>(workers: &[Worker<N, P>], h: HartNo) -> Option<usize>
-    ensures { IfSome result (λ i. i < length workers.now) }
+    ensures place { IfSome result (λ i. i < length workers.now) }
+    ensures hart { IfSome result (λ i. (w : _) → (get_or workers.now i w).me ≡ h) }
 {
-    workers.iter().position(|w| w.me() == h)
+    workers.iter().position(|w| w.me().0 == h.0)
+}
+
+/// Makes the next event of a thread that has made fewer than its most.
+fn further_turn<N: SceneName, P: PoolName>(
+    state: &mut LiveState<N>,
+    crew: &Crew<N, P>,
+    workers: &mut Vec<Worker<N, P>>,
+    t: Turner,
+) -> Result<(), NoMemory>
+    requires thread { IsThread N.scene t }
+    requires room { made_by t state.old < most N.scene }
+    ensures one { OnOk result (length state.new ≡ length state.old + 1) }
+    ensures few { OnOk result (length state.new ≤ N.scene.limit) }
+{
+    match t {
+        Turner::Driver(h) => {
+            let Some(i) = place_of(workers, h) else {
+                return Err(NoMemory);
+            };
+            make_event(state, crew, &mut workers[i])?;
+        }
+        Turner::Channels | Turner::Caches => {
+            state.turn(t)?;
+        }
+    }
+    let events = state.history().len();
+    prove!(0 < events);
+    Ok(())
 }
 
 /// Makes the turns that the threads left, until the run is at its end or each thread has made its most.
@@ -47,21 +76,11 @@ pub fn make_up<N: SceneName, P: PoolName>(
 ) -> Result<(), NoMemory>
     ensures { OnOk result (AreThrough N.scene state.new) }
 {
-    while !state.ended() {
+    'making: while !state.ended() {
         let Some(t) = state.behind() else {
             return Ok(());
         };
-        match t {
-            Turner::Driver(h) => {
-                let Some(i) = place_of(workers, h) else {
-                    return Err(NoMemory);
-                };
-                make_event(state, crew, &mut workers[i])?;
-            }
-            Turner::Channels | Turner::Caches => {
-                state.turn(t)?;
-            }
-        }
+        further_turn(state, crew, workers, t)?;
     }
     Ok(())
 }
