@@ -1,6 +1,6 @@
 //! The pool of slots that all drivers share, and each driver's seat of it.
 
-ghost use Rattle.std.specs.Prelude.{◌≡◌, ℕ, ◌<◌, ◌+◌, ◌&&◌, not, [], true, length, IfOk};
+ghost use Rattle.std.specs.Prelude.{◌≡◌, ℕ, ◌<◌, ◌+◌, ◌&&◌, not, [], true, length, get_or, vec_len, IfOk};
 ghost use Rattle.nc_pool.specs.Views.{has, is_distinct, without};
 ghost use Rattle.nc_pool.specs.Answers.{found_of};
 ghost use Rattle.nc_turns.specs.Threads.{EndsWith};
@@ -51,6 +51,24 @@ pub struct Worker<N: SceneName, P: PoolName> {
     ghost named: { seat.pool ≡ P.pool },
     ghost same: { seat.held ≡ mine.items },
     ghost distinct: { is_distinct mine.items ≡ true },
+}
+
+/// The drivers of all harts, in the order of the harts.
+#[derive(Drop)]
+pub struct Team<N: SceneName, P: PoolName> {
+    pub workers: Vec<Worker<N, P>>,
+    ghost all: { vec_len workers ≡ length N.scene.harts },
+    ghost seated: { (k : ℕ) (w : _) → k < length N.scene.harts → (get_or workers.items k w).me.0 ≡ k },
+}
+
+impl<N: SceneName, P: PoolName> Team<N, P> {
+    /// These drivers.
+    pub fn new(workers: Vec<Worker<N, P>>) -> Team<N, P>
+        requires all { vec_len workers ≡ length N.scene.harts }
+        requires seated { (k : ℕ) (w : _) → k < length N.scene.harts → (get_or workers.items k w).me.0 ≡ k }
+    {
+        Team { workers }
+    }
 }
 
 impl<N: SceneName, P: PoolName> Worker<N, P> {
@@ -188,7 +206,7 @@ impl<N: SceneName, P: PoolName> Crew<N, P> {
         alloc: Global,
         root: &mut PoolRoot,
         harts: u8,
-    ) -> Result<Vec<Worker<N, P>>, NoMemory>
+    ) -> Result<Team<N, P>, NoMemory>
         requires harts { harts ≡ length N.scene.harts }
         requires root { root.old.pool ≡ P.pool }
         requires next { root.old.next ≡ 0 }
@@ -198,7 +216,7 @@ impl<N: SceneName, P: PoolName> Crew<N, P> {
         for h in 0..harts {
             workers.push(self.recruit(alloc, root, HartNo(h)))?;
         }
-        Ok(workers)
+        Ok(Team::new(workers))
     }
 
     /// Gives back what a driver's seat holds, and ends the seat.

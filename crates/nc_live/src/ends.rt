@@ -1,11 +1,11 @@
 //! What the caller does once the threads have ended: the turns that they left.
 
-ghost use Rattle.std.specs.Prelude.{◌≡◌, ◌+◌, ◌<◌, ◌≤◌, length, get_or, IfSome, OnOk};
+ghost use Rattle.std.specs.Prelude.{◌≡◌, ◌+◌, ◌<◌, ◌≤◌, length, OnOk};
 ghost use Rattle.nc_turns.specs.Threads.{made_by, most, AreThrough, IsThread};
 
-use crate::crew::{Crew, PoolName, Worker};
+use crate::crew::{Crew, PoolName, Team, Worker};
 use crate::turns::aim;
-use nc_num::{HartNo, NoMemory};
+use nc_num::NoMemory;
 use nc_turns::{LiveState, SceneName, Turner};
 
 /// Makes the next event of a driver. A slot is tried by its seat.
@@ -32,19 +32,11 @@ fn make_event<N: SceneName, P: PoolName>(
     Ok(())
 }
 
-/// Finds the worker of a hart's driver.
-fn place_of<N: SceneName, P: PoolName>(workers: &[Worker<N, P>], h: HartNo) -> Option<usize>
-    ensures place { IfSome result (λ i. i < length workers.now) }
-    ensures hart { IfSome result (λ i. (w : _) → (get_or workers.now i w).me ≡ h) }
-{
-    workers.iter().position(|w| w.me().0 == h.0)
-}
-
 /// Makes the next event of a thread that has made fewer than its most.
 fn further_turn<N: SceneName, P: PoolName>(
     state: &mut LiveState<N>,
     crew: &Crew<N, P>,
-    workers: &mut Vec<Worker<N, P>>,
+    team: &mut Team<N, P>,
     t: Turner,
 ) -> Result<(), NoMemory>
     requires thread { IsThread N.scene t }
@@ -54,10 +46,7 @@ fn further_turn<N: SceneName, P: PoolName>(
 {
     match t {
         Turner::Driver(h) => {
-            let Some(i) = place_of(workers, h) else {
-                return Err(NoMemory);
-            };
-            make_event(state, crew, &mut workers[i])?;
+            make_event(state, crew, &mut team.workers[usize::from(h.0)])?;
         }
         Turner::Channels | Turner::Caches => {
             state.turn(t)?;
@@ -72,7 +61,7 @@ fn further_turn<N: SceneName, P: PoolName>(
 pub fn make_up<N: SceneName, P: PoolName>(
     state: &mut LiveState<N>,
     crew: &Crew<N, P>,
-    workers: &mut Vec<Worker<N, P>>,
+    team: &mut Team<N, P>,
 ) -> Result<(), NoMemory>
     ensures { OnOk result (AreThrough N.scene state.new) }
 {
@@ -80,7 +69,7 @@ pub fn make_up<N: SceneName, P: PoolName>(
         let Some(t) = state.behind() else {
             return Ok(());
         };
-        further_turn(state, crew, workers, t)?;
+        further_turn(state, crew, team, t)?;
     }
     Ok(())
 }

@@ -9,7 +9,7 @@ ghost use Rattle.nc_turns.specs.Played.{IsLiveRun};
 ghost use Rattle.nc_turns.specs.Threads.{AreThrough};
 ghost use Rattle.nc_live.specs.Due.{WroteLive, GrewByLive};
 
-use crate::crew::{Crew, PoolName, Worker};
+use crate::crew::{Crew, PoolName, Team};
 use crate::ends::make_up;
 use crate::gate::Gate;
 use crate::threads::drive_all;
@@ -50,11 +50,12 @@ fn with_pool<
     let mut root = root;
     let crew: Crew<N, P> = Crew::new(pool, slots);
     let most = state.most();
-    let workers = crew.recruit_all(alloc, &mut root, state.harts())?;
+    let team = crew.recruit_all(alloc, &mut root, state.harts())?;
     let live = Mutex::new(state);
-    let mut workers = drive_all(rt, alloc, &live, &crew, gate, workers, most)?;
+    let mut team = drive_all(rt, alloc, &live, &crew, gate, team, most)?;
     let mut state = live.into_inner();
-    make_up(&mut state, &crew, &mut workers)?;
+    make_up(&mut state, &crew, &mut team)?;
+    let Team { workers } = team;
     for worker in workers {
         crew.dismiss(&mut root, worker);
     }

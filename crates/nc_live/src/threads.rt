@@ -1,18 +1,18 @@
 //! The threads: one for each driver, one for the channels, one for the caches.
 
-ghost use Rattle.std.specs.Prelude.{◌≡◌, length, IfOk};
+ghost use Rattle.std.specs.Prelude.{◌≡◌, ℕ, ◌+◌, ◌<◌, length, get_or, vec_len, IfOk};
 ghost use Rattle.nc_turns.specs.Threads.{most, IsThread};
 ghost use Rattle.nc_live.specs.Turns.{SlotFits};
 
-use crate::crew::{Crew, PoolName, Worker};
+use crate::crew::{Crew, PoolName, Team, Worker};
 use crate::gate::Gate;
 use crate::turns::{Ahead, goes_on, step_turn, tell_turn};
-use nc_num::NoMemory;
+use nc_num::{HartNo, NoMemory};
 use nc_turns::{LiveState, SceneName, Turner};
 use std::alloc::Global;
 use std::sync::{Mutex, Wait};
 use std::thread;
-use std::thread::Threads;
+use std::thread::{Promise, PromisedHandle, Threads};
 
 /// Makes a turn of a driver's thread. A slot is tried before the lock is taken.
 fn driver_turn<N: SceneName, P: PoolName, R: Wait>(
@@ -82,6 +82,31 @@ fn go_round<N: SceneName, R: Wait>(rt: &R, live: &Mutex<LiveState<N>>, caches: b
     }
 }
 
+/// Promises that the worker that a thread hands back is that of this hart.
+#[derive(Clone, Copy)]
+struct DriverOf(HartNo);
+
+impl<N: SceneName, P: PoolName> Promise<Worker<N, P>> for DriverOf {
+    ghost kept_by = { λ p w. w.me ≡ p.0 };
+}
+
+/// Joins the threads of the first harts, and puts the workers of the others, which no thread could be made for, behind.
+fn gather<N: SceneName, P: PoolName, R: Threads>(
+    rt: &R,
+    handles: Vec<PromisedHandle<Worker<N, P>, DriverOf>>,
+    here: Vec<Worker<N, P>>,
+) -> Result<Team<N, P>, NoMemory>
+    requires all { vec_len handles + vec_len here ≡ length N.scene.harts }
+    requires started { (k : ℕ) (h : _) → k < vec_len handles → (get_or handles.items k h).promise.0.0 ≡ k }
+    requires made { (k : ℕ) (w : _) → k < vec_len here → (get_or here.items k w).me.0 ≡ vec_len handles + k }
+{
+    let mut workers = thread::join_promised(rt, handles)?;
+    for worker in here {
+        workers.push(worker)?;
+    }
+    Ok(Team::new(workers))
+}
+
 /// Makes the turns of all threads, each in a thread of its own where one can be made, and hands the workers back.
 pub fn drive_all<
     'x,
@@ -95,29 +120,35 @@ pub fn drive_all<
     live: &'x Mutex<LiveState<N>>,
     crew: &'x Crew<N, P>,
     gate: &'x G,
-    workers: Vec<Worker<N, P>>,
+    team: Team<N, P>,
     most: u64,
-) -> Result<Vec<Worker<N, P>>, NoMemory> {
+) -> Result<Team<N, P>, NoMemory> {
     thread::scope(thread::scope_env(), rt, |scope| {
+        let Team { workers } = team;
         let mut handles = Vec::new(alloc);
-        let mut all = Vec::new(alloc);
+        let mut here = Vec::new(alloc);
         for worker in workers {
-            match scope.spawn(move || drive(rt, live, crew, gate, worker, most)) {
+            let me = worker.me();
+            if !here.is_empty() {
+                here.push(drive(rt, live, crew, gate, worker, most))?;
+                continue;
+            }
+            match scope.spawn_with(DriverOf(me), move || {
+                drive(rt, live, crew, gate, worker, most)
+            }) {
                 Ok(handle) => handles.push(handle)?,
-                Err(refused) => all.push((refused.value)())?,
+                Err(refused) => here.push((refused.value)())?,
             }
         }
         let channels = scope.spawn(move || go_round(rt, live, false, most));
         let caches = scope.spawn(move || go_round(rt, live, true, most));
-        for handle in handles {
-            all.push(handle.join(rt))?;
-        }
+        let team = gather(rt, handles, here)?;
         if let Ok(handle) = channels {
             handle.join(rt);
         }
         if let Ok(handle) = caches {
             handle.join(rt);
         }
-        Ok(all)
+        Ok(team)
     })
 }
