@@ -10,13 +10,16 @@ use std::test::Fail;
 use std::thread::Threads;
 
 /// Two harts store into one block, each into a buffer of its own. The schedule stands behind it.
-const FALSE_SHARING: &str = "{\"version\":1,\"ram\":65536,\"harts\":[{\"mode\":\"S\",\"menvcfg\":4611686018427388144,\"senvcfg\":240,\"script\":[[\"st\",\"b0\",0,\"aa\"]]},{\"mode\":\"S\",\"menvcfg\":4611686018427388144,\"senvcfg\":240,\"script\":[[\"st\",\"b1\",0,\"bb\"]]}],\"buffers\":[{\"at\":0,\"len\":1,\"fill\":0,\"step\":0,\"owner\":0},{\"at\":1,\"len\":1,\"fill\":0,\"step\":0,\"owner\":1}],\"slots\":{\"at\":32768,\"count\":1},\"pool\":{\"at\":49152,\"pages\":2}";
+const FALSE_SHARING: &str =
+    "{\"version\":1,\"ram\":65536,\"harts\":[{\"mode\":\"S\",\"menvcfg\":4611686018427388144,\"senvcfg\":240,\"script\":[[\"st\",\"b0\",0,\"aa\"]]},{\"mode\":\"S\",\"menvcfg\":4611686018427388144,\"senvcfg\":240,\"script\":[[\"st\",\"b1\",0,\"bb\"]]}],\"buffers\":[{\"at\":0,\"len\":1,\"fill\":0,\"step\":0,\"owner\":0},{\"at\":1,\"len\":1,\"fill\":0,\"step\":0,\"owner\":1}],\"slots\":{\"at\":32768,\"count\":1},\"pool\":{\"at\":49152,\"pages\":2}";
 
 /// Two harts map a bounced range each, over two slots. The schedule stands behind it.
-const TWO_SLOTS: &str = "{\"version\":1,\"ram\":65536,\"harts\":[{\"mode\":\"S\",\"menvcfg\":4611686018427388144,\"senvcfg\":240,\"script\":[[\"map\",1,0,0,8,2,0]]},{\"mode\":\"S\",\"menvcfg\":4611686018427388144,\"senvcfg\":240,\"script\":[[\"map\",1,1,0,8,2,1]]}],\"buffers\":[{\"at\":4097,\"len\":8,\"fill\":0,\"step\":0,\"owner\":0},{\"at\":4361,\"len\":8,\"fill\":0,\"step\":0,\"owner\":1}],\"slots\":{\"at\":32768,\"count\":2},\"pool\":{\"at\":49152,\"pages\":2}";
+const TWO_SLOTS: &str =
+    "{\"version\":1,\"ram\":65536,\"harts\":[{\"mode\":\"S\",\"menvcfg\":4611686018427388144,\"senvcfg\":240,\"script\":[[\"map\",1,0,0,8,2,0]]},{\"mode\":\"S\",\"menvcfg\":4611686018427388144,\"senvcfg\":240,\"script\":[[\"map\",1,1,0,8,2,1]]}],\"buffers\":[{\"at\":4097,\"len\":8,\"fill\":0,\"step\":0,\"owner\":0},{\"at\":4361,\"len\":8,\"fill\":0,\"step\":0,\"owner\":1}],\"slots\":{\"at\":32768,\"count\":2},\"pool\":{\"at\":49152,\"pages\":2}";
 
 /// The same over one slot.
-const ONE_SLOT: &str = "{\"version\":1,\"ram\":65536,\"harts\":[{\"mode\":\"S\",\"menvcfg\":4611686018427388144,\"senvcfg\":240,\"script\":[[\"map\",1,0,0,8,2,0]]},{\"mode\":\"S\",\"menvcfg\":4611686018427388144,\"senvcfg\":240,\"script\":[[\"map\",1,1,0,8,2,1]]}],\"buffers\":[{\"at\":4097,\"len\":8,\"fill\":0,\"step\":0,\"owner\":0},{\"at\":4361,\"len\":8,\"fill\":0,\"step\":0,\"owner\":1}],\"slots\":{\"at\":32768,\"count\":1},\"pool\":{\"at\":49152,\"pages\":2}";
+const ONE_SLOT: &str =
+    "{\"version\":1,\"ram\":65536,\"harts\":[{\"mode\":\"S\",\"menvcfg\":4611686018427388144,\"senvcfg\":240,\"script\":[[\"map\",1,0,0,8,2,0]]},{\"mode\":\"S\",\"menvcfg\":4611686018427388144,\"senvcfg\":240,\"script\":[[\"map\",1,1,0,8,2,1]]}],\"buffers\":[{\"at\":4097,\"len\":8,\"fill\":0,\"step\":0,\"owner\":0},{\"at\":4361,\"len\":8,\"fill\":0,\"step\":0,\"owner\":1}],\"slots\":{\"at\":32768,\"count\":1},\"pool\":{\"at\":49152,\"pages\":2}";
 
 fn words(alloc: Global, word: &str) -> Result<Vec<String>, AllocError> {
     let mut words = Vec::new(alloc);
@@ -115,7 +118,10 @@ fn events_of(tokens: &[String], hart: char) -> u64 {
 
 /// How many lines of the report begin with this.
 fn lines_with(report: &str, start: &str) -> usize {
-    report.lines().filter(|line| line.starts_with(start)).count()
+    report
+        .lines()
+        .filter(|line| line.starts_with(start))
+        .count()
 }
 
 #[test]
@@ -162,8 +168,14 @@ fn two_pool_answers(rt: HostRuntime) -> Result<(), Fail> {
     let got_by_first = lines_with(report, "told 0 0 got") + lines_with(report, "told 0 1 got");
     let got_by_second = lines_with(report, "told 1 0 got") + lines_with(report, "told 1 1 got");
     assert_eq!(rt; (got_by_first, got_by_second), (1, 1));
-    assert_eq!(rt; lines_with(report, "told 0 0 held") + lines_with(report, "told 0 1 held"), 0);
-    assert_eq!(rt; lines_with(report, "told 1 0 held") + lines_with(report, "told 1 1 held"), 0);
+    assert_eq!(rt;
+        lines_with(report, "told 0 0 held") + lines_with(report, "told 0 1 held"),
+        0
+    );
+    assert_eq!(rt;
+        lines_with(report, "told 1 0 held") + lines_with(report, "told 1 1 held"),
+        0
+    );
     assert_eq!(rt; lines_with(report, "try "), 0);
     assert!(rt; runs_again(alloc, TWO_SLOTS, &told)?);
     Ok(())
@@ -190,7 +202,11 @@ fn failing_streams(rt: HostRuntime) -> Result<(), Fail> {
     let words = words(alloc, "run")?;
     let mut input = String::from_str(alloc, FALSE_SHARING)?;
     input.push_str(",\"schedule\":[]}")?;
-    let mut src = MemSource::new(Vec::from_slice(alloc, input.as_bytes())?, 8, vec![in alloc; 1]?);
+    let mut src = MemSource::new(
+        Vec::from_slice(alloc, input.as_bytes())?,
+        8,
+        vec![in alloc; 1]?,
+    );
     let mut out = MemSink::new(alloc, Vec::new(alloc));
     assert_eq!(rt; dmalive(&rt, alloc, &words, &mut src, &mut out, &NoGate), 4);
     assert!(rt; out.bytes().is_empty());

@@ -69,6 +69,15 @@ impl<N: SceneName, P: PoolName> Team<N, P> {
     {
         Team { workers }
     }
+
+    /// The drivers, in the order of their harts.
+    pub fn into_workers(self) -> Vec<Worker<N, P>>
+        ensures all { vec_len result ≡ length N.scene.harts }
+        ensures seated { (k : ℕ) (w : _) → k < length N.scene.harts → (get_or result.items k w).me.0 ≡ k }
+    {
+        let Team { workers } = self;
+        workers
+    }
 }
 
 impl<N: SceneName, P: PoolName> Worker<N, P> {

@@ -9,7 +9,7 @@ ghost use Rattle.nc_turns.specs.Played.{IsLiveRun};
 ghost use Rattle.nc_turns.specs.Threads.{AreThrough};
 ghost use Rattle.nc_live.specs.Due.{WroteLive, GrewByLive};
 
-use crate::crew::{Crew, PoolName, Team};
+use crate::crew::{Crew, PoolName};
 use crate::ends::make_up;
 use crate::gate::Gate;
 use crate::threads::drive_all;
@@ -55,8 +55,7 @@ fn with_pool<
     let mut team = drive_all(rt, alloc, &live, &crew, gate, team, most)?;
     let mut state = live.into_inner();
     make_up(&mut state, &crew, &mut team)?;
-    let Team { workers } = team;
-    for worker in workers {
+    for worker in team.into_workers() {
         crew.dismiss(&mut root, worker);
     }
     Ok(state)

@@ -68,7 +68,11 @@ fn drive<N: SceneName, P: PoolName, R: Wait, G: Gate>(
 
 /// Makes a turn of the channels' or the caches' thread, and tells whether the thread goes on.
 fn other_turn<N: SceneName, R: Wait>(rt: &R, live: &Mutex<LiveState<N>>, caches: bool) -> bool {
-    let t = if caches { Turner::Caches } else { Turner::Channels };
+    let t = if caches {
+        Turner::Caches
+    } else {
+        Turner::Channels
+    };
     let mut state = live.lock(rt);
     goes_on(&state, t) && state.turn(t).is_ok()
 }
@@ -124,20 +128,25 @@ pub fn drive_all<
     most: u64,
 ) -> Result<Team<N, P>, NoMemory> {
     thread::scope(thread::scope_env(), rt, |scope| {
-        let Team { workers } = team;
         let mut handles = Vec::new(alloc);
         let mut here = Vec::new(alloc);
-        for worker in workers {
-            let me = worker.me();
+        'starting: for worker in team.into_workers() {
             if !here.is_empty() {
                 here.push(drive(rt, live, crew, gate, worker, most))?;
                 continue;
             }
-            match scope.spawn_with(DriverOf(me), move || {
+            let promise = DriverOf(worker.me());
+            match scope.spawn_with(promise, move || {
                 drive(rt, live, crew, gate, worker, most)
             }) {
-                Ok(handle) => handles.push(handle)?,
-                Err(refused) => here.push((refused.value)())?,
+                Ok(handle) => {
+                    handles.push(handle)?;
+                    continue;
+                }
+                Err(refused) => {
+                    here.push((refused.value)())?;
+                    continue;
+                }
             }
         }
         let channels = scope.spawn(move || go_round(rt, live, false, most));

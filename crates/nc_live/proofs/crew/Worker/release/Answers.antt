@@ -15,11 +15,11 @@ loop-k-preserved g c =
     let xs = c.loop-k.self.mine.items in
     let tested : c.is_left.result ≡ (has k xs && not (f k)) = c.is_left.ensures ∙ ap (λ h. has k xs && not (is_held_by slots k h)) c.loop-k.invariant.hart in
     elim c.if-is_left.branch [
-      then-is_left w ↦ record {
+      | then-is_left w ↦ record {
         hart = ap (λ v. v.me) w.self-is ∙ (w.give.ensures.hart ∙ c.loop-k.invariant.hart);
         slots = subst (Sifted (k + 1) f ys) (sym (ap (λ v. v.mine.items) w.self-is ∙ w.give.ensures.slots)) (sifted_give k f ys xs c.loop-k.invariant.slots (left_fails (has k xs) (f k) (sym tested ∙ w.if-is_left.true)));
       }
-    | else-is_left w ↦ record {
+      | else-is_left w ↦ record {
         hart = ap (λ v. v.me) w.self-is ∙ c.loop-k.invariant.hart;
         slots = subst (Sifted (k + 1) f ys) (sym (ap (λ v. v.mine.items) w.self-is)) (sifted_keep k f ys xs c.loop-k.invariant.slots (sym tested ∙ w.if-is_left.false));
       }
