@@ -17,7 +17,6 @@ use nc_io::{Sink, Stop};
 use nc_num::{HartNo, NoMemory};
 use nc_pool::{Pool, PoolRoot};
 use nc_scen::Scenario;
-use nc_top::status_of;
 use nc_turns::{DoneState, LiveState, SceneName, write_live};
 use std::alloc::Global;
 use std::marker::Brand;
@@ -101,6 +100,5 @@ pub fn live_run<N: SceneName + Send + Sync, R: Threads + Wait + Sync, K: Sink, G
         Ok(done) => done,
         Err(NoMemory) => return Err(Stop::NoMemory),
     };
-    write_live(alloc, sc, done.history(), out)?;
-    Ok(status_of(done.world()))
+    write_live(alloc, sc, done.history(), out)
 }

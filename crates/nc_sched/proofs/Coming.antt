@@ -314,3 +314,9 @@ start-by sc (plans.Seeded seed events) is = rw is refl
 
 pub to_come-start : (sc : Scenario) → to_come sc (first_stand sc) (start sc) false ≡ sched sc
 to_come-start sc = start-by sc sc.plan refl
+
+-- at the start of finishing rounds as many of their events are to come as may be tried
+pub to_come-rounds : (sc : Scenario) (left n : ℕ) (g : Lcg) (w : WorldState) → left ≤ n → to_come sc (record { left = left; phase = phases.Round 0 false; generator = g }) w false ≡ take left (rounds (harts_of sc) n w)
+unfolding to_come
+to_come-rounds sc left n g w le =
+    ap (λ (es : List Event). take left es) (whole sc left g w) ∙ sym (begins (harts_of sc) left left w (omega arith)) ∙ rounds-same (harts_of sc) left n left w (omega arith) le

@@ -55,7 +55,7 @@ block_is size ram k less =
     mul-suc_right : size * (k + 1) ≡ size * k + size
     mul-suc_right = grind arith
 
-some_blocks : (harts size ram : ℕ) → HasParts harts size ram → 0 < ram / size
+pub some_blocks : (harts size ram : ℕ) → HasParts harts size ram → 0 < ram / size
 some_blocks harts size ram p = elim p.sized.one_of as (λ _. 0 < ram / size) [
   | inl e ↦ rw e (omega (arith, p.page))
   | inr (inl e) ↦ rw e (omega (arith, p.page))

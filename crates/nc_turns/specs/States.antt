@@ -1,11 +1,12 @@
 -- What holds of the states that keep a history beside its world. This project's own.
-use Rattle.std.specs.Prelude.{◌≡◌, ℕ, ◌/◌, ◌≤◌, ◌<◌, List, [], length, take, slice_index}
+use Rattle.std.specs.Prelude.{◌≡◌, ℕ, ◌+◌, ◌/◌, ◌≤◌, ◌<◌, List, [], length, take, slice_index}
 use Rattle.nc_scen.specs.declared.events.Event.{Event}
 use Rattle.nc_scen.specs.declared.scenario.Scenario.{Scenario}
 use Rattle.nc_scen.specs.Accepted.{IsAccepted}
 use Rattle.nc_flatness.specs.Flatness.{IsWorldOf}
 use Rattle.nc_rules.specs.Flat.{AreThere}
 use Rattle.nc_rules.specs.Schedule.{begun}
+use Rattle.nc_rules.specs.World.{hart}
 use Rattle.nc_sched.specs.Stands.{seed_of}
 use Rattle.nc_world.specs.Shown.{Shown}
 use Rattle.nc_turns.specs.declared.counts.Counts.{Counts}
@@ -37,6 +38,11 @@ IsCounted Caches = Unit {0}
 abbrev pub AreCounts : Counts → List Event → Type 0
 AreCounts c es = (t : Turner) → IsCounted t → count_at c t ≡ made_by t es
 
+-- how many events the threads of a machine have in all, which has four harts at most
+abbrev pub total : List Event → ℕ
+total es =
+    made_by (Driver (hart 0)) es + made_by (Driver (hart 1)) es + made_by (Driver (hart 2)) es + made_by (Driver (hart 3)) es + made_by Channels es + made_by Caches es
+
 -- ---- the two states
 
 -- the world is the run of the events on the scenario, and its records are dropped
@@ -53,6 +59,7 @@ pub record IsLive (sc : Scenario) (limit harts blocks : ℕ) (counts : Counts) (
   pub blocks_is : blocks ≡ sc.ram / sc.block_size
   pub run : IsRun sc w es
   pub threaded : IsThreaded sc es
+  pub all : length es ≤ total es
   pub counts_are : AreCounts counts es
   pub draws_is : draws ≡ draw_from (after_draws (begun (seed_of sc.plan)) (made_by Caches es))
 

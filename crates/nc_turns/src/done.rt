@@ -1,6 +1,7 @@
 //! The state behind the threads: their turns, and finishing rounds.
 
-ghost use Rattle.std.specs.Prelude.{◌≡◌, ◌≢◌, ◌<◌, ◌≤◌, [], ◌∷◌, ◌++◌, length, take, true, false, IfOk, OnOk, OnErr};
+ghost use Rattle.std.specs.Prelude.{◌≡◌, ◌≢◌, ◌<◌, ◌≤◌, [], ◌∷◌, ◌++◌, length, take, Bool, IfOk, OnOk, OnErr};
+ghost use Rattle.nc_num.specs.declared.names.HartNo.{HartNo};
 ghost use Rattle.nc_scen.specs.Events.{IsThere};
 ghost use Rattle.nc_rules.specs.Flat.{AreThere};
 ghost use Rattle.nc_rules.specs.Schedule.{sched};
@@ -91,7 +92,7 @@ impl<N: SceneName> DoneState<N> {
     {
         let mut rounds = Sched::rounds(self.limit - self.turns);
         let mut last = None;
-        'adding: while let Some(e) = rounds.next(sc, &self.world, last) {
+        'adding: while let Some(e) = rounds.next(sc, self.world(), last) {
             let stepped = self.append(e)?;
             last = Some(stepped);
         }
@@ -122,6 +123,7 @@ impl<N: SceneName> DoneState<N> {
     pub fn world(&self) -> &World
         ensures at { result.now.at ≡ world_of N.scene self.now.events }
         ensures none { result.now.records ≡ [] }
+        ensures harts { length result.now.at.machine.harts ≡ length N.scene.harts }
     {
         &self.world
     }

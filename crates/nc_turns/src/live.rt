@@ -137,6 +137,7 @@ impl<N: SceneName> LiveState<N> {
     pub fn world(&self) -> &World
         ensures at { result.now.at ≡ world_of N.scene self.now }
         ensures none { result.now.records ≡ [] }
+        ensures harts { length result.now.at.machine.harts ≡ length N.scene.harts }
     {
         &self.world
     }
@@ -232,7 +233,8 @@ impl<N: SceneName> LiveState<N> {
     /// The next event of a thread that is no driver at a search.
     fn next_event(&self, t: Turner) -> Event
         requires { IsThread N.scene t }
-        ensures { result ≡ next_of N.scene self.now t }
+        ensures value { result ≡ next_of N.scene self.now t }
+        ensures there { IsThere (length N.scene.harts) N.scene.block_size N.scene.ram result }
     {
         match t {
             Turner::Driver(h) => driver_event(h, self.made(t)),

@@ -1,31 +1,37 @@
 //! A history, and the report of its run, written to a sink.
 
-ghost use Rattle.std.specs.Prelude.{◌≡◌, ◌≤◌, [], Err, length, drop, IfOk, OnOk, OnErr};
+ghost use Rattle.std.specs.Prelude.{◌≡◌, ◌≢◌, ◌≤◌, ◌++◌, [], Err, IfOk, OnOk, OnErr};
 ghost use Rattle.std.specs.Io.KnownBytes.{Appends};
 ghost use Rattle.nc_io.specs.Causes.{Rose};
 ghost use Rattle.nc_io.specs.Streams.{GrowsByFront};
 ghost use Rattle.nc_scen.specs.Accepted.{IsAccepted};
 ghost use Rattle.nc_rules.specs.Flat.{AreThere};
-ghost use Rattle.nc_rules.specs.Lines.{report};
+ghost use Rattle.nc_rules.specs.Lines.{report, status};
+ghost use Rattle.nc_top.specs.Due.{IsAnswer};
 ghost use Rattle.nc_turns.specs.Played.{history_lines, live_text, token_line};
 
 use nc_io::{Sink, Stop, write_all};
 use nc_num::NoMemory;
 use nc_report::{event_line, step_out, tail};
 use nc_scen::{Event, Scenario};
+use nc_top::status_of;
 use nc_world::World;
 use std::alloc::Global;
 
 /// Writes a history, a token a line behind their number, and then the report of its run: a new world makes each event, and
-/// its lines are written as it happens. Where a write fails or memory runs out, a prefix was written.
+/// its lines are written as it happens. Returns the status of the run. Where a write fails or memory runs out, a prefix was
+/// written.
 pub fn write_live<K: Sink>(
     alloc: Global,
     sc: &Scenario,
     history: &[Event],
     out: &mut K,
-) -> Result<(), Stop>
+) -> Result<u8, Stop>
     requires accepted { IsAccepted sc.now }
     requires there { AreThere sc.now history.now }
+    ensures status { IfOk result (λ n. n ≡ status sc.now history.now) }
+    ensures kind { IfOk result IsAnswer }
+    ensures run { IfOk result (λ n. n ≢ 3) }
     ensures text { OnOk result (Appends (K.held out.old) (K.held out.new) (live_text sc.now history.now)) }
     ensures front { OnErr result (GrowsByFront (K.held out.old) (K.held out.new) (live_text sc.now history.now)) }
     ensures later { K.faults out.old ≤ K.faults out.new }
@@ -45,18 +51,18 @@ fn history_text(alloc: Global, history: &[Event]) -> Result<Vec<u8>, NoMemory>
     let count = history.len();
     let mut text = format!(in alloc; "history {count}\n")?.into_bytes();
     for e in history {
-        let line = event_line(alloc, *e)?;
-        text.extend_from_slice(behind_e(&line))?;
+        put_token(alloc, &mut text, *e)?;
     }
     Ok(text)
 }
 
-/// Returns a line without its leading `e `: of an event's line the token is left.
-fn behind_e(line: &[u8]) -> &[u8]
-    requires { 2 ≤ length line.now }
-    ensures { result.now ≡ drop 2 line.now }
+/// Writes an event's token behind a text. It is what stands behind `e ` in the event's line.
+fn put_token(alloc: Global, text: &mut Vec<u8>, e: Event) -> Result<(), NoMemory>
+    ensures { OnOk result (text.new.items ≡ text.old.items ++ token_line e) }
 {
-    &line[2..]
+    let line = event_line(alloc, e)?;
+    text.extend_from_slice(&line[2..])?;
+    Ok(())
 }
 
 /// Makes the events one after another in a new world, and writes the report of their run.
@@ -65,9 +71,12 @@ fn replay_out<K: Sink>(
     sc: &Scenario,
     history: &[Event],
     out: &mut K,
-) -> Result<(), Stop>
+) -> Result<u8, Stop>
     requires accepted { IsAccepted sc.now }
     requires there { AreThere sc.now history.now }
+    ensures status { IfOk result (λ n. n ≡ status sc.now history.now) }
+    ensures kind { IfOk result IsAnswer }
+    ensures run { IfOk result (λ n. n ≢ 3) }
     ensures text { OnOk result (Appends (K.held out.old) (K.held out.new) (report sc.now history.now)) }
     ensures front { OnErr result (GrowsByFront (K.held out.old) (K.held out.new) (report sc.now history.now)) }
     ensures later { K.faults out.old ≤ K.faults out.new }
@@ -82,5 +91,6 @@ fn replay_out<K: Sink>(
     let Ok(text) = tail(alloc, sc, &w) else {
         return Err(Stop::NoMemory);
     };
-    write_all(out, &text)
+    write_all(out, &text)?;
+    Ok(status_of(&w))
 }
