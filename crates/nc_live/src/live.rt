@@ -1,7 +1,6 @@
 //! A scenario's run in threads.
 
-ghost use Rattle.std.specs.Prelude.{◌≡◌, ◌≢◌, ◌≤◌, length, Err, IfOk, OnOk, OnErr};
-ghost use Rattle.std.specs.Io.KnownBytes.{Appends};
+ghost use Rattle.std.specs.Prelude.{◌≡◌, ◌≢◌, ◌≤◌, length, Err, IfOk, OnErr};
 ghost use Rattle.nc_io.specs.Causes.{Rose};
 ghost use Rattle.nc_scen.specs.Accepted.{IsAccepted};
 ghost use Rattle.nc_top.specs.Due.{IsAnswer};
@@ -13,8 +12,9 @@ use crate::crew::{Crew, PoolName};
 use crate::ends::make_up;
 use crate::gate::Gate;
 use crate::threads::drive_all;
+use nc_flat::{kept_law, latest_law};
 use nc_io::{Sink, Stop};
-use nc_num::{HartNo, NoMemory};
+use nc_num::NoMemory;
 use nc_pool::{Pool, PoolRoot};
 use nc_scen::Scenario;
 use nc_turns::{DoneState, LiveState, SceneName, write_live};
@@ -96,9 +96,11 @@ pub fn live_run<N: SceneName + Send + Sync, R: Threads + Wait + Sync, K: Sink, G
     ensures later { K.faults out.old ≤ K.faults out.new }
     ensures cause { result ≡ Err Stop.Failed → Rose (K.faults out.old) (K.faults out.new) }
 {
-    let done = match make_history::<N, R, G>(rt, alloc, sc, gate) {
-        Ok(done) => done,
-        Err(NoMemory) => return Err(Stop::NoMemory),
+    latest_law();
+    kept_law();
+    let Ok(done) = make_history::<N, R, G>(rt, alloc, sc, gate) else {
+        return Err(Stop::NoMemory);
     };
-    write_live(alloc, sc, done.history(), out)
+    let status = write_live(alloc, sc, done.history(), out)?;
+    Ok(status)
 }

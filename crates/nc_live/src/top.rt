@@ -3,16 +3,13 @@
 ghost use Rattle.std.specs.Prelude.{◌≡◌, ◌≢◌, ◌⊎◌, List, ℕ, map, string_bytes, false, true};
 ghost use Rattle.std.specs.Io.KnownBytes.{Appends, Keeps};
 ghost use Rattle.nc_io.specs.Causes.{Rose};
-ghost use Rattle.nc_io.specs.Streams.{GrowsByFront};
 ghost use Rattle.nc_scen.specs.Reading.{reading};
-ghost use Rattle.nc_flat.specs.Laws.{EachRunIsLatest, EachRunIsKept};
 ghost use Rattle.nc_top.specs.Due.{is_run, unknown_words, IsAnswer};
 ghost use Rattle.nc_top.specs.Inputs.{HasRead, IsRunWhereRead, TakesFew};
 ghost use Rattle.nc_live.specs.Due.{WroteFor, GrewFor, WroteFront};
 
 use crate::gate::Gate;
 use crate::live::live_run;
-use nc_flat::{kept_law, latest_law};
 use nc_io::{Sink, Source, Stop};
 use nc_report::refused;
 use nc_scen::{ScenFault, read};
