@@ -1,11 +1,11 @@
 -- The state before any event.
-use Rattle.std.proofs.Common.{◌≡◌, ℕ, ◌/◌, ◌≤◌, List, [], length, refl, sym, ap, ◌∙◌, subst, arith}
+use Rattle.std.proofs.Common.{◌≡◌, ℕ, ◌/◌, List, [], length, refl, sym, ◌∙◌, subst, arith}
 use Rattle.nc_scen.specs.declared.events.Event.{Event}
 use Rattle.nc_scen.specs.declared.scenario.Scenario.{Scenario}
 use Rattle.nc_scen.specs.Accepted.{IsAccepted}
 use Rattle.nc_rules.specs.Run.{after}
 use Rattle.nc_rules.specs.Schedule.{begun}
-use Rattle.nc_rules.specs.World.{WorldState, start}
+use Rattle.nc_rules.specs.World.{start}
 use Rattle.nc_sched.specs.Stands.{seed_of}
 use Rattle.nc_flatness.specs.Flatness.{IsWorldOf}
 use Rattle.nc_flatness.specs.Steps.{WorldsStart}

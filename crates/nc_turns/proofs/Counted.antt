@@ -1,5 +1,5 @@
 -- Which thread an event is counted for.
-use Rattle.std.proofs.Common.{◌≡◌, ◌⊎◌, inl, inr, ℕ, zero, suc, ◌+◌, ◌*◌, ◌/◌, ◌≤◌, ◌<◌, ◌==◌, Bool, true, false, List, [], ◌∷◌, ◌++◌, length, refl, sym, ap, ◌∙◌, arith, length-append}
+use Rattle.std.proofs.Common.{◌≡◌, ◌⊎◌, inl, inr, ℕ, zero, suc, ◌+◌, ◌*◌, ◌≤◌, ◌<◌, ◌==◌, Bool, true, false, List, [], ◌∷◌, ◌++◌, length, refl, sym, ap, ◌∙◌, arith, length-append}
 use Rattle.std.specs.Prelude.{if◌then◌else◌}
 use Rattle.std.proofs.lemmas.Bool.{eq-eqb, eqb-true}
 use Rattle.rand_pcg.specs.Lcg.{Lcg}
@@ -93,8 +93,18 @@ some_thread sc es (ChanWrite c) few there comes = omega arith
 
 pub counted-push : (sc : Scenario) (es : List Event) (e : Event) → length sc.harts ≤ 4 → IsThere (length sc.harts) sc.block_size sc.ram e → ComesNext sc es e → length es ≤ total es → length (es ++ e ∷ []) ≤ total (es ++ e ∷ [])
 counted-push sc es e few there comes all =
-    omega (arith, length-append es (e ∷ []), all, some_thread sc es e few there comes, made-push (Driver (hart 0)) es e, made-push (Driver (hart 1)) es e, made-push (Driver (hart 2)) es e, made-push (Driver (hart 3)) es e,
-    made-push Channels es e, made-push Caches es e)
+    omega (
+      arith,
+      length-append es (e ∷ []),
+      all,
+      some_thread sc es e few there comes,
+      made-push (Driver (hart 0)) es e,
+      made-push (Driver (hart 1)) es e,
+      made-push (Driver (hart 2)) es e,
+      made-push (Driver (hart 3)) es e,
+      made-push Channels es e,
+      made-push Caches es e,
+    )
 
 pub within_limit : (sc : Scenario) (es : List Event) → length es ≤ total es → IsThreaded sc es → length es ≤ sc.limit
 within_limit sc es all threaded =

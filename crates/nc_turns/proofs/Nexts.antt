@@ -1,5 +1,5 @@
 -- The next event of a thread: it comes next, names what is there, and its thread has room for it.
-use Rattle.std.proofs.Common.{◌≡◌, ℕ, ◌+◌, ◌*◌, ◌/◌, ◌%◌, ◌≤◌, ◌<◌, ◌==◌, Bool, true, false, List, [], ◌∷◌, ◌++◌, length, Some, None, refl, sym, ap, ◌∙◌, subst, arith}
+use Rattle.std.proofs.Common.{◌≡◌, ℕ, ◌+◌, ◌*◌, ◌/◌, ◌%◌, ◌≤◌, ◌<◌, ◌==◌, Bool, true, false, List, length, Some, None, refl, sym, ap, subst, arith}
 use Rattle.std.specs.Prelude.{if◌then◌else◌, Option, is_some}
 use Rattle.std.proofs.Math.Nat.{mod-lt}
 use Rattle.std.proofs.lemmas.Bool.{eqb-true}
@@ -7,11 +7,11 @@ use Rattle.nc_num.specs.declared.names.HartNo.{HartNo}
 use Rattle.nc_num.specs.declared.names.ChanNo.{ChanNo}
 use Rattle.nc_num.specs.declared.places.Block.{Block}
 use Rattle.nc_scen.specs.declared.events.Event.{Event}
-use Rattle.nc_scen.specs.declared.events.Event.TheVariants.{Issue, Try, Told, Drain, Fill, Evict, ChanRead, ChanWrite}
+use Rattle.nc_scen.specs.declared.events.Event.TheVariants.{Issue, Drain, ChanRead, ChanWrite}
 use Rattle.nc_scen.specs.declared.scenario.Scenario.{Scenario}
 use Rattle.nc_scen.specs.Accepted.{IsAccepted}
 use Rattle.nc_scen.specs.Events.{IsThere}
-use Rattle.nc_rules.specs.Schedule.{begun, chan, channel_event, size_of, first_word, second_word}
+use Rattle.nc_rules.specs.Schedule.{begun, chan, size_of, first_word, second_word}
 use Rattle.nc_rules.specs.Driver.{searching}
 use Rattle.nc_rules.specs.Events.{enabled}
 use Rattle.nc_rules.specs.World.{WorldState, driver_of, hart}
@@ -21,8 +21,8 @@ use Rattle.nc_pool.specs.declared.pool.PoolTry.{PoolTry}
 use Rattle.nc_pool.specs.declared.pool.PoolTry.TheVariants.{Got, Held}
 use Rattle.nc_turns.specs.declared.threads.Turner.{Turner}
 use Rattle.nc_turns.specs.declared.threads.Turner.TheVariants.{Driver, Channels, Caches}
-use Rattle.nc_turns.specs.Draws.{after_draws, block, copy_event, moves_copy}
-use Rattle.nc_turns.specs.Threads.{belongs, is_driver_event, is_channel_event, is_cache_event, made_by, most, is_even, next_of, told_by, search_of, ComesNext, IsFree, IsThread}
+use Rattle.nc_turns.specs.Draws.{after_draws, block, moves_copy}
+use Rattle.nc_turns.specs.Threads.{belongs, made_by, most, is_even, next_of, told_by, search_of, ComesNext, IsFree, IsThread}
 
 -- ---- it comes next
 

@@ -1,11 +1,9 @@
 -- A history that is one event longer: its world, and how many events each thread has.
-use Rattle.std.proofs.Common.{◌≡◌, ℕ, zero, suc, ◌+◌, ◌*◌, ◌/◌, ◌≤◌, ◌<◌, ◌==◌, Bool, true, false, List, [], ◌∷◌, ◌++◌, length, take, Some, refl, sym, ap, ◌∙◌, subst, arith, length-append}
+use Rattle.std.proofs.Common.{◌≡◌, ℕ, zero, suc, ◌+◌, ◌≤◌, ◌<◌, Bool, true, false, List, [], ◌∷◌, ◌++◌, length, take, Some, refl, sym, ap, ◌∙◌, subst, arith}
 use Rattle.std.specs.Prelude.{slice_get, if◌then◌else◌}
 use Rattle.std.proofs.lemmas.List.Sums.{sum_by-append}
 use Rattle.std.proofs.lemmas.List.Elements.{All-push}
-use Rattle.nc_num.specs.declared.names.HartNo.{HartNo}
 use Rattle.nc_scen.specs.declared.events.Event.{Event}
-use Rattle.nc_scen.specs.declared.events.Event.TheVariants.{Issue, Try, Told, Drain, Fill, Evict, ChanRead, ChanWrite}
 use Rattle.nc_scen.specs.declared.scenario.Scenario.{Scenario}
 use Rattle.nc_scen.specs.Events.{IsThere}
 use Rattle.nc_rules.specs.Next.{next}
@@ -15,7 +13,6 @@ use Rattle.nc_flatness.specs.Flatness.{IsWorldOf}
 use Rattle.nc_flatness.specs.Steps.{WorldsStay}
 use Rattle.nc_world.specs.Shown.{Shown}
 use Rattle.nc_turns.specs.declared.threads.Turner.{Turner}
-use Rattle.nc_turns.specs.declared.threads.Turner.TheVariants.{Driver, Channels, Caches}
 use Rattle.nc_turns.specs.States.{IsRun}
 use Rattle.nc_turns.specs.Threads.{belongs, made_by, most, world_of, ComesNext, IsThreaded}
 

@@ -14,7 +14,7 @@ use Rattle.nc_turns.specs.declared.draws.Draws.{Draws}
 use Rattle.nc_turns.specs.declared.threads.Turner.{Turner}
 use Rattle.nc_turns.specs.declared.threads.Turner.TheVariants.{Driver, Channels, Caches}
 use Rattle.nc_turns.specs.Draws.{after_draws, draw_from}
-use Rattle.nc_turns.specs.Threads.{world_of, made_by, IsThread, IsThreaded, AreThrough}
+use Rattle.nc_turns.specs.Threads.{world_of, made_by, IsThreaded, AreThrough}
 
 -- a history, and how many of its first events the threads made
 pub record Past : Type 0 where

@@ -5,7 +5,7 @@ ghost use Rattle.nc_num.specs.declared.names.HartNo.{HartNo};
 ghost use Rattle.nc_scen.specs.Events.{IsThere};
 ghost use Rattle.nc_rules.specs.Flat.{AreThere};
 ghost use Rattle.nc_rules.specs.Schedule.{sched};
-ghost use Rattle.nc_world.specs.Shown.{Shown, answer as stepped};
+ghost use Rattle.nc_world.specs.Shown.{answer as stepped};
 ghost use Rattle.nc_turns.specs.Played.{finished, IsLiveRun};
 ghost use Rattle.nc_turns.specs.States.{IsRun};
 ghost use Rattle.nc_turns.specs.Threads.{world_of, IsThreaded, AreThrough};
@@ -41,7 +41,7 @@ impl<N: SceneName> Model for DoneState<N> {
 
 impl<N: SceneName> DoneState<N> {
     /// A history of threads that are through, with its world.
-    pub fn of_turns(limit: u64, world: World, history: Vec<Event>) -> DoneState<N>
+    pub(crate) fn of_turns(limit: u64, world: World, history: Vec<Event>) -> DoneState<N>
         requires limit { limit ≡ N.scene.limit }
         requires run { IsRun N.scene world history.items }
         requires threaded { IsThreaded N.scene history.items }
@@ -103,7 +103,8 @@ impl<N: SceneName> DoneState<N> {
 
     /// How many events the threads made: the first of the history.
     pub fn turns(&self) -> u64
-        ensures { result ≡ self.now.turns }
+        ensures value { result ≡ self.now.turns }
+        ensures few { result ≤ length self.now.events }
     {
         self.turns
     }

@@ -1,6 +1,6 @@
 //! The draws of the caches' thread.
 
-ghost use Rattle.std.specs.Prelude.{◌≡◌, ◌<◌, ◌≤◌, if◌then◌else◌};
+ghost use Rattle.std.specs.Prelude.{◌≡◌, ◌<◌, if◌then◌else◌};
 ghost use Rattle.nc_rules.specs.Schedule.{begun};
 ghost use Rattle.nc_turns.specs.Draws.{copy_event, draw_from};
 ghost use Rattle.nc_turns.specs.Threads.{is_cache_event};

@@ -1,6 +1,6 @@
 //! The state that the threads share.
 
-ghost use Rattle.std.specs.Prelude.{◌≡◌, ◌+◌, ◌<◌, ◌≤◌, ◌^◌, [], ◌∷◌, ◌++◌, Some, true, length, IfOk, OnOk, OnErr, IfSome, MatchOption, nat_lt};
+ghost use Rattle.std.specs.Prelude.{◌≡◌, ◌+◌, ◌<◌, ◌≤◌, [], ◌∷◌, ◌++◌, Some, true, length, IfOk, OnOk, OnErr, IfSome, MatchOption, nat_lt};
 ghost use Rattle.nc_pool.specs.Answers.{found_of};
 ghost use Rattle.nc_scen.specs.Accepted.{IsAccepted};
 ghost use Rattle.nc_scen.specs.Events.{IsThere};

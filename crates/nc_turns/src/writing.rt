@@ -1,6 +1,6 @@
 //! A history, and the report of its run, written to a sink.
 
-ghost use Rattle.std.specs.Prelude.{◌≡◌, ◌≢◌, ◌≤◌, ◌++◌, [], Err, IfOk, OnOk, OnErr};
+ghost use Rattle.std.specs.Prelude.{◌≡◌, ◌≢◌, ◌≤◌, ◌++◌, Err, IfOk, OnOk, OnErr};
 ghost use Rattle.std.specs.Io.KnownBytes.{Appends};
 ghost use Rattle.nc_io.specs.Causes.{Rose};
 ghost use Rattle.nc_io.specs.Streams.{GrowsByFront};

@@ -1,6 +1,4 @@
-use Rattle.std.proofs.Common.{rules, ◌≡◌, ◌+◌, ◌<◌, ◌^◌, [], true, if◌then◌else◌, ℕ, ◌-◌, ◌*◌, ◌≤◌, length, ◌/◌, ◌%◌, Bool, false, nat_eq, nat_lt, List, ◌∷◌, ◌++◌, slice_index_or, slice_set, bit_and, bit_or, Fits, w8, w32, w64, Bor, MutBor, refl, ap, ◌∙◌, arith}
-use Rattle.nc_turns.specs.States.{count_at, AreCounts, IsCounted}
-use Rattle.nc_turns.specs.Threads.{belongs}
+use Rattle.std.proofs.Common.{rules, ◌-◌, arith}
 use Rattle.nc_turns.specs.declared.threads.Turner.TheVariants.{Driver, Channels, Caches}
 use Rattle.nc_turns.proofs.Counted.{is_channels, is_caches, is_driver}
 use Rattle.nc_turns.proofs.counts.Counts.count.Goals as goal

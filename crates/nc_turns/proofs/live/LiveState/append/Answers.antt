@@ -1,8 +1,7 @@
-use Rattle.std.proofs.Common.{◌≡◌, ◌≤◌, ◌<◌, [], ◌∷◌, ◌++◌, true, length, sym, ap, ◌∙◌, subst, List}
+use Rattle.std.proofs.Common.{◌≡◌, ◌≤◌, ◌<◌, [], ◌∷◌, ◌++◌, length, sym, ap, ◌∙◌, subst, List}
 use Rattle.nc_scen.specs.declared.events.Event.{Event}
 use Rattle.nc_rules.specs.Schedule.{begun}
 use Rattle.nc_sched.specs.Stands.{seed_of}
-use Rattle.nc_turns.specs.declared.threads.Turner.{Turner}
 use Rattle.nc_turns.specs.States.{IsLive, total}
 use Rattle.nc_turns.specs.Threads.{made_by, most, ComesNext, IsThreaded}
 use Rattle.nc_turns.proofs.Counted.{counts-push, draws-push, counted-push, within_limit}

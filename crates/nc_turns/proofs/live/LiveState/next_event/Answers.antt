@@ -1,4 +1,4 @@
-use Rattle.std.proofs.Common.{◌≡◌, ◌%◌, ℕ, ap, sym, ◌∙◌}
+use Rattle.std.proofs.Common.{◌%◌, ℕ, ap, sym, ◌∙◌}
 use Rattle.nc_rules.specs.Schedule.{channel_event}
 use Rattle.nc_turns.specs.declared.threads.Turner.{Turner}
 use Rattle.nc_turns.specs.Threads.{made_by, next_of}
