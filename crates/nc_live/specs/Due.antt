@@ -1,5 +1,5 @@
 -- What is due for a scenario that is run in threads. This project's own.
-use Rattle.std.specs.Prelude.{◌≡◌, ◌≢◌, ◌⊎◌, ℕ, List, [], Option, Bool, true, false, Result, Ok, Err}
+use Rattle.std.specs.Prelude.{◌≡◌, ◌⊎◌, ℕ, List, Option, Bool, false, Result, Ok, Err}
 use Rattle.std.specs.Io.KnownBytes.{Appends, Keeps}
 use Rattle.nc_io.specs.Streams.{GrowsByFront}
 use Rattle.nc_values.specs.declared.refused.Refused.{Refused}

@@ -1,7 +1,6 @@
 //! The threads: one for each driver, one for the channels, one for the caches.
 
 ghost use Rattle.std.specs.Prelude.{◌≡◌, ℕ, ◌+◌, ◌<◌, length, get_or, vec_len, IfOk};
-ghost use Rattle.nc_turns.specs.Threads.{most, IsThread};
 ghost use Rattle.nc_live.specs.Turns.{SlotFits};
 
 use crate::crew::{Crew, PoolName, Team, Worker};

@@ -1,8 +1,8 @@
 //! The turns of the threads: what is done while the lock is held.
 
-ghost use Rattle.std.specs.Prelude.{◌≡◌, ◌<◌, ◌+◌, ◌&&◌, ◌≢◌, not, length, IfOk, IfSome, OnOk, Some, None, true};
+ghost use Rattle.std.specs.Prelude.{◌≡◌, ◌<◌, length, IfOk, IfSome};
 ghost use Rattle.nc_pool.specs.Answers.{found_of};
-ghost use Rattle.nc_turns.specs.Threads.{made_by, most, search_of, world_of, EndsWith, IsThread};
+ghost use Rattle.nc_turns.specs.Threads.{EndsWith, IsThread};
 ghost use Rattle.nc_live.specs.Turns.{aim_of, goes_on, SlotFits};
 
 use crate::crew::{Crew, PoolName, Worker};

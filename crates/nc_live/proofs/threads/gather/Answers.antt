@@ -1,4 +1,4 @@
-use Rattle.std.proofs.Common.{◌≡◌, ◌∙◌, ap, ℕ, ◌+◌, ◌<◌, get_or, vec_len, vec_items, rules, arith, below_more}
+use Rattle.std.proofs.Common.{◌≡◌, ◌∙◌, ap, ◌+◌, get_or, vec_len, vec_items, rules, arith, below_more}
 use Rattle.nc_live.proofs.threads.gather.Goals as goal
 
 -- The worker that is put behind the others stood first among the rest, so it is that of the next hart.

@@ -1,4 +1,4 @@
-use Rattle.std.proofs.Common.{◌≡◌, ◌∙◌, sym, ap, [], ◌∷◌, ◌++◌, true, List, ℕ}
+use Rattle.std.proofs.Common.{◌≡◌, ◌∙◌, sym, ap, [], ◌∷◌, ◌++◌}
 use Rattle.nc_pool.specs.Views.{has, is_distinct, without}
 use Rattle.nc_pool.proofs.Without.{has-last, distinct-front, without-push}
 use Rattle.nc_live.proofs.crew.Worker.give_all.Goals as goal

@@ -1,5 +1,5 @@
 use Rattle.std.proofs.Common.{◌≡◌, ◌∙◌, ◌+◌, sym, ap, subst, ◌&&◌, not, true, false, ℕ, Bool}
-use Rattle.nc_pool.specs.Views.{has, without}
+use Rattle.nc_pool.specs.Views.{has}
 use Rattle.nc_live.specs.Names.{is_held_by}
 use Rattle.nc_live.proofs.Held.{Sifted, sifted_give, sifted_keep, left_fails}
 use Rattle.nc_live.proofs.crew.Worker.release.Goals.{then-is_left, else-is_left}

@@ -1,4 +1,4 @@
-use Rattle.std.proofs.Common.{◌≡◌, ◌∙◌, sym, ap, [], ◌∷◌, ◌++◌, false, true, refl, List, ℕ}
+use Rattle.std.proofs.Common.{◌≡◌, ◌∙◌, sym, ap, [], ◌∷◌, ◌++◌, false, refl}
 use Rattle.nc_pool.specs.Views.{has, is_distinct}
 use Rattle.nc_pool.proofs.Without.{distinct-push}
 use Rattle.nc_live.proofs.crew.Worker.try_slot.Goals as goal

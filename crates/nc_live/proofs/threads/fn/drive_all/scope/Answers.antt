@@ -1,4 +1,4 @@
-use Rattle.std.proofs.Common.{◌≡◌, ◌∙◌, ap, ℕ, ◌+◌, ◌<◌, get_or, vec_len, vec_items, rules, arith, below_more}
+use Rattle.std.proofs.Common.{◌≡◌, ◌∙◌, ap, ◌+◌, get_or, vec_len, vec_items, rules, arith, below_more}
 use Rattle.nc_live.proofs.threads.fn.drive_all.scope.Goals as goal
 
 -- The worker of this turn stood first among the rest, so it is that of the next hart: it goes behind those that worked here,
