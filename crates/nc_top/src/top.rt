@@ -26,8 +26,8 @@ use nc_report::refused;
 use nc_scen::{ScenFault, Scenario, read};
 use std::alloc::Global;
 
-/// Writes a text, and returns this status, or that of the failure.
-fn put<K: Sink>(out: &mut K, status: u8, text: &[u8]) -> u8
+/// Writes a text, and returns this status; 5 where a write failed, and 6 where memory ran out.
+pub fn put<K: Sink>(out: &mut K, status: u8, text: &[u8]) -> u8
     requires { IsAnswer status }
     ensures written { IsAnswer result → (result ≡ status) × Appends (K.held out.old) (K.held out.new) text.now }
     ensures sink { result ≡ 5 → Rose (K.faults out.old) (K.faults out.new) }

@@ -38,7 +38,7 @@ pub fn command_of(words: &Vec<String>) -> Option<Command>
 }
 
 /// Tells whether the words are `run`.
-fn is_run(words: &Vec<String>) -> bool
+pub fn is_run(words: &Vec<String>) -> bool
     ensures { result ≡ is_run (map string_bytes words.now.items) }
 {
     words.len() == 1 && words[0].as_str() == "run"

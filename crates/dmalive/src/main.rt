@@ -1,0 +1,50 @@
+//! The program `dmalive`: runs a scenario's drivers as threads, over standard input and standard output.
+#![tactic(auto)]
+
+use nc_io::{StdSink, StdSource};
+use nc_live::{NoGate, dmalive};
+use std::alloc::{AllocError, Global};
+use std::env;
+use std::io::{BufWriter, ErrorKind, Write};
+use std::process::ExitCode;
+use std::rt::Env;
+
+/// Returns the words after the program's name, or none where one is not UTF-8, which no command is. The error is that
+/// memory ran out.
+fn words<R: Env + AllocGlobal>(rt: &R, alloc: Global) -> Result<Vec<String>, AllocError> {
+    let mut words = Vec::new(alloc);
+    match env::args(rt) {
+        Ok(given) => {
+            for word in given.skip(1) {
+                words.push(word)?;
+            }
+        }
+        Err(lost) => {
+            if lost.kind() == ErrorKind::OutOfMemory {
+                return Err(AllocError);
+            }
+        }
+    }
+    Ok(words)
+}
+
+fn main(rt: HostRuntime) -> ExitCode {
+    let alloc = rt.alloc();
+    let Ok(words) = words(&rt, alloc) else {
+        return ExitCode::from(6);
+    };
+    let Ok(mut buffered) = BufWriter::new(alloc, std::io::writer(&rt)) else {
+        return ExitCode::from(6);
+    };
+    let mut src = StdSource::new(rt.reader());
+    let mut out = StdSink::new(&mut buffered);
+    let status = dmalive(&rt, alloc, &words, &mut src, &mut out, &NoGate);
+    if status == 2 {
+        // A help beside the answer: where it can't be written, the status stays.
+        let _ = eprintln!(rt; "usage: dmalive run");
+    }
+    match buffered.flush() {
+        Ok(()) => ExitCode::from(status),
+        Err(_) => ExitCode::from(5),
+    }
+}
