@@ -116,11 +116,11 @@ fn events_of(tokens: &[String], hart: char) -> u64 {
     count
 }
 
-/// How many lines of the report begin with this.
-fn lines_with(report: &str, start: &str) -> usize {
+/// How many lines of the report begin with one of these.
+fn lines_with(report: &str, starts: &[&str]) -> usize {
     report
         .lines()
-        .filter(|line| line.starts_with(start))
+        .filter(|line| starts.iter().any(|start| line.starts_with(*start)))
         .count()
 }
 
@@ -163,20 +163,14 @@ fn two_pool_answers(rt: HostRuntime) -> Result<(), Fail> {
     };
     let report = told.report.as_str();
     assert_eq!(rt; told.status, 0);
-    assert_eq!(rt; lines_with(report, "ans 0 0 mapped "), 1);
-    assert_eq!(rt; lines_with(report, "ans 1 0 mapped "), 1);
-    let got_by_first = lines_with(report, "told 0 0 got") + lines_with(report, "told 0 1 got");
-    let got_by_second = lines_with(report, "told 1 0 got") + lines_with(report, "told 1 1 got");
-    assert_eq!(rt; (got_by_first, got_by_second), (1, 1));
-    assert_eq!(rt;
-        lines_with(report, "told 0 0 held") + lines_with(report, "told 0 1 held"),
-        0
-    );
-    assert_eq!(rt;
-        lines_with(report, "told 1 0 held") + lines_with(report, "told 1 1 held"),
-        0
-    );
-    assert_eq!(rt; lines_with(report, "try "), 0);
+    assert_eq!(rt; lines_with(report, &["ans 0 0 mapped "]), 1);
+    assert_eq!(rt; lines_with(report, &["ans 1 0 mapped "]), 1);
+    // Each driver is told once that it got a slot, never that the machine has it as another's, and none tries by itself.
+    assert_eq!(rt; lines_with(report, &["told 0 0 got", "told 0 1 got"]), 1);
+    assert_eq!(rt; lines_with(report, &["told 1 0 got", "told 1 1 got"]), 1);
+    assert_eq!(rt; lines_with(report, &["told 0 0 held", "told 0 1 held"]), 0);
+    assert_eq!(rt; lines_with(report, &["told 1 0 held", "told 1 1 held"]), 0);
+    assert_eq!(rt; lines_with(report, &["try "]), 0);
     assert!(rt; runs_again(alloc, TWO_SLOTS, &told)?);
     Ok(())
 }
@@ -189,9 +183,15 @@ fn one_slot_between_two(rt: HostRuntime) -> Result<(), Fail> {
         return Ok(());
     };
     let report = told.report.as_str();
-    let mapped = lines_with(report, "ans 0 0 mapped ") + lines_with(report, "ans 1 0 mapped ");
-    let missed = lines_with(report, "ans 0 0 noslot") + lines_with(report, "ans 1 0 noslot");
-    assert_eq!(rt; (told.status, mapped, missed), (0, 1, 1));
+    assert_eq!(rt; told.status, 0);
+    assert_eq!(rt;
+        lines_with(report, &["ans 0 0 mapped ", "ans 1 0 mapped "]),
+        1
+    );
+    assert_eq!(rt;
+        lines_with(report, &["ans 0 0 noslot", "ans 1 0 noslot"]),
+        1
+    );
     assert!(rt; runs_again(alloc, ONE_SLOT, &told)?);
     Ok(())
 }
