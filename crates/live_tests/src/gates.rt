@@ -7,6 +7,7 @@ use std::sync::atomic::{AtomicU64, Ordering};
 const LOOKS: u64 = 100_000_000;
 
 /// Holds the first turn of each of two drivers until that of the other was announced, and counts the turns of both.
+#[derive(Drop)]
 pub struct Meeting {
     first: AtomicU64,
     second: AtomicU64,
