@@ -1,11 +1,12 @@
--- For which accepted scenarios flat memory is followed through the operations of their scripts: through all but copies.
--- This project's own.
+-- For which accepted scenarios flat memory is followed through the operations of their scripts: for all but those with
+-- light fences whose scripts name a copy. This project's own.
 use Rattle.std.specs.Prelude.{◌≡◌, Bool, true, false, All}
 use Rattle.nc_ops.specs.declared.ops.Op.{Op}
 use Rattle.nc_ops.specs.declared.ops.Op.TheVariants.{Ld, St, Cbo, Fence, Map, Unmap, ToCpu, ToDev, MapSg, UnmapSg, Calloc, Cgive, Ctake, Cfree, Hand, Take, Claim, Free, Regs, Run, Poll, Regr, Regw, Copy}
 use Rattle.nc_scen.specs.declared.scenario.HartSpec.{HartSpec}
 use Rattle.nc_scen.specs.declared.scenario.Scenario.{Scenario}
 
+-- with light fences, all but a copy
 abbrev pub is_covered_op : Op → Bool
 is_covered_op (Ld spot off len) = true
 is_covered_op (St spot off bytes) = true
@@ -36,7 +37,7 @@ abbrev pub IsCoveredScript : HartSpec → Type 0
 IsCoveredScript h = All (λ o. is_covered_op o ≡ true) h.script
 
 pub record IsCovered (sc : Scenario) : Type 0 where
-  pub scripts : All IsCoveredScript sc.harts
+  pub scripts : sc.light ≡ true → All IsCoveredScript sc.harts
 
 -- the operation is one of those that lend and take back
 abbrev pub is_lending : Op → Bool
@@ -63,4 +64,4 @@ is_lending (Calloc label pages chan) = true
 is_lending (Cgive label) = true
 is_lending (Ctake label) = true
 is_lending (Cfree label) = true
-is_lending (Copy chan src src_off dst dst_off len cfg) = false
+is_lending (Copy chan src src_off dst dst_off len cfg) = true

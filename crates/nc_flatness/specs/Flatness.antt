@@ -40,6 +40,7 @@ use Rattle.nc_rows.specs.Rows.{Book, Row}
 use Rattle.nc_rows.specs.Parts.{Queued, Uncached, Lasts}
 use Rattle.nc_flatness.specs.Books.{book_of, mapping_in, LiesIn, IsPooled}
 use Rattle.nc_flatness.specs.Plans.{IsStill, PlanGoes, EndsOne}
+use Rattle.nc_flatness.specs.Copying.{CopyStands}
 use Rattle.nc_flatness.specs.Tokens.{TokenStands}
 
 -- ---- the world
@@ -61,12 +62,11 @@ pub record IsWorldOf (sc : Scenario) (w : WorldState) : Type 0 where
 
 -- ---- the drivers
 
--- all but an end of a copy
 abbrev pub is_mapping : Kind → Bool
 is_mapping kinds.Single = true
 is_mapping kinds.List = true
 is_mapping kinds.Area = true
-is_mapping kinds.Copy = false
+is_mapping kinds.Copy = true
 
 pub record IsMapping (lot : Lot) : Type 0 where
   pub kind : is_mapping lot.kind ≡ true
@@ -80,6 +80,7 @@ abbrev pub makes_kind : Op → Kind → Bool
 makes_kind (ops.Map label buf off len dir chan) kind = same_kind kinds.Single kind
 makes_kind (ops.MapSg label entries dir chan) kind = same_kind kinds.List kind
 makes_kind (ops.Calloc label pages chan) kind = same_kind kinds.Area kind
+makes_kind (ops.Copy chan src src_off dst dst_off len cfg) kind = same_kind kinds.Copy kind
 makes_kind _ kind = false
 
 abbrev pub IsMadeBy : Option Op → Lot → Type 0
@@ -127,7 +128,7 @@ PlanIs d (ops.Calloc label pages chan) = PlanLeft d
 PlanIs d (ops.Cgive label) = PlanLeft d
 PlanIs d (ops.Ctake label) = PlanLeft d
 PlanIs d (ops.Cfree label) = PlanLeft d
-PlanIs d (ops.Copy chan src src_off dst dst_off len cfg) = ⊥
+PlanIs d (ops.Copy chan src src_off dst dst_off len cfg) = PlanLeft d
 
 abbrev pub PlanOf : DriverState → Option Op → Type 0
 PlanOf d None = ⊥
@@ -169,6 +170,8 @@ pub record BytesStand (sc : Scenario) (f : List ℕ) (w : WorldState) : Type 0 w
   pub lasts : Lasts (book_of w) f w.machine
   -- with light fences alone there are tokens
   pub tokens : (h : ℕ) → h < length sc.harts → (driver_of w h).fixed.light ≡ true → All (TokenStands (driver_of w h).rest (queue_of w.machine h)) (driver_of w h).lots
+  -- a copy that is in hand
+  pub copying : (h : ℕ) → h < length sc.harts → CopyStands sc f w h
 
 pub record Flatness (sc : Scenario) (f : List ℕ) (w : WorldState) : Type 0 where
   pub world : IsWorldOf sc w

@@ -1,8 +1,11 @@
--- What is left of the plan of a mapping or an area, step by step: what each step is for, and that behind all of them each
--- lot of the hart is still. This project's own.
+-- What is left of the plan of a mapping, an area or a copy, step by step: what each step is for, and that behind all of them
+-- each lot of the hart is still. This project's own.
 use Rattle.std.specs.Prelude.{ℕ, ◌≡◌, ◌⊎◌, ◌≤◌, ◌+◌, ◌/◌, Bool, true, false, List, [], ◌∷◌, length, Some, None, All}
 use Rattle.std.specs.List.{list_any}
 use Rattle.nc_num.specs.Places.{covers}
+use Rattle.nc_num.specs.declared.names.ChanNo.{ChanNo}
+use Rattle.nc_num.specs.declared.names.Dir.{Dir}
+use Rattle.nc_num.specs.declared.names.Dir.TheVariants.{ToDev, FromDev}
 use Rattle.nc_num.specs.declared.names.MapId.{MapId}
 use Rattle.nc_num.specs.declared.names.MemType.TheVariants.{Pma}
 use Rattle.nc_num.specs.declared.places.Block.{Block}
@@ -18,7 +21,7 @@ use Rattle.nc_plan.specs.declared.ops.IoTarget.TheVariants as io
 use Rattle.nc_plan.specs.declared.ops.Payload.TheVariants.{Last}
 use Rattle.nc_sg.specs.Lists as sg
 use Rattle.nc_sg.specs.declared.list.Entry.{Entry}
-use Rattle.nc_rules.specs.declared.lots.Kind.TheVariants.{Single, Area}
+use Rattle.nc_rules.specs.declared.lots.Kind.TheVariants.{Single, Area, Copy}
 use Rattle.nc_rules.specs.declared.lots.Lot.{Lot}
 use Rattle.nc_rules.specs.declared.lots.LotId.{LotId}
 use Rattle.nc_rules.specs.declared.lots.Side.{Side}
@@ -28,8 +31,10 @@ use Rattle.nc_rules.specs.declared.steps.Step.{Step}
 use Rattle.nc_rules.specs.declared.steps.Turn.{Turn}
 use Rattle.nc_rules.specs.declared.steps.Turn.TheVariants as turns
 use Rattle.nc_rules.specs.Lots.{Fixed, is_lot}
-use Rattle.nc_rules.specs.Plans.{hart_step, turning}
-use Rattle.nc_rules.specs.Turns.{is_area, lots_after}
+use Rattle.nc_rules.specs.Copies.{source, target, copy_steps}
+use Rattle.nc_rules.specs.Plans.{hart_step, turning, control_step}
+use Rattle.nc_rules.specs.Plans.{step as no_turn}
+use Rattle.nc_rules.specs.Turns.{is_area, set_side, lots_after_both}
 use Rattle.nc_calls.specs.PlaceLaws.{drops_copies}
 use Rattle.nc_holds.specs.Held.{IsEntryOf}
 use Rattle.nc_rows.specs.Ahead.{ends, settling, coming, is_full}
@@ -45,12 +50,24 @@ pub data IsStill (f : Fixed) (lot : Lot) : Type 0 where
   StillOwn : lot.side ≡ sides.Own → lot.kind ≡ Area → IsStill f lot
   StillSent : lot.side ≡ sides.Lending → f.light ≡ true → IsStill f lot
 
--- the plan is of this lot, which is an area or none and has this side, and each other lot is still
+-- both ends of a copy are lent with its claim: the destination waits while the source is being lent
+pub record IsWaiting (lot other : Lot) : Type 0 where
+  pub source_is : lot.id ≡ source
+  pub lent : lot.side ≡ sides.Lending
+  pub target_is : other.id ≡ target
+  pub kind : other.kind ≡ Copy
+  pub waits : other.side ≡ sides.Lending
+
+-- a lot beside the one in hand is still, or it waits for it
+abbrev pub IsBeside : Fixed → Lot → Lot → Type 0
+IsBeside f lot other = IsStill f other ⊎ IsWaiting lot other
+
+-- the plan is of this lot, which is an area or none and has this side, and nothing is done to another
 pub record IsInHand (f : Fixed) (lots : List Lot) (lot : Lot) (area : Bool) (side : Side) : Type 0 where
   pub here : In lot lots
   pub area_is : is_area lot.kind ≡ area
   pub side_is : lot.side ≡ side
-  pub others : All (λ other. is_lot lot.id other ≡ false → IsStill f other) lots
+  pub others : All (λ other. is_lot lot.id other ≡ false → IsBeside f lot other) lots
 
 -- the range by which the channel sees an entry
 abbrev pub device_of : Fixed → Entry → Span
@@ -128,7 +145,7 @@ pub record IsStore (f : Fixed) (lots : List Lot) (s : Step) (rest : List Step) :
   pub within : IsWithin span from
   pub once : (y : ℕ) → covers (moved from.at to.at span) y ≡ true → HasByte f copied.lot.id rest y false
   pub next : LoadsFirst rest
-  pub last : (s.last ≡ turns.Stay) ⊎ (IsBack copied.lot.id s.last × (copied.lot.side ≡ sides.Returning) × (rest ≡ []))
+  pub last : (s.last ≡ turns.Stay) ⊎ (IsBack copied.lot.id s.last × (copied.lot.side ≡ sides.Returning))
 
 -- ---- cache operations
 
@@ -168,7 +185,7 @@ pub record IsGive (f : Fixed) (lots : List Lot) (s : Step) (rest : List Step) : 
   pub lot : Lot
   pub hand : IsInHand f lots lot false sides.Lending
   pub step : s ≡ turning (turns.Give lot.id) (hart_step full)
-  pub over : rest ≡ []
+  pub next : LoadsFirst rest
 
 -- what bounces comes out of its slot behind it
 pub record IsFence (f : Fixed) (lots : List Lot) (s : Step) (rest : List Step) : Type 0 where
@@ -186,7 +203,7 @@ pub record IsEnd (f : Fixed) (lots : List Lot) (s : Step) (rest : List Step) : T
   pub turn : Turn
   pub is_back : IsBack lot.id turn
   pub step : s ≡ turning turn (hart_step full)
-  pub over : rest ≡ []
+  pub next : LoadsFirst rest
   pub straight : comes_back lot.list.dir ≡ true → All (λ e. e.bounced ≡ false) lot.list.entries
 
 -- ---- areas
@@ -263,6 +280,67 @@ pub record IsPost (f : Fixed) (lots : List Lot) (s : Step) (rest : List Step) : 
   pub step : s ≡ token_step lot
   pub over : rest ≡ []
 
+-- ---- copies by a channel
+
+-- the lot is this end of a copy by the channel
+pub record IsCopyEnd (lots : List Lot) (lot : Lot) (id : LotId) (dir : Dir) (chan : ChanNo) : Type 0 where
+  pub here : In lot lots
+  pub id_is : lot.id ≡ id
+  pub kind : lot.kind ≡ Copy
+  pub dir_is : lot.list.dir ≡ dir
+  pub chan_is : lot.chan ≡ chan
+
+-- the channel is claimed, and both ends are lent with it; the rest of the copy's plan comes behind it
+pub record IsClaim (f : Fixed) (lots : List Lot) (s : Step) (rest : List Step) : Type 0 where
+  pub chan : ChanNo
+  pub config : ℕ
+  pub reads : Lot
+  pub writes : Lot
+  pub source_is : IsCopyEnd lots reads source ToDev chan
+  pub target_is : IsCopyEnd lots writes target FromDev chan
+  pub wanted : (reads.side ≡ sides.Wanted) × (writes.side ≡ sides.Wanted)
+  pub others : All (λ other. is_lot source other ≡ false → is_lot target other ≡ false → IsStill f other) lots
+  pub steps : s ∷ rest ≡ copy_steps f chan config reads writes
+
+-- a register of the channel is stored to
+pub record IsRegister (f : Fixed) (lots : List Lot) (s : Step) (rest : List Step) : Type 0 where
+  pub chan : ChanNo
+  pub off : ℕ
+  pub width : ℕ
+  pub value : ℕ
+  pub step : s ≡ hart_step (hart_ops.IoStore (io.Reg chan off width value))
+  pub still : All (IsStill f) lots
+  pub next : LoadsFirst rest
+
+-- the channel is polled, and released next
+pub record IsPoll (f : Fixed) (lots : List Lot) (s : Step) (rest : List Step) : Type 0 where
+  pub chan : ChanNo
+  pub step : s ≡ no_turn (acts.Poll chan)
+  pub still : All (IsStill f) lots
+  pub more : List Step
+  pub release : rest ≡ control_step chan 0 ∷ more
+
+-- an end is taken back with this step, which goes on with it as that of a lot that is taken back
+pub record IsTaken (lots : List Lot) (lot : Lot) (s : Step) : Type 0 where
+  pub here : In lot lots
+  pub kind : lot.kind ≡ Copy
+  pub side : lot.side ≡ sides.Device
+  pub first : s.first ≡ turns.Return lot.id
+
+-- the destination, with the drop of its first block
+pub record IsTakeTarget (f : Fixed) (lots : List Lot) (s : Step) (rest : List Step) : Type 0 where
+  pub lot : Lot
+  pub taken : IsTaken lots lot s
+  pub goes : IsDrop f (set_side sides.Returning lot.id lots) (record s { first = turns.Stay }) rest
+  pub same : goes.lot ≡ record lot { side = sides.Returning }
+
+-- the source, which ends with the same step
+pub record IsTakeSource (f : Fixed) (lots : List Lot) (s : Step) (rest : List Step) : Type 0 where
+  pub lot : Lot
+  pub taken : IsTaken lots lot s
+  pub goes : IsEnd f (set_side sides.Returning lot.id lots) (record s { first = turns.Stay }) rest
+  pub same : goes.lot ≡ record lot { side = sides.Returning }
+
 -- ---- all steps
 
 pub data StepGoes (f : Fixed) (lots : List Lot) (s : Step) (rest : List Step) : Type 0 where
@@ -280,10 +358,15 @@ pub data StepGoes (f : Fixed) (lots : List Lot) (s : Step) (rest : List Step) : 
   TakesBack : IsTakeBack f lots s rest → StepGoes f lots s rest
   Marks : IsMark f lots s rest → StepGoes f lots s rest
   Posts : IsPost f lots s rest → StepGoes f lots s rest
+  Claims : IsClaim f lots s rest → StepGoes f lots s rest
+  Registers : IsRegister f lots s rest → StepGoes f lots s rest
+  Polls : IsPoll f lots s rest → StepGoes f lots s rest
+  TakesTarget : IsTakeTarget f lots s rest → StepGoes f lots s rest
+  TakesSource : IsTakeSource f lots s rest → StepGoes f lots s rest
 
 abbrev pub PlanGoes : Fixed → List Lot → List Step → Type 0
 PlanGoes f lots [] = All (IsStill f) lots
-PlanGoes f lots (s ∷ rest) = StepGoes f lots s rest × PlanGoes f (lots_after s.last lots) rest
+PlanGoes f lots (s ∷ rest) = StepGoes f lots s rest × PlanGoes f (lots_after_both s.first s.last lots) rest
 
 -- it ends the stay of the lots of one label alone
 abbrev pub EndsOne : List Step → Type 0

@@ -1,8 +1,12 @@
 -- What one event does to flat memory, as statements.
-use Rattle.std.specs.Prelude.{ℕ, ◌≡◌, ◌⊎◌, Bool, true, false, List, ◌∷◌, length, Some}
+use Rattle.std.specs.Prelude.{ℕ, ◌≡◌, ◌⊎◌, Bool, true, false, List, [], ◌∷◌, length, Some}
 use Rattle.nc_num.specs.declared.names.ChanNo.{ChanNo}
 use Rattle.nc_num.specs.declared.names.HartNo.{HartNo}
 use Rattle.nc_num.specs.declared.places.Block.{Block}
+use Rattle.nc_plan.specs.declared.ops.HartOp.{HartOp}
+use Rattle.nc_plan.specs.declared.ops.HartOp.TheVariants as hart_ops
+use Rattle.nc_plan.specs.declared.ops.IoTarget.{IoTarget}
+use Rattle.nc_plan.specs.declared.ops.IoTarget.TheVariants as io
 use Rattle.nc_model.specs.Flat.{Mark, Touched, Latest, Untouched, flat, deeds}
 use Rattle.nc_scen.specs.Accepted.{IsAccepted}
 use Rattle.nc_scen.specs.Events.{IsThere}
@@ -14,7 +18,10 @@ use Rattle.nc_rules.specs.Flat.{event_marks}
 use Rattle.nc_rules.specs.Next.{next}
 use Rattle.nc_rules.specs.Start.{memory}
 use Rattle.nc_ops.specs.declared.ops.Op.{Op}
+use Rattle.nc_rules.specs.declared.steps.Act.{Act}
+use Rattle.nc_rules.specs.declared.steps.Act.TheVariants as acts
 use Rattle.nc_rules.specs.declared.steps.Phase.TheVariants.{Steps, Work}
+use Rattle.nc_rules.specs.declared.steps.Step.{Step}
 use Rattle.nc_rules.specs.Driver.{in_hand}
 use Rattle.nc_rules.specs.World.{WorldState, driver_of, start}
 use Rattle.nc_flatness.specs.Covered.{IsCovered, is_lending}
@@ -81,11 +88,52 @@ pub record StartsAreFlat : Type 0 where
   pub tried : (sc : Scenario) (f : List ℕ) (w : WorldState) (h : HartNo) → IsNow sc f w (events.Try h) → Goes sc f w (events.Try h)
   pub told : (sc : Scenario) (f : List ℕ) (w : WorldState) (h : HartNo) (got : Bool) → IsNow sc f w (events.Told h got) → Goes sc f w (events.Told h got)
 
--- a step of its plan
-abbrev pub PlansAreFlat : Type 0
-PlansAreFlat =
+-- what the next step of a plan is: the claim of a copy, a step of its channel's registers, or one of lots
+pub data StepKind : Type 0 where
+  OfClaim : StepKind
+  OfChannel : StepKind
+  OfLots : StepKind
+
+abbrev pub kind_of_target : IoTarget → StepKind
+kind_of_target (io.Reg chan off width value) = OfChannel
+kind_of_target (io.Mail buf to) = OfLots
+kind_of_target (io.Lend label first count) = OfLots
+
+abbrev pub kind_of_op : HartOp → StepKind
+kind_of_op (hart_ops.IoStore target) = kind_of_target target
+kind_of_op (hart_ops.Load span kind) = OfLots
+kind_of_op (hart_ops.Store span kind bytes) = OfLots
+kind_of_op (hart_ops.Cbo op block) = OfLots
+kind_of_op (hart_ops.Fence pred succ) = OfLots
+kind_of_op (hart_ops.IoLoad chan off width) = OfLots
+kind_of_op (hart_ops.Mark pred succ) = OfLots
+
+abbrev pub kind_of_act : Act → StepKind
+kind_of_act (acts.Op op) = kind_of_op op
+kind_of_act (acts.Claim chan) = OfClaim
+kind_of_act (acts.Poll chan) = OfChannel
+kind_of_act (acts.Take buf) = OfLots
+
+abbrev pub kind_of_next : List Step → StepKind
+kind_of_next [] = OfLots
+kind_of_next (s ∷ rest) = kind_of_act s.act
+
+-- a step of a plan, of this kind
+abbrev pub PlanSteps : StepKind → Type 0
+PlanSteps kind =
     (sc : Scenario) (f : List ℕ) (w : WorldState) (h : HartNo) (o : Op) → IsNow sc f w (events.Issue h) → in_hand (driver_of w h.0) ≡ Some o → is_lending o ≡ true → (driver_of w h.0).phase ≡ Work
-    → Goes sc f w (events.Issue h)
+    → kind_of_next (driver_of w h.0).rest ≡ kind → Goes sc f w (events.Issue h)
+
+abbrev pub PlansAreFlat : Type 0
+PlansAreFlat = PlanSteps OfLots
+
+-- the claim of a copy, with which both ends are lent, or which finds its channel granted
+abbrev pub ClaimsAreFlat : Type 0
+ClaimsAreFlat = PlanSteps OfClaim
+
+-- its channel is set up, started, polled and released
+abbrev pub TransfersAreFlat : Type 0
+TransfersAreFlat = PlanSteps OfChannel
 
 -- every event
 abbrev pub EachGoes : Type 0
