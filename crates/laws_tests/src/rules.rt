@@ -12,10 +12,7 @@ use nc_refusals::{
 };
 use nc_replay::{lines_law, replay_text_law};
 use nc_sched::replay_law;
-use nc_scripts::{
-    drivers_stay, every_driver_begins, every_driver_stays, first_drivers, last_loads_follow,
-    new_lots_are_free,
-};
+use nc_scripts::{every_driver_begins, every_driver_stays, last_loads_follow, new_lots_are_free};
 use nc_slot_laws::{noslot_law, slots_law};
 use nc_transfers::{
     copies_go_on, copies_read, copies_set_up, copies_stay_within, copies_tell, copies_write,
@@ -33,8 +30,6 @@ fn laws_are_called() {
     channels_by_place();
     views_stay();
     queues_keep_order();
-    first_drivers();
-    drivers_stay();
     every_driver_begins();
     every_driver_stays();
     last_loads_follow();

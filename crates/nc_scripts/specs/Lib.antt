@@ -1,4 +1,3 @@
-pub mod Covered
 pub mod Scripts
 pub mod Drivers
 pub mod NewLots
