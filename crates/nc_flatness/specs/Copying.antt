@@ -1,6 +1,6 @@
 -- A copy by a channel that a hart has in hand: its ends, how far its channel is while the poll is to come, and what the poll
 -- saw. This project's own.
-use Rattle.std.specs.Prelude.{ℕ, ◌≡◌, ◌≢◌, ◌<◌, ◌/◌, ◌%◌, ◌^◌, ◌==◌, ◌&&◌, not, Bool, true, false, List, [], ◌∷◌, ◌++◌, filter, flat_map, drop, Some, Ok, All}
+use Rattle.std.specs.Prelude.{ℕ, ◌≡◌, ◌⊎◌, ◌<◌, ◌/◌, ◌%◌, ◌^◌, ◌==◌, ◌&&◌, not, Bool, true, false, List, [], ◌∷◌, ◌++◌, filter, flat_map, drop, Some, Ok, All}
 use Rattle.std.specs.List.{list_any}
 use Rattle.nc_num.specs.Places.{covers}
 use Rattle.nc_num.specs.declared.names.ChanNo.{ChanNo}
@@ -9,7 +9,8 @@ use Rattle.nc_num.specs.declared.names.Dir.TheVariants.{ToDev, FromDev}
 use Rattle.nc_num.specs.declared.places.Span.{Span}
 use Rattle.nc_queue.specs.declared.entry.Entry.{Entry as QueueEntry}
 use Rattle.nc_queue.specs.declared.entry.Entry.TheVariants as entries
-use Rattle.nc_model.specs.declared.owners.Owner.TheVariants.{Thread}
+use Rattle.nc_model.specs.declared.owners.Owner.{Owner}
+use Rattle.nc_model.specs.declared.owners.Owner.TheVariants.{Thread, Passing, Lending, Device, Returning, Synced, Pool}
 use Rattle.nc_sg.specs.declared.list.Entry.{Entry}
 use Rattle.nc_ops.specs.declared.ops.Op.{Op}
 use Rattle.nc_ops.specs.declared.ops.Op.TheVariants as ops
@@ -32,6 +33,7 @@ use Rattle.nc_rules.specs.Refusals.{buffer_of, part_of}
 use Rattle.nc_rules.specs.Watched.{owner_of}
 use Rattle.nc_rules.specs.World.{WorldState, driver_of, hart}
 use Rattle.nc_scripts.specs.Drivers.{is_claim}
+use Rattle.nc_holds.specs.Held.{SharesNone}
 use Rattle.nc_rows.specs.Ahead.{op_coming, act_coming}
 use Rattle.nc_transfers.specs.Transfers.{Ends, AreEnds, register_stores, IsCopying}
 use Rattle.nc_flatness.specs.Plans.{device_of, IsCopyEnd}
@@ -143,6 +145,16 @@ pub record IsUnderWay (sc : Scenario) (f : List ℕ) (w : WorldState) (h : ℕ) 
 
 -- ---- the whole
 
+-- the hart's own, or lent by it for the copy
+abbrev pub IsItsOwn : ℕ → Owner → Type 0
+IsItsOwn h (Thread g) = g.0 ≡ h
+IsItsOwn h (Lending n) = (n.hart.0 ≡ h) × (n.label.0 ≡ 1000)
+IsItsOwn h (Device n) = (n.hart.0 ≡ h) × (n.label.0 ≡ 1000)
+IsItsOwn h (Returning n) = (n.hart.0 ≡ h) × (n.label.0 ≡ 1000)
+IsItsOwn h (Passing g k) = ⊥
+IsItsOwn h (Synced n) = ⊥
+IsItsOwn h Pool = ⊥
+
 -- what the poll saw: the error bit of Control is not set
 pub record SawDone (saw : Seen) : Type 0 where
   pub control : ℕ
@@ -159,8 +171,8 @@ pub record IsCopyNow (sc : Scenario) (f : List ℕ) (w : WorldState) (h : ℕ) (
   pub under : transfers (driver_of w h).rest ≡ true → IsUnderWay sc f w h k from to
   -- behind the poll
   pub polled : (driver_of w h).phase ≡ Work → polls (driver_of w h).rest ≡ false → SawDone (driver_of w h).saw
-  -- once the destination is back, it is the hart's own
-  pub home : (driver_of w h).phase ≡ Work → list_any (is_lot target) (driver_of w h).lots ≡ false → (x : ℕ) → covers to x ≡ true → owner_of w x ≡ Thread (hart h)
+  pub apart : SharesNone from to
+  pub owned : (x : ℕ) → (covers from x ≡ true) ⊎ (covers to x ≡ true) → IsItsOwn h (owner_of w x)
 
 -- its start step is made
 abbrev pub IsBegun : Phase → Type 0

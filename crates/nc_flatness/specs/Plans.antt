@@ -301,6 +301,7 @@ pub record IsClaim (f : Fixed) (lots : List Lot) (s : Step) (rest : List Step) :
   pub wanted : (reads.side ≡ sides.Wanted) × (writes.side ≡ sides.Wanted)
   pub others : All (λ other. is_lot source other ≡ false → is_lot target other ≡ false → IsStill f other) lots
   pub steps : s ∷ rest ≡ copy_steps f chan config reads writes
+  pub next : LoadsFirst rest
 
 -- a register of the channel is stored to
 pub record IsRegister (f : Fixed) (lots : List Lot) (s : Step) (rest : List Step) : Type 0 where
@@ -312,11 +313,15 @@ pub record IsRegister (f : Fixed) (lots : List Lot) (s : Step) (rest : List Step
   pub still : All (IsStill f) lots
   pub next : LoadsFirst rest
 
--- the channel is polled, and released next
+-- the channel, which has both ends, is polled, and released next
 pub record IsPoll (f : Fixed) (lots : List Lot) (s : Step) (rest : List Step) : Type 0 where
   pub chan : ChanNo
   pub step : s ≡ no_turn (acts.Poll chan)
   pub still : All (IsStill f) lots
+  pub reads : Lot
+  pub writes : Lot
+  pub source_is : IsCopyEnd lots reads source ToDev chan
+  pub target_is : IsCopyEnd lots writes target FromDev chan
   pub more : List Step
   pub release : rest ≡ control_step chan 0 ∷ more
 
