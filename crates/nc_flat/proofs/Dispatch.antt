@@ -13,7 +13,7 @@ use Rattle.nc_rules.specs.Driver.{DriverState, in_hand, next_in, next_of_op, nex
 use Rattle.nc_rules.specs.Events.{enabled, may_go_on, is_out}
 use Rattle.nc_rules.specs.World.{WorldState, driver_of}
 use Rattle.nc_flatness.specs.Covered.{is_lending}
-use Rattle.nc_flatness.specs.Steps.{IsNow, Goes, MovesAreFlat, StepsAreFlat, StartsAreFlat, PlansAreFlat, EachGoes}
+use Rattle.nc_flatness.specs.Steps.{IsNow, Goes, StepKind, OfClaim, OfChannel, OfLots, kind_of_next, MovesAreFlat, StepsAreFlat, StartsAreFlat, PlansAreFlat, ClaimsAreFlat, TransfersAreFlat, EachGoes}
 
 -- ---- a driver that makes no step: at its end, and where it searches for a slot
 
@@ -37,26 +37,41 @@ search_stays w h o k hand phase may = false≢true (may_next w h (nexts.Search k
 
 -- ---- by kind
 
+-- what is proved of a hart's own steps
+pub record IssuesAreFlat : Type 0 where
+  pub steps : StepsAreFlat
+  pub starts : StartsAreFlat
+  pub plans : PlansAreFlat
+  pub claims : ClaimsAreFlat
+  pub transfers : TransfersAreFlat
+
+-- a step of a plan
+plan_by : (sc : Scenario) (f : List ℕ) (w : WorldState) (h : HartNo) (o : Op) (k : StepKind) → IssuesAreFlat → IsNow sc f w (events.Issue h) → in_hand (driver_of w h.0) ≡ Some o → is_lending o ≡ true → (driver_of w h.0).phase ≡ Work
+    → kind_of_next (driver_of w h.0).rest ≡ k → Goes sc f w (events.Issue h)
+plan_by sc f w h o OfClaim laws now hand is phase kind = laws.claims sc f w h o now hand is phase kind
+plan_by sc f w h o OfChannel laws now hand is phase kind = laws.transfers sc f w h o now hand is phase kind
+plan_by sc f w h o OfLots laws now hand is phase kind = laws.plans sc f w h o now hand is phase kind
+
 -- an operation that lends or takes back
-lending_in : (sc : Scenario) (f : List ℕ) (w : WorldState) (h : HartNo) (o : Op) (p : Phase) → StartsAreFlat → PlansAreFlat → IsNow sc f w (events.Issue h) → in_hand (driver_of w h.0) ≡ Some o → is_lending o ≡ true → (driver_of w h.0).phase ≡ p → Goes sc f w (events.Issue h)
-lending_in sc f w h o (Steps n) starts plans now hand is phase = starts.start sc f w h o n now hand is phase
-lending_in sc f w h o (Search k) starts plans now hand is phase = absurd (search_stays w h o k hand phase now.may)
-lending_in sc f w h o Work starts plans now hand is phase = plans sc f w h o now hand is phase
+lending_in : (sc : Scenario) (f : List ℕ) (w : WorldState) (h : HartNo) (o : Op) (p : Phase) → IssuesAreFlat → IsNow sc f w (events.Issue h) → in_hand (driver_of w h.0) ≡ Some o → is_lending o ≡ true → (driver_of w h.0).phase ≡ p → Goes sc f w (events.Issue h)
+lending_in sc f w h o (Steps n) laws now hand is phase = laws.starts.start sc f w h o n now hand is phase
+lending_in sc f w h o (Search k) laws now hand is phase = absurd (search_stays w h o k hand phase now.may)
+lending_in sc f w h o Work laws now hand is phase = plan_by sc f w h o (kind_of_next (driver_of w h.0).rest) laws now hand is phase refl
 
-issue_by : (sc : Scenario) (f : List ℕ) (w : WorldState) (h : HartNo) (o : Op) (t : Bool) → StepsAreFlat → StartsAreFlat → PlansAreFlat → IsNow sc f w (events.Issue h) → in_hand (driver_of w h.0) ≡ Some o → is_lending o ≡ t → Goes sc f w (events.Issue h)
-issue_by sc f w h o false steps starts plans now hand is = steps sc f w h o now hand is
-issue_by sc f w h o true steps starts plans now hand is = lending_in sc f w h o (driver_of w h.0).phase starts plans now hand is refl
+issue_by : (sc : Scenario) (f : List ℕ) (w : WorldState) (h : HartNo) (o : Op) (t : Bool) → IssuesAreFlat → IsNow sc f w (events.Issue h) → in_hand (driver_of w h.0) ≡ Some o → is_lending o ≡ t → Goes sc f w (events.Issue h)
+issue_by sc f w h o false laws now hand is = laws.steps sc f w h o now hand is
+issue_by sc f w h o true laws now hand is = lending_in sc f w h o (driver_of w h.0).phase laws now hand is refl
 
-issue_of : (sc : Scenario) (f : List ℕ) (w : WorldState) (h : HartNo) (o : Option Op) → StepsAreFlat → StartsAreFlat → PlansAreFlat → IsNow sc f w (events.Issue h) → in_hand (driver_of w h.0) ≡ o → Goes sc f w (events.Issue h)
-issue_of sc f w h None steps starts plans now hand = absurd (end_stays w h hand now.may)
-issue_of sc f w h (Some o) steps starts plans now hand = issue_by sc f w h o (is_lending o) steps starts plans now hand refl
+issue_of : (sc : Scenario) (f : List ℕ) (w : WorldState) (h : HartNo) (o : Option Op) → IssuesAreFlat → IsNow sc f w (events.Issue h) → in_hand (driver_of w h.0) ≡ o → Goes sc f w (events.Issue h)
+issue_of sc f w h None laws now hand = absurd (end_stays w h hand now.may)
+issue_of sc f w h (Some o) laws now hand = issue_by sc f w h o (is_lending o) laws now hand refl
 
-pub each_goes : MovesAreFlat → StepsAreFlat → StartsAreFlat → PlansAreFlat → EachGoes
-each_goes moves steps starts plans sc f w (events.Issue h) now = issue_of sc f w h (in_hand (driver_of w h.0)) steps starts plans now refl
-each_goes moves steps starts plans sc f w (events.Try h) now = starts.tried sc f w h now
-each_goes moves steps starts plans sc f w (events.Told h got) now = starts.told sc f w h got now
-each_goes moves steps starts plans sc f w (events.Drain h i) now = moves.drain sc f w h i now
-each_goes moves steps starts plans sc f w (events.Fill h b) now = moves.fill sc f w h b now
-each_goes moves steps starts plans sc f w (events.Evict h b) now = moves.evict sc f w h b now
-each_goes moves steps starts plans sc f w (events.ChanRead chan) now = moves.read sc f w chan now
-each_goes moves steps starts plans sc f w (events.ChanWrite chan) now = moves.write sc f w chan now
+pub each_goes : MovesAreFlat → IssuesAreFlat → EachGoes
+each_goes moves laws sc f w (events.Issue h) now = issue_of sc f w h (in_hand (driver_of w h.0)) laws now refl
+each_goes moves laws sc f w (events.Try h) now = laws.starts.tried sc f w h now
+each_goes moves laws sc f w (events.Told h got) now = laws.starts.told sc f w h got now
+each_goes moves laws sc f w (events.Drain h i) now = moves.drain sc f w h i now
+each_goes moves laws sc f w (events.Fill h b) now = moves.fill sc f w h b now
+each_goes moves laws sc f w (events.Evict h b) now = moves.evict sc f w h b now
+each_goes moves laws sc f w (events.ChanRead chan) now = moves.read sc f w chan now
+each_goes moves laws sc f w (events.ChanWrite chan) now = moves.write sc f w chan now
