@@ -5,6 +5,7 @@ pub mod ScriptCalls
 pub mod OwnPlaces
 pub mod StillLots
 pub mod LastLoads
+pub mod OtherCopies
 pub mod StepFrames
 pub mod ActRows
 pub mod OpActs
