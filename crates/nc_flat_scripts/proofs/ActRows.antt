@@ -6,6 +6,7 @@ use Rattle.std.proofs.lemmas.Bool.{cases_eq, false≢true}
 use Rattle.std.proofs.lemmas.List.Elements.{All-push}
 use Rattle.nc_num.specs.Memory.{byte}
 use Rattle.nc_num.specs.Places.{covers, block_at}
+use Rattle.nc_num.specs.declared.names.MapId.{MapId}
 use Rattle.nc_num.specs.declared.names.MemType.{MemType}
 use Rattle.nc_num.specs.declared.names.MemType.TheVariants.{Pma}
 use Rattle.nc_num.specs.declared.places.Span.{Span}
@@ -33,7 +34,7 @@ use Rattle.nc_rows.specs.Places.{PoolRow, CalmRow}
 use Rattle.nc_rows.specs.Parts.{IsQueued, Queued, Uncached, rest_last}
 use Rattle.nc_rows.proofs.PlaceFrames.{of_same}
 use Rattle.nc_rows.proofs.Kept.{rows_keep}
-use Rattle.nc_row_issues.specs.Laws.{Enters, IsOwn}
+use Rattle.nc_row_issues.specs.Laws.{Enters, IsOwn, IsSyncedOf}
 use Rattle.nc_row_issues.proofs.RowIssues.{rows_issue}
 use Rattle.nc_flatness.specs.Books.{book_of}
 use Rattle.nc_flatness.specs.Copying.{IsItsOwn, CopyStands}
@@ -201,13 +202,17 @@ entry_calm sc f w k h e z flat by own on calm =
     calm_at k v z (rows_issue.passed (book_of w) Pool v w.machine k h e z by (unowned_none (book_of w) (owner_of w) w.machine.size h e z own (subst IsUnowned (sym (flat.bytes.slotted z on)) tt)) calm)
 
 -- what is another hart's own, it does not give
+not_synced : (o : Option Loan) (h k : ℕ) (n : MapId) → k ≢ h → n.hart.0 ≡ k → IsSyncedOf h n o → ⊥
+not_synced None h k n ne its own = own
+not_synced (Some l) h k n ne its own = ne (sym its ∙ own)
+
 pub not_anothers : (a : Book) (h k : ℕ) (o : Owner) → k ≢ h → IsItsOwn k o → IsOwn a h o → ⊥
 not_anothers a h k (Thread g) ne its own = ne (sym its ∙ own)
 not_anothers a h k (Passing g j) ne its own = its
 not_anothers a h k (Lending n) ne its own = own
 not_anothers a h k (Device n) ne its own = own
 not_anothers a h k (Returning n) ne its own = own
-not_anothers a h k (Synced n) ne its own = its
+not_anothers a h k (Synced n) ne its own = not_synced (a.loan n) h k n ne its.0 own
 not_anothers a h k Pool ne its own = its
 
 given_away : (a : Book) (owner : ℕ → Owner) (s h k x : ℕ) (e : Entry) → k ≢ h → GivesOwn a owner s h e → IsItsOwn k (owner x) → entry_gives s e x ≡ None
