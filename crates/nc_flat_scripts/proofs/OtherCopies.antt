@@ -3,7 +3,6 @@ use Rattle.std.specs.Prelude.{Option, Some, None, Bool, true, false, if◌then�
 use Rattle.std.proofs.Common.{◌≡◌, ◌≢◌, ℕ, ◌+◌, ◌<◌, List, refl, sym, ap, ◌∙◌, inl, inr, subst, arith}
 use Rattle.nc_num.specs.Memory.{byte}
 use Rattle.nc_num.specs.Places.{covers}
-use Rattle.nc_num.specs.declared.names.ChanNo.{ChanNo}
 use Rattle.nc_num.specs.declared.names.Dir.TheVariants.{ToDev, FromDev}
 use Rattle.nc_num.specs.declared.names.HartNo.{HartNo}
 use Rattle.nc_num.specs.declared.places.Span.{Span}
