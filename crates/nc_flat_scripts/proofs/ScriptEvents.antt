@@ -103,7 +103,7 @@ claim_is : (w : WorldState) (h : HartNo) (chan : ChanNo) → step_outcome w h (n
 unfolding step_outcome claim_outcome
 claim_is w h chan = refl
 
-poll_is : (w : WorldState) (h : HartNo) (chan : ChanNo) → step_outcome w h (nexts.Poll chan) ≡ goes w h w.machine (done (driver_of w h.0) (seen.Control (control_of w.machine chan.0))) w.slots (poll_touch w h chan) []
+pub poll_is : (w : WorldState) (h : HartNo) (chan : ChanNo) → step_outcome w h (nexts.Poll chan) ≡ goes w h w.machine (done (driver_of w h.0) (seen.Control (control_of w.machine chan.0))) w.slots (poll_touch w h chan) []
 unfolding step_outcome poll_outcome
 poll_is w h chan = refl
 

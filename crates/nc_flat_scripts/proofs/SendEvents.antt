@@ -105,7 +105,7 @@ mail_goes sc f w h buf to here hand phase rest still nx =
       owners = goes.transfers;
     })
 
-next_work : (d : DriverState) (o : Op) (rest : List Step) → in_hand d ≡ Some o → d.phase ≡ Work → d.rest ≡ rest → next_of d ≡ next_rest rest
+pub next_work : (d : DriverState) (o : Op) (rest : List Step) → in_hand d ≡ Some o → d.phase ≡ Work → d.rest ≡ rest → next_of d ≡ next_rest rest
 unfolding next_of
 next_work d o rest hand phase is = ap (next_of_op d) hand ∙ ap (next_in d o) phase ∙ ap next_rest is
 
