@@ -21,7 +21,7 @@ use Rattle.nc_rules.specs.Driver.{DriverState, Went, in_hand}
 use Rattle.nc_rules.specs.Lots.{Fixed}
 use Rattle.nc_rules.specs.Machine.{MachineState, queue_of, channel_of, grantee_of}
 use Rattle.nc_rules.specs.Watched.{owner_of}
-use Rattle.nc_rules.specs.World.{WorldState, driver_of, hart}
+use Rattle.nc_rules.specs.World.{WorldState, driver_of}
 use Rattle.nc_scripts.specs.Drivers.{is_claim}
 use Rattle.nc_rows.specs.Ahead.{act_coming}
 use Rattle.nc_transfers.specs.Transfers.{IsCopying}

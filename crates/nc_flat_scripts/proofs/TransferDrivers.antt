@@ -1,5 +1,5 @@
 -- A driver that makes a step of its plan which turns nothing.
-use Rattle.std.specs.Prelude.{Option, Some, None, true, false, All}
+use Rattle.std.specs.Prelude.{Option, Some, None, true, All}
 use Rattle.std.proofs.Common.{◌≡◌, List, [], ◌∷◌, refl, sym, ap, ◌∙◌, subst}
 use Rattle.std.proofs.lemmas.Bool.{false≢true}
 use Rattle.nc_ops.specs.declared.ops.Op.{Op}

@@ -1,5 +1,5 @@
 -- The poll of a copy: its channel is done with no error, and the destination has the source's bytes.
-use Rattle.std.specs.Prelude.{Bool, true, false, not, All, drop}
+use Rattle.std.specs.Prelude.{Bool, true, false, not, drop}
 use Rattle.std.specs.List.{list_any}
 use Rattle.std.proofs.Common.{◌≡◌, ℕ, zero, suc, ◌<◌, List, [], ◌∷◌, ◌++◌, refl, sym, ap, ◌∙◌, subst, arith}
 use Rattle.std.proofs.lemmas.Bool.{and_parts, and_from, or_parts, or_from, false≢true}
