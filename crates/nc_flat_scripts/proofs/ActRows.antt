@@ -6,6 +6,7 @@ use Rattle.std.proofs.lemmas.Bool.{cases_eq, false≢true}
 use Rattle.std.proofs.lemmas.List.Elements.{All-push}
 use Rattle.nc_num.specs.Memory.{byte}
 use Rattle.nc_num.specs.Places.{covers, block_at}
+use Rattle.nc_num.specs.declared.names.MapId.{MapId}
 use Rattle.nc_num.specs.declared.names.MemType.{MemType}
 use Rattle.nc_num.specs.declared.names.MemType.TheVariants.{Pma}
 use Rattle.nc_num.specs.declared.places.Span.{Span}
@@ -33,14 +34,17 @@ use Rattle.nc_rows.specs.Places.{PoolRow, CalmRow}
 use Rattle.nc_rows.specs.Parts.{IsQueued, Queued, Uncached, rest_last}
 use Rattle.nc_rows.proofs.PlaceFrames.{of_same}
 use Rattle.nc_rows.proofs.Kept.{rows_keep}
-use Rattle.nc_row_issues.specs.Laws.{Enters, IsOwn}
+use Rattle.nc_row_issues.specs.Laws.{Enters, IsOwn, IsSyncedOf}
 use Rattle.nc_row_issues.proofs.RowIssues.{rows_issue}
 use Rattle.nc_flatness.specs.Books.{book_of}
+use Rattle.nc_flatness.specs.Copying.{IsItsOwn, CopyStands}
 use Rattle.nc_flatness.specs.Flatness.{Flatness}
 use Rattle.nc_flatness.specs.Tokens.{is_lot_token, TokenStands}
+use Rattle.nc_flatness.proofs.Outcomes.{ran}
 use Rattle.nc_flat_scripts.specs.Entering.{GivesOwn, IsPlain, IsNoMail, IsUnowned, LoanIsApart, OwnerIsApart}
 use Rattle.nc_flat_scripts.proofs.EntryRows.{Comes, row_entered, unowned_own, unowned_none}
 use Rattle.nc_flat_scripts.proofs.LastLoads.{LastStays, lasts_stay, lasts_keep}
+use Rattle.nc_flat_scripts.proofs.OtherCopies.{CopiesNone, steps_copy_none, none_stands, KeepsCopy, devices_keep, copy_kept}
 use Rattle.nc_flat_scripts.proofs.OwnPlaces.{apart_at}
 use Rattle.nc_flat_scripts.proofs.ScriptCalls.{IsIdle}
 use Rattle.nc_flat_scripts.proofs.StillLots.{none_ends, posted_at}
@@ -58,6 +62,7 @@ stands_now sc f w flat = record {
   unfenced = flat.bytes.unfenced;
   tokens = flat.bytes.tokens;
   lasts = flat.bytes.lasts;
+  copying = flat.bytes.copying;
 }
 
 -- where memory and every copy have the same byte, that is the place's
@@ -81,6 +86,12 @@ uncached_by a owner m n shape keep uncached = λ x over.
     let was : covers m.pool x ≡ true = subst (λ (p : Span). covers p x ≡ true) shape.pool over in
     elim (uncached x was) [ inl none ↦ inl (keep x was none) | inr may ↦ inr may ]
 
+-- ---- the copies in hand
+
+-- flat memory stays
+pub machine_copies : (sc : Scenario) (f : List ℕ) (w : WorldState) (n : MachineState) (k : ℕ) → KeepsCopy w.machine n k → CopyStands sc f w k → CopyStands sc f (ran w n) k
+machine_copies sc f w n k keeps copying = copy_kept sc f f w (ran w n) k refl keeps (record { owned = λ x own. own; bytes = λ x own. refl }) copying
+
 -- ---- a claim, a take
 
 pub stays_row : (a : Book) (o : Owner) (v : ℕ) (m n : MachineState) (x : ℕ) → SameShape m n → Stays m n → Row a o v m x → Row a o v n x
@@ -88,8 +99,8 @@ stays_row a o v m n x shape stays row =
     rows_keep.kept a o v m n x (record { size = shape.size; queues = stays.queues }) (of_same m n x (stays.places x)) (of_same m n (seen_at a o x) (stays.places (seen_at a o x)))
     (λ area none. (stays.places x).line ∙ none) row
 
-pub stays_stand : (sc : Scenario) (f : List ℕ) (w : WorldState) (n : MachineState) → Flatness sc f w → SameShape w.machine n → Stays w.machine n → StandsIn sc f w n
-stays_stand sc f w n flat shape stays =
+pub stays_stand : (sc : Scenario) (f : List ℕ) (w : WorldState) (n : MachineState) → Flatness sc f w → SameShape w.machine n → Stays w.machine n → ((k : ℕ) → KeepsCopy w.machine n k) → StandsIn sc f w n
+stays_stand sc f w n flat shape stays keeps =
     let m = w.machine in
     let a = book_of w in
     record {
@@ -101,6 +112,7 @@ stays_stand sc f w n flat shape stays =
       unfenced = λ g. ap (list_any is_full) (stays.queues g) ∙ flat.bytes.unfenced g;
       tokens = tokens_kept sc f w n flat (λ g id. ap (filter (is_lot_token id)) (stays.queues g));
       lasts = lasts_keep sc f w n flat (λ k. inr (ap (λ (hs : List HartState). (slice_index_or hs k no_hart).last) stays.harts));
+      copying = λ k few. machine_copies sc f w n k (keeps k) (flat.bytes.copying k few);
     }
 
 -- ---- a load
@@ -143,6 +155,7 @@ load_stands sc f w n h span kind flat none shape loads own beside =
       unfenced = λ g. ap (list_any is_full) (loads.queues g) ∙ flat.bytes.unfenced g;
       tokens = tokens_kept sc f w n flat (λ g id. ap (filter (is_lot_token id)) (loads.queues g));
       lasts = lasts_keep sc f w n flat (λ k. load_lasts w n h span kind k none loads);
+      copying = λ k few. machine_copies sc f w n k (devices_keep m n k loads.devices (loads.queues k)) (flat.bytes.copying k few);
     }
 
 -- ---- an entry
@@ -188,6 +201,42 @@ entry_calm sc f w k h e z flat by own on calm =
     let v = byte w.machine.cache.ram z in
     calm_at k v z (rows_issue.passed (book_of w) Pool v w.machine k h e z by (unowned_none (book_of w) (owner_of w) w.machine.size h e z own (subst IsUnowned (sym (flat.bytes.slotted z on)) tt)) calm)
 
+-- what is another hart's own, it does not give
+not_synced : (o : Option Loan) (h k : ℕ) (n : MapId) → k ≢ h → n.hart.0 ≡ k → IsSyncedOf h n o → ⊥
+not_synced None h k n ne its own = own
+not_synced (Some l) h k n ne its own = ne (sym its ∙ own)
+
+pub not_anothers : (a : Book) (h k : ℕ) (o : Owner) → k ≢ h → IsItsOwn k o → IsOwn a h o → ⊥
+not_anothers a h k (Thread g) ne its own = ne (sym its ∙ own)
+not_anothers a h k (Passing g j) ne its own = its
+not_anothers a h k (Lending n) ne its own = own
+not_anothers a h k (Device n) ne its own = own
+not_anothers a h k (Returning n) ne its own = own
+not_anothers a h k (Synced n) ne its own = not_synced (a.loan n) h k n ne its.0 own
+not_anothers a h k Pool ne its own = its
+
+given_away : (a : Book) (owner : ℕ → Owner) (s h k x : ℕ) (e : Entry) → k ≢ h → GivesOwn a owner s h e → IsItsOwn k (owner x) → entry_gives s e x ≡ None
+given_away a owner s h k x e ne gives its = elim (gives x) [
+  | inl none ↦ none
+  | inr own ↦ absurd (not_anothers a h k (owner x) ne its own)
+]
+
+-- an entry in a queue leaves what another hart's copy has
+pub entry_keeps : (m n : MachineState) (h : ℕ) (e : Entry) (k : ℕ) → Pushes m n h e → k ≢ h → KeepsCopy m n k
+entry_keeps m n h e k pushes ne = devices_keep m n k pushes.devices (pushes.queues.others k ne)
+
+pub entry_copies : (sc : Scenario) (f g : List ℕ) (w : WorldState) (n : MachineState) (h : ℕ) (e : Entry) (k : ℕ) → Pushes w.machine n h e → GivesOwn (book_of w) (owner_of w) w.machine.size h e → CopiesNone (driver_of w h)
+    → ((x : ℕ) → byte g x ≡ unwrap_or (entry_gives w.machine.size e x) (byte f x)) → CopyStands sc f w k → CopyStands sc g (ran w n) k
+entry_copies sc f g w n h e k pushes gives none bytes copying = elim (cases_eq k h) [
+  | inl own ↦ none_stands sc g (ran w n) k (subst (λ (j : ℕ). CopiesNone (driver_of w j)) (sym own) none)
+  | inr ne ↦
+      copy_kept sc f g w (ran w n) k refl (entry_keeps w.machine n h e k pushes ne)
+      (record {
+        owned = λ x own. own;
+        bytes = λ x own. bytes x ∙ ap (λ (o : Option ℕ). unwrap_or o (byte f x)) (given_away (book_of w) (owner_of w) w.machine.size h k x e ne gives own);
+      }) copying
+]
+
 -- flat memory g has the bytes that the entry gives
 pub entry_stands : (sc : Scenario) (f g : List ℕ) (w : WorldState) (k : MachineState) (h : ℕ) (e : Entry) → Flatness sc f w → Enters w.machine k h e → Comes (book_of w) (owner_of w) w.machine h e → IsNoMail e → IsIdle (driver_of w h)
     → IsQueued (book_of w) (owner_of w) w.machine.pool w.machine.size h e → length g ≡ length f → ((x : ℕ) → byte g x ≡ unwrap_or (entry_gives w.machine.size e x) (byte f x)) → StandsIn sc g w k
@@ -206,4 +255,5 @@ entry_stands sc f g w k h e flat by comes quiet was is long bytes =
       tokens = tokens_kept sc f w k flat (tokens_pushed m k h e by comes.plain);
       lasts = lasts_stay sc f g w k flat long
           (λ x un. bytes x ∙ ap (λ (o : Option ℕ). unwrap_or o (byte f x)) (unowned_none a (owner_of w) m.size h e x comes.own un)) (λ j. inr (entry_lasts w k h e j by.pushes));
+      copying = λ j few. entry_copies sc f g w k h e j by.pushes comes.own (steps_copy_none (driver_of w h) was.count was.phase) bytes (flat.bytes.copying j few);
     }

@@ -33,11 +33,12 @@ use Rattle.nc_rows.specs.Parts.{IsQueued}
 use Rattle.nc_row_issues.specs.Laws.{Enters}
 use Rattle.nc_row_plans.proofs.PlanEnds.{rows_plan}
 use Rattle.nc_flatness.specs.Books.{book_of}
+use Rattle.nc_flatness.specs.Copying.{IsItsOwn}
 use Rattle.nc_flatness.specs.Steps.{Goes}
 use Rattle.nc_flatness.proofs.BookReads.{buffer_gone, rest_here}
 use Rattle.nc_flatness.proofs.Outcomes.{gone, goes_go, goes_silent}
 use Rattle.nc_flat_scripts.specs.Entering.{IsPlain}
-use Rattle.nc_flat_scripts.proofs.ActRows.{plain_unfenced, tokens_pushed, queued_more, entry_lasts, entry_calm}
+use Rattle.nc_flat_scripts.proofs.ActRows.{plain_unfenced, tokens_pushed, queued_more, entry_lasts, entry_calm, entry_keeps}
 use Rattle.nc_flat_scripts.proofs.EntryRows.{Comes, row_entered}
 use Rattle.nc_flat_scripts.proofs.OwnPlaces.{apart_at}
 use Rattle.nc_flat_scripts.proofs.PassingFrames.{row_over, PassedIn, stands_passed}
@@ -116,6 +117,8 @@ sends_stands sc f w h n went e buf s =
       rows = λ x lt off. subst (λ (o : Owner). Row (book_of (gone w h n went)) o (byte f x) n x) (sym (owner x)) (any_row sc f w h n went e buf x (owner_of w x) s lt off refl);
       calm = λ z on calm. entry_calm sc f w n h.0 e z s.passes.flat s.by s.comes.own on calm;
       lasts = λ k. entry_lasts w n h.0 e k s.by.pushes;
+      keeps = λ k ne. entry_keeps w.machine n h.0 e k s.by.pushes ne;
+      owned = λ k x ne own. subst (IsItsOwn k) (sym (owner x)) own;
     }
 
 -- ---- the operation, as an event

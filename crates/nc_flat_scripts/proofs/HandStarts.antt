@@ -33,6 +33,7 @@ use Rattle.nc_rows.specs.Parts.{rest_last}
 use Rattle.nc_rows.specs.Rows.{gives_here, PassingRow, Row}
 use Rattle.nc_row_plans.proofs.PlanBegins.{rows_begin}
 use Rattle.nc_flatness.specs.Books.{book_of, mapping_in}
+use Rattle.nc_flatness.specs.Copying.{IsItsOwn}
 use Rattle.nc_flatness.specs.Flatness.{Flatness}
 use Rattle.nc_flatness.specs.Steps.{GoesTo, Goes}
 use Rattle.nc_flatness.proofs.BookReads.{buffer_gone, rest_here}
@@ -42,6 +43,7 @@ use Rattle.nc_flat_scripts.proofs.ActRows.{stands_now}
 use Rattle.nc_flat_scripts.proofs.BufferOwners.{moved_in, moved_out, owned_is, range_of, ranges_alike, number_here, number_away, range_in, off_pool, off_slots, unsent}
 use Rattle.nc_flat_scripts.proofs.HandCalls.{hands_drives, Starts, Refuses, Begins, hand_starts}
 use Rattle.nc_flat_scripts.proofs.MailFacts.{marks_none, sends_other, sends_none, bare_comes, marker_comes, mail_comes}
+use Rattle.nc_flat_scripts.proofs.OtherCopies.{hand_copies_none, same_keeps}
 use Rattle.nc_flat_scripts.proofs.PassingFrames.{row_over, PassedIn, stands_passed}
 use Rattle.nc_flat_scripts.proofs.PassingParts.{Passes, there}
 use Rattle.nc_flat_scripts.proofs.ScriptCalls.{IsIdle}
@@ -94,6 +96,12 @@ other_row sc f w h went buf x to b lt beside off =
     row_over sc f w h w.machine w.machine went (owner_of w x) (byte f x) x p lt refl
     (λ j g is own. ap (sending c) b.rest ∙ sends_other c buf to ne ∙ sym (sends_none c) ∙ ap (sending c) (sym b.before)) (p.flat.bytes.rows x lt beside)
 
+begun_owned : (sc : Scenario) (f : List ℕ) (w : WorldState) (h : HartNo) (went : Went) (buf : ℕ) (to : HartNo) (k x : ℕ) → IsBegun sc f w h went buf to → k ≢ h.0 → IsItsOwn k (owner_of w x) → IsItsOwn k (owner_of (gone w h w.machine went) x)
+begun_owned sc f w h went buf to k x b ne own = elim (cases_Bool (covers (range_of w h.0 buf) x)) [
+  | inl over ↦ absurd (ne (sym (subst (IsItsOwn k) (owned_is h w.owners (range_of w h.0 buf) x b.own over) own)))
+  | inr off ↦ subst (IsItsOwn k) (sym (still_there sc f w h went buf x to b off)) own
+]
+
 begun_stands : (sc : Scenario) (f : List ℕ) (w : WorldState) (h : HartNo) (went : Went) (buf : ℕ) (to : HartNo) → IsBegun sc f w h went buf to → PassedIn sc f w h w.machine went
 begun_stands sc f w h went buf to b =
     let flat = b.passes.flat in
@@ -121,6 +129,8 @@ begun_stands sc f w h went buf to b =
       ];
       calm = λ z on calm. calm;
       lasts = λ k. refl;
+      keeps = λ k ne. same_keeps w.machine k;
+      owned = λ k x ne own. begun_owned sc f w h went buf to k x b ne own;
     }
 
 -- ---- the event
@@ -147,6 +157,7 @@ start_by sc f w h buf to went here hand idle (Begins own goes) =
         left = subst EndsNone (sym goes.driver.rest) (marks_none buf to);
         unstored = ap rest_last goes.driver.rest;
         drives = hands_drives d went.driver buf to (hand_steps buf to) (flat.bytes.drives h.0 here.lt) idle.still goes.driver (inl refl);
+        uncopied = hand_copies_none went.driver buf to goes.driver.hand;
       };
       there = here.there;
       few = (in_hand_is (length w.machine.cache.ram) (length w.machine.harts) d (ops.Hand buf to) holds.driver.fixed hand).fits.0;

@@ -16,11 +16,10 @@ use Rattle.nc_rules.specs.Driver.{DriverState, in_hand, next_of, next_of_op, nex
 use Rattle.nc_rules.specs.Events.{may_go_on}
 use Rattle.nc_rules.specs.Operations.{step_at, has_start}
 use Rattle.nc_rules.specs.World.{WorldState, driver_of}
-use Rattle.nc_flatness.specs.Covered.{is_covered_op, is_lending}
+use Rattle.nc_flatness.specs.Covered.{is_lending}
 use Rattle.nc_flatness.specs.Flatness.{IsHanding, PlanIs, PlanOf, StandsAt}
 use Rattle.nc_flatness.specs.Steps.{Goes, StepsAreFlat}
 use Rattle.nc_flatness.proofs.Outcomes.{goes_go}
-use Rattle.nc_flatness.proofs.Owned.{covered_op}
 use Rattle.nc_flat_scripts.proofs.ActRows.{stands_now}
 use Rattle.nc_flat_scripts.proofs.HandStarts.{hand_goes}
 use Rattle.nc_flat_scripts.proofs.ScriptCalls.{bare_idles}
@@ -36,32 +35,32 @@ pub record IsHand (o : Op) : Type 0 where
   pub to : HartNo
   pub op : o ≡ ops.Hand buf to
 
--- of those that are covered and neither lend nor take back a hand alone has a start step
-by_number : (o : Op) → is_lending o ≡ false → is_covered_op o ≡ true → (has_start o ≡ false) ⊎ IsHand o
-by_number (ops.Hand buf to) stays covered = inr (record { buf = buf; to = to; op = refl })
-by_number (ops.Ld spot off len) stays covered = inl refl
-by_number (ops.St spot off bytes) stays covered = inl refl
-by_number (ops.Cbo op buf off) stays covered = inl refl
-by_number (ops.Fence pred succ) stays covered = inl refl
-by_number (ops.Take buf) stays covered = inl refl
-by_number (ops.Claim chan) stays covered = inl refl
-by_number (ops.Free chan) stays covered = inl refl
-by_number (ops.Regs chan src dst len cfg) stays covered = inl refl
-by_number (ops.Run chan) stays covered = inl refl
-by_number (ops.Poll chan) stays covered = inl refl
-by_number (ops.Regr chan off width) stays covered = inl refl
-by_number (ops.Regw chan off width value) stays covered = inl refl
-by_number (ops.Map label buf off len dir chan) stays covered = absurd cc
-by_number (ops.Unmap label) stays covered = absurd cc
-by_number (ops.ToCpu label) stays covered = absurd cc
-by_number (ops.ToDev label) stays covered = absurd cc
-by_number (ops.MapSg label entries dir chan) stays covered = absurd cc
-by_number (ops.UnmapSg label count) stays covered = absurd cc
-by_number (ops.Calloc label pages chan) stays covered = absurd cc
-by_number (ops.Cgive label) stays covered = absurd cc
-by_number (ops.Ctake label) stays covered = absurd cc
-by_number (ops.Cfree label) stays covered = absurd cc
-by_number (ops.Copy chan src src_off dst dst_off len cfg) stays covered = absurd cc
+-- of those that neither lend nor take back a hand alone has a start step
+by_number : (o : Op) → is_lending o ≡ false → (has_start o ≡ false) ⊎ IsHand o
+by_number (ops.Hand buf to) stays = inr (record { buf = buf; to = to; op = refl })
+by_number (ops.Ld spot off len) stays = inl refl
+by_number (ops.St spot off bytes) stays = inl refl
+by_number (ops.Cbo op buf off) stays = inl refl
+by_number (ops.Fence pred succ) stays = inl refl
+by_number (ops.Take buf) stays = inl refl
+by_number (ops.Claim chan) stays = inl refl
+by_number (ops.Free chan) stays = inl refl
+by_number (ops.Regs chan src dst len cfg) stays = inl refl
+by_number (ops.Run chan) stays = inl refl
+by_number (ops.Poll chan) stays = inl refl
+by_number (ops.Regr chan off width) stays = inl refl
+by_number (ops.Regw chan off width value) stays = inl refl
+by_number (ops.Map label buf off len dir chan) stays = absurd cc
+by_number (ops.Unmap label) stays = absurd cc
+by_number (ops.ToCpu label) stays = absurd cc
+by_number (ops.ToDev label) stays = absurd cc
+by_number (ops.MapSg label entries dir chan) stays = absurd cc
+by_number (ops.UnmapSg label count) stays = absurd cc
+by_number (ops.Calloc label pages chan) stays = absurd cc
+by_number (ops.Cgive label) stays = absurd cc
+by_number (ops.Ctake label) stays = absurd cc
+by_number (ops.Cfree label) stays = absurd cc
+by_number (ops.Copy chan src src_off dst dst_off len cfg) stays = absurd cc
 
 -- its plan is a hand's
 pub record IsAtHand (d : DriverState) (o : Op) : Type 0 where
@@ -92,7 +91,7 @@ at_hand d (ops.Calloc label pages chan) lends plan = absurd cc
 at_hand d (ops.Cgive label) lends plan = absurd cc
 at_hand d (ops.Ctake label) lends plan = absurd cc
 at_hand d (ops.Cfree label) lends plan = absurd cc
-at_hand d (ops.Copy chan src src_off dst dst_off len cfg) lends plan = absurd plan
+at_hand d (ops.Copy chan src src_off dst dst_off len cfg) lends plan = absurd cc
 
 -- ---- a step by number
 
@@ -151,4 +150,4 @@ pub steps_go : StepsAreFlat
 steps_go sc f w h o now hand lends =
     let here = here_by sc f w h now in
     let d = driver_of w h.0 in
-    phase_goes sc f w h o d.phase here hand lends (by_number o lends (covered_op sc w h.0 o now.covered now.flat.world here.lt hand)) refl (now.flat.bytes.drives h.0 here.lt).stands
+    phase_goes sc f w h o d.phase here hand lends (by_number o lends) refl (now.flat.bytes.drives h.0 here.lt).stands

@@ -5,6 +5,7 @@ pub mod ScriptCalls
 pub mod OwnPlaces
 pub mod StillLots
 pub mod LastLoads
+pub mod OtherCopies
 pub mod StepFrames
 pub mod ActRows
 pub mod OpActs
@@ -19,3 +20,10 @@ pub mod BufferOwners
 pub mod HandStarts
 pub mod TakeEvents
 pub mod IssueEvents
+pub mod TransferRows
+pub mod TransferFrames
+pub mod TransferPolls
+pub mod TransferCopies
+pub mod TransferDrivers
+pub mod TransferEvents
+pub mod TransferCopied

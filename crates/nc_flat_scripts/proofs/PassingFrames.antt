@@ -1,7 +1,7 @@
 -- The bytes of flat memory behind a step with which a hart passes a buffer on, or takes one.
 use Rattle.std.specs.Prelude.{Option, Some, None, Bool, true, false, filter}
 use Rattle.std.specs.List.{list_any}
-use Rattle.std.proofs.Common.{◌≡◌, ℕ, ◌<◌, List, refl, sym, ap, ◌∙◌, inl, inr, subst}
+use Rattle.std.proofs.Common.{◌≡◌, ◌≢◌, ℕ, ◌<◌, List, length, refl, sym, ap, ◌∙◌, inl, inr, subst}
 use Rattle.std.proofs.lemmas.Bool.{cases_eq}
 use Rattle.nc_num.specs.Memory.{byte}
 use Rattle.nc_num.specs.Places.{covers}
@@ -26,12 +26,14 @@ use Rattle.nc_rows.specs.Places.{CalmRow}
 use Rattle.nc_rows.specs.Rows.{Loan, Book, device_place, PassingRow, LendingTo, LendingFrom, AllocatingRow, GivingRow, Either, ByDir, LentRow, Row}
 use Rattle.nc_rows.specs.Parts.{Queued}
 use Rattle.nc_flatness.specs.Books.{book_of}
+use Rattle.nc_flatness.specs.Copying.{IsItsOwn, CopyStands}
 use Rattle.nc_flatness.specs.Flatness.{BytesStand}
 use Rattle.nc_flatness.specs.Tokens.{is_lot_token}
 use Rattle.nc_flatness.proofs.BookReads.{loan_gone, rest_away, rest_here, buffer_gone, row_alike, queued_to, zeroed_to}
 use Rattle.nc_flatness.proofs.Outcomes.{gone}
 use Rattle.nc_flatness.proofs.Tokens.{unended_settling}
-use Rattle.nc_flat_scripts.proofs.StepFrames.{drives_set}
+use Rattle.nc_flat_scripts.proofs.OtherCopies.{CopiesNone, none_stands, KeepsCopy, copy_kept}
+use Rattle.nc_flat_scripts.proofs.StepFrames.{drives_set, driver_here, driver_away}
 use Rattle.nc_flat_scripts.proofs.StillLots.{EndsNone, none_comes, untaken_at}
 use Rattle.nc_flat_scripts.proofs.PassingParts.{Passes, there, OwnerMoves, placed_by, pooled_by, slotted_by, dropped_by, allocates_by, held_by, unseen_before, lasts_passed, tokens_passed}
 
@@ -112,6 +114,17 @@ pub record PassedIn (sc : Scenario) (f : List ℕ) (w : WorldState) (h : HartNo)
   pub rows : (x : ℕ) → x < sc.ram → covers (slots_of sc) x ≡ false → Row (book_of (gone w h n went)) (owner_of (gone w h n went) x) (byte f x) n x
   pub calm : (z : ℕ) → covers (slots_of sc) z ≡ true → CalmRow w.machine z → CalmRow n z
   pub lasts : (k : ℕ) → (hart_of n k).last ≡ (hart_of w.machine k).last
+  -- what another hart's copy has
+  pub keeps : (k : ℕ) → k ≢ h.0 → KeepsCopy w.machine n k
+  pub owned : (k x : ℕ) → k ≢ h.0 → IsItsOwn k (owner_of w x) → IsItsOwn k (owner_of (gone w h n went) x)
+
+passed_copies : (sc : Scenario) (f : List ℕ) (w : WorldState) (h : HartNo) (n : MachineState) (went : Went) → Passes sc f w h went → PassedIn sc f w h n went → (k : ℕ) → k < length sc.harts → CopyStands sc f (gone w h n went) k
+passed_copies sc f w h n went p is k few =
+    let v = gone w h n went in
+    elim (cases_eq k h.0) [
+      | inl own ↦ none_stands sc f v k (subst CopiesNone (sym (driver_here w h n went k (there sc f w h went p) own)) p.uncopied)
+      | inr ne ↦ copy_kept sc f f w v k (driver_away w h n went k ne) (is.keeps k ne) (record { owned = λ x own. is.owned k x ne own; bytes = λ x own. refl }) (p.flat.bytes.copying k few)
+    ]
 
 pub stands_passed : (sc : Scenario) (f : List ℕ) (w : WorldState) (h : HartNo) (n : MachineState) (went : Went) → Passes sc f w h went → PassedIn sc f w h n went → BytesStand sc f (gone w h n went)
 stands_passed sc f w h n went p is =
@@ -135,4 +148,5 @@ stands_passed sc f w h n went p is =
       unfenced = is.unfenced;
       tokens = tokens_passed sc f w h n went p is.tokens;
       lasts = lasts_passed sc f w h n went p is.lasts;
+      copying = passed_copies sc f w h n went p is;
     }

@@ -33,6 +33,7 @@ use Rattle.nc_flatness.proofs.Lasts.{last_stays}
 use Rattle.nc_flatness.proofs.Outcomes.{gone}
 use Rattle.nc_flatness.proofs.Tokens.{unended_settling}
 use Rattle.nc_flat_scripts.proofs.LastLoads.{last_none}
+use Rattle.nc_flat_scripts.proofs.OtherCopies.{CopiesNone}
 use Rattle.nc_flat_scripts.proofs.StepFrames.{driver_here, driver_away}
 use Rattle.nc_flat_scripts.proofs.StillLots.{EndsNone, none_comes}
 
@@ -47,6 +48,7 @@ pub record Passes (sc : Scenario) (f : List ℕ) (w : WorldState) (h : HartNo) (
   pub left : EndsNone went.driver.rest
   pub unstored : rest_last went.driver.rest ≡ None
   pub drives : Drives went.driver
+  pub uncopied : CopiesNone went.driver
 
 pub there : (sc : Scenario) (f : List ℕ) (w : WorldState) (h : HartNo) (went : Went) → Passes sc f w h went → h.0 < length w.drivers
 there sc f w h went p = omega (arith, p.flat.world.holds.drivers, p.flat.world.of_scenario.harts, p.lt)

@@ -38,6 +38,7 @@ use Rattle.nc_flatness.specs.Steps.{GoesTo, IsNow, Goes}
 use Rattle.nc_flatness.proofs.Outcomes.{gone, goes_go, goes_silent}
 use Rattle.nc_flat_scripts.proofs.ActRows.{stands_now, stays_stand}
 use Rattle.nc_flat_scripts.proofs.OpActs.{Acts, acts_op}
+use Rattle.nc_flat_scripts.proofs.OtherCopies.{claim_keeps}
 use Rattle.nc_flat_scripts.proofs.ScriptCalls.{IsIdle, GoesIdle, done_idles}
 use Rattle.nc_flat_scripts.proofs.ScriptSteps.{IsNoTake, IsOwn}
 use Rattle.nc_flat_scripts.proofs.StepFrames.{StandsIn, idle_stands}
@@ -102,7 +103,7 @@ claim_is : (w : WorldState) (h : HartNo) (chan : ChanNo) → step_outcome w h (n
 unfolding step_outcome claim_outcome
 claim_is w h chan = refl
 
-poll_is : (w : WorldState) (h : HartNo) (chan : ChanNo) → step_outcome w h (nexts.Poll chan) ≡ goes w h w.machine (done (driver_of w h.0) (seen.Control (control_of w.machine chan.0))) w.slots (poll_touch w h chan) []
+pub poll_is : (w : WorldState) (h : HartNo) (chan : ChanNo) → step_outcome w h (nexts.Poll chan) ≡ goes w h w.machine (done (driver_of w h.0) (seen.Control (control_of w.machine chan.0))) w.slots (poll_touch w h chan) []
 unfolding step_outcome poll_outcome
 poll_is w h chan = refl
 
@@ -146,7 +147,7 @@ claim_goes sc f w h o n s chan here at nx =
     let next = claim_next w.machine h chan.0 in
     goes_go sc f w (events.Issue h) h next (done d saw) w.slots None [] here.now.may (outcome_is w h (nexts.Claim chan) nx ∙ claim_is w h chan)
     (λ none. quiet_go sc f w h next (done d saw) here was (done_idles d saw o n s was.still at.hand at.phase at.is at.own)
-    (stays_stand sc f w next here.now.flat (calls_keep_shape.of_claim w.machine h chan.0) (channels_by_place.claim_stays w.machine h chan.0)))
+    (stays_stand sc f w next here.now.flat (calls_keep_shape.of_claim w.machine h chan.0) (channels_by_place.claim_stays w.machine h chan.0) (λ k. claim_keeps w.machine h chan.0 k)))
 
 poll_goes : (sc : Scenario) (f : List ℕ) (w : WorldState) (h : HartNo) (o : Op) (n : ℕ) (s : Step) (chan : ChanNo) → IsHere sc f w h → AtStep (driver_of w h.0) o n s → next_of (driver_of w h.0) ≡ nexts.Poll chan → Goes sc f w (events.Issue h)
 poll_goes sc f w h o n s chan here at nx =

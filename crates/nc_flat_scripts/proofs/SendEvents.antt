@@ -28,6 +28,7 @@ use Rattle.nc_flat_scripts.proofs.HandCalls.{hands_drives, done_marks, done_mail
 use Rattle.nc_flat_scripts.proofs.HandEvents.{sends_goes}
 use Rattle.nc_flat_scripts.proofs.MailFacts.{marks_none, mails_none, sends_other, mails_other, sends_none, sends_mail, sends_mark}
 use Rattle.nc_flat_scripts.proofs.OpActs.{enters, marker_plain}
+use Rattle.nc_flat_scripts.proofs.OtherCopies.{steps_copy_none, hand_copies_none}
 use Rattle.nc_flat_scripts.proofs.ScriptEvents.{IsHere, next_there, may_next}
 use Rattle.nc_flat_scripts.proofs.StepFrames.{idle_drives}
 use Rattle.nc_flat_scripts.proofs.StillLots.{EndsNone, none_ends}
@@ -56,6 +57,7 @@ mark_goes sc f w h buf to here hand phase rest still nx =
         left = left_as went.driver.rest (mail_step buf to ∷ []) goes.driver.rest (mails_none buf to);
         unstored = ap rest_last goes.driver.rest;
         drives = hands_drives d went.driver buf to (mail_step buf to ∷ []) (flat.bytes.drives h.0 here.lt) still goes.driver (inr refl);
+        uncopied = hand_copies_none went.driver buf to goes.driver.hand;
       };
       by = enters w h op (marker 1 4) flat.world.machine here.there refl there (may_next sc f w h (nexts.Op op) here nx);
       plain = marker_plain 1 4;
@@ -90,6 +92,7 @@ mail_goes sc f w h buf to here hand phase rest still nx =
         left = none_ends went.driver.rest goes.driver.rest;
         unstored = ap rest_last goes.driver.rest;
         drives = idle_drives d went.driver (flat.bytes.drives h.0 here.lt) still goes.driver;
+        uncopied = steps_copy_none went.driver goes.driver.count goes.driver.phase;
       };
       by = enters w h op e flat.world.machine here.there refl there (may_next sc f w h (nexts.Op op) here nx);
       plain = record { token = λ n. refl; fence = refl; inval = λ b. refl; lot = λ id. refl };
@@ -102,7 +105,7 @@ mail_goes sc f w h buf to here hand phase rest still nx =
       owners = goes.transfers;
     })
 
-next_work : (d : DriverState) (o : Op) (rest : List Step) → in_hand d ≡ Some o → d.phase ≡ Work → d.rest ≡ rest → next_of d ≡ next_rest rest
+pub next_work : (d : DriverState) (o : Op) (rest : List Step) → in_hand d ≡ Some o → d.phase ≡ Work → d.rest ≡ rest → next_of d ≡ next_rest rest
 unfolding next_of
 next_work d o rest hand phase is = ap (next_of_op d) hand ∙ ap (next_in d o) phase ∙ ap next_rest is
 

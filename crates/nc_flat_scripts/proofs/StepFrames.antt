@@ -1,7 +1,7 @@
 -- The bytes of flat memory behind a step of a driver that has no plan before it, nor behind it.
 use Rattle.std.specs.Prelude.{Some, true, false, All}
 use Rattle.std.specs.List.{list_any}
-use Rattle.std.proofs.Common.{◌≡◌, ◌≢◌, ℕ, ◌<◌, List, [], length, sym, ap, ◌∙◌, inl, inr, subst, arith}
+use Rattle.std.proofs.Common.{◌≡◌, ◌≢◌, ℕ, ◌<◌, List, [], length, refl, sym, ap, ◌∙◌, inl, inr, subst, arith}
 use Rattle.std.proofs.lemmas.Bool.{cases_eq}
 use Rattle.std.proofs.lemmas.List.{get_or-set_same, get_or-set_other}
 use Rattle.nc_num.specs.Memory.{byte}
@@ -26,10 +26,12 @@ use Rattle.nc_rows.specs.Places.{CalmRow}
 use Rattle.nc_rows.specs.Rows.{Book, Row}
 use Rattle.nc_rows.specs.Parts.{Queued, Uncached, Lasts}
 use Rattle.nc_flatness.specs.Books.{loan_of, number_in, book_of, mapping_in, LiesIn, IsPooled}
+use Rattle.nc_flatness.specs.Copying.{IsItsOwn, CopyStands}
 use Rattle.nc_flatness.specs.Flatness.{StandsAt, Drives, IsUnseen, BytesStand, Flatness}
 use Rattle.nc_flatness.specs.Plans.{IsStill}
 use Rattle.nc_flatness.specs.Tokens.{TokenStands}
-use Rattle.nc_flatness.proofs.Outcomes.{gone}
+use Rattle.nc_flatness.proofs.Outcomes.{ran, gone}
+use Rattle.nc_flat_scripts.proofs.OtherCopies.{steps_copy_none, none_stands, same_keeps, copy_kept}
 use Rattle.nc_flat_scripts.proofs.ScriptCalls.{Idles, GoesIdle, IsIdle}
 
 -- ---- the drivers behind
@@ -105,12 +107,27 @@ pub record StandsIn (sc : Scenario) (g : List ℕ) (w : WorldState) (n : Machine
   pub unfenced : (g : ℕ) → list_any is_full (queue_of n g) ≡ false
   pub tokens : (h : ℕ) → h < length sc.harts → (driver_of w h).fixed.light ≡ true → All (TokenStands (driver_of w h).rest (queue_of n h)) (driver_of w h).lots
   pub lasts : Lasts (book_of w) g n
+  pub copying : (h : ℕ) → h < length sc.harts → CopyStands sc g (ran w n) h
 
 abbrev pub put : WorldState → List Owner → WorldState
 put w os = record w { owners = os }
 
 swap : (P : Book → (ℕ → Owner) → Type 0) (a b : Book) (o q : ℕ → Owner) → b ≡ a → q ≡ o → P a o → P b q
 swap P a b o q book same p = subst (λ (k : Book). P k q) (sym book) (subst (λ (k : ℕ → Owner). P a k) (sym same) p)
+
+-- the copies of other harts
+idle_copies : (sc : Scenario) (f g : List ℕ) (w : WorldState) (h : HartNo) (n : MachineState) (went : Went) → Flatness sc f w → h.0 < length sc.harts → Idles (driver_of w h.0) went.driver → owner_of (gone w h n went) ≡ owner_of w
+    → ((k : ℕ) → k < length sc.harts → CopyStands sc g (ran w n) k) → (k : ℕ) → k < length sc.harts → CopyStands sc g (gone w h n went) k
+idle_copies sc f g w h n went flat lt idle owners copying k few =
+    let v = gone w h n went in
+    elim (cases_eq k h.0) [
+      | inl e ↦
+          let here = driver_here w h n went k (omega (arith, flat.world.holds.drivers, flat.world.of_scenario.harts, lt)) e in
+          none_stands sc g v k (steps_copy_none (driver_of v k) idle.count (ap (λ (d : DriverState). d.phase) here ∙ idle.phase))
+      | inr ne ↦
+          copy_kept sc g g (ran w n) v k (driver_away w h n went k ne) (same_keeps n k)
+          (record { owned = λ x own. subst (λ (o : ℕ → Owner). IsItsOwn k (o x)) (sym owners) own; bytes = λ x own. refl }) (copying k few)
+    ]
 
 pub idle_stands : (sc : Scenario) (f g : List ℕ) (w : WorldState) (h : HartNo) (n : MachineState) (went : Went) → Flatness sc f w → h.0 < length sc.harts → IsIdle (driver_of w h.0) → GoesIdle (driver_of w h.0) went [] → StandsIn sc g w n
     → BytesStand sc g (gone w h n went)
@@ -134,4 +151,5 @@ idle_stands sc f g w h n went flat lt was idle is =
       unfenced = is.unfenced;
       tokens = λ k few. tokens_read n (driver_of w k) (driver_of v k) k (reads k) (is.tokens k few);
       lasts = subst (λ (a : Book). Lasts a g n) (sym book) is.lasts;
+      copying = idle_copies sc f g w h n went flat lt idle.driver same is.copying;
     }

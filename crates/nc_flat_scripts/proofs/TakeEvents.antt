@@ -41,6 +41,7 @@ use Rattle.nc_rows.specs.Parts.{rest_last}
 use Rattle.nc_rows.specs.Rows.{PassingRow, Row}
 use Rattle.nc_row_plans.proofs.PlanBegins.{rows_begin}
 use Rattle.nc_flatness.specs.Books.{book_of, mapping_in}
+use Rattle.nc_flatness.specs.Copying.{IsItsOwn}
 use Rattle.nc_flatness.specs.Steps.{Goes}
 use Rattle.nc_flatness.specs.Tokens.{is_lot_token}
 use Rattle.nc_flatness.proofs.Outcomes.{gone, goes_go, goes_silent}
@@ -49,6 +50,7 @@ use Rattle.nc_flat_scripts.proofs.ActRows.{calm_at, stays_row, stays_stand}
 use Rattle.nc_flat_scripts.proofs.BufferOwners.{moved_in, moved_out, range_of, ranges_alike, number_here, off_pool, off_slots}
 use Rattle.nc_flat_scripts.proofs.HandStarts.{in_owners}
 use Rattle.nc_flat_scripts.proofs.MailFacts.{none_in_line}
+use Rattle.nc_flat_scripts.proofs.OtherCopies.{steps_copy_none, KeepsCopy, take_keeps}
 use Rattle.nc_flat_scripts.proofs.PassingFrames.{row_over, PassedIn, stands_passed}
 use Rattle.nc_flat_scripts.proofs.PassingParts.{Passes}
 use Rattle.nc_flat_scripts.proofs.ScriptCalls.{done_takes}
@@ -88,12 +90,18 @@ taken_row sc f w h went n buf x t stays is lt beside over =
     subst (λ (q : List Entry). list_any (is_mail buf) (line q (sending buf rest)) ≡ false) (sym (stays.queues from.0)) (none_in_line buf (queue_of w.machine from.0) rest (t.given.quiet from.0)) in
     rows_begin.take n from.0 h.0 (byte f x) b x rest (subst (λ (c : ℕ). list_any (is_mail c) (line (queue_of n from.0) (sending c rest)) ≡ false) (sym number) none) row
 
-taken_stands : (sc : Scenario) (f : List ℕ) (w : WorldState) (h : HartNo) (went : Went) (n : MachineState) (buf : ℕ) → IsTaken sc f w h went buf → SameShape w.machine n → Stays w.machine n → PassedIn sc f w h n went
-taken_stands sc f w h went n buf t shape stays =
+taken_owned : (sc : Scenario) (f : List ℕ) (w : WorldState) (h : HartNo) (went : Went) (n : MachineState) (buf k x : ℕ) → IsTaken sc f w h went buf → IsItsOwn k (owner_of w x) → IsItsOwn k (owner_of (gone w h n went) x)
+taken_owned sc f w h went n buf k x t own = elim (cases_Bool (covers (range_of w h.0 buf) x)) [
+  | inl over ↦ absurd (subst (IsItsOwn k) (was_passing sc f w h went buf x t over) own)
+  | inr off ↦ subst (IsItsOwn k) (sym (still_there sc f w h went n buf x t off)) own
+]
+
+taken_stands : (sc : Scenario) (f : List ℕ) (w : WorldState) (h : HartNo) (went : Went) (n : MachineState) (buf : ℕ) → IsTaken sc f w h went buf → SameShape w.machine n → Stays w.machine n → ((k : ℕ) → KeepsCopy w.machine n k) → PassedIn sc f w h n went
+taken_stands sc f w h went n buf t shape stays keeps =
     let p = t.passes in
     let flat = p.flat in
     let v = gone w h n went in
-    let is = stays_stand sc f w n flat shape stays in
+    let is = stays_stand sc f w n flat shape stays keeps in
     record {
       shape = shape;
       held = λ x none. (stays.places x).line ∙ none;
@@ -119,6 +127,8 @@ taken_stands sc f w h went n buf t shape stays =
       ];
       calm = λ z on calm. calm_at n (byte w.machine.cache.ram z) z (stays_row (book_of w) Pool (byte w.machine.cache.ram z) w.machine n z shape stays calm);
       lasts = λ k. ap (λ (hs : List HartState). (slice_index_or hs k no_hart).last) stays.harts;
+      keeps = λ k ne. keeps k;
+      owned = λ k x ne own. taken_owned sc f w h went n buf k x t own;
     }
 
 -- ---- the event
@@ -152,6 +162,7 @@ take_goes sc f w h buf n here hand phase at nx =
         left = none_ends went.driver.rest moves.driver.rest;
         unstored = ap rest_last moves.driver.rest;
         drives = idle_drives d went.driver (flat.bytes.drives h.0 here.lt) idle.still moves.driver;
+        uncopied = steps_copy_none went.driver moves.driver.count moves.driver.phase;
       };
       there = here.there;
       few = few;
@@ -162,4 +173,4 @@ take_goes sc f w h buf n here hand phase at nx =
     } in
     goes_go sc f w (events.Issue h) h next went w.slots None [] here.now.may (outcome_is w h (nexts.Take buf) nx ∙ take_is w h buf)
     (λ none. goes_silent sc f [] (gone w h next went) refl
-    (stands_passed sc f w h next went taken.passes (taken_stands sc f w h went next buf taken (calls_keep_shape.of_take m h.0 buf) (channels_by_place.take_stays m h.0 buf))))
+    (stands_passed sc f w h next went taken.passes (taken_stands sc f w h went next buf taken (calls_keep_shape.of_take m h.0 buf) (channels_by_place.take_stays m h.0 buf) (λ k. take_keeps m h.0 buf k))))

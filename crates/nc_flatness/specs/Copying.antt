@@ -152,7 +152,7 @@ IsItsOwn h (Lending n) = (n.hart.0 ≡ h) × (n.label.0 ≡ 1000)
 IsItsOwn h (Device n) = (n.hart.0 ≡ h) × (n.label.0 ≡ 1000)
 IsItsOwn h (Returning n) = (n.hart.0 ≡ h) × (n.label.0 ≡ 1000)
 IsItsOwn h (Passing g k) = ⊥
-IsItsOwn h (Synced n) = ⊥
+IsItsOwn h (Synced n) = (n.hart.0 ≡ h) × (n.label.0 ≡ 1000)
 IsItsOwn h Pool = ⊥
 
 -- what the poll saw: the error bit of Control is not set
