@@ -4,8 +4,12 @@ use Rattle.std.specs.Prelude.{◌⊎◌, ◌==◌, not, All, filter}
 use Rattle.std.specs.List.{list_any}
 use Rattle.std.proofs.lemmas.Bool.{and_parts, and_from, or_parts, or_left, cond-true, cond-false, eqb-true, eq-eqb, false_from_ne_true, false≢true}
 use Rattle.std.proofs.lemmas.List.Elements.{All-nil, All-cons, All-head, All-tail}
+use Rattle.nc_num.specs.declared.names.ChanNo.{ChanNo}
+use Rattle.nc_num.specs.declared.names.Dir.{Dir}
+use Rattle.nc_num.specs.declared.names.Dir.TheVariants.{ToDev, FromDev}
 use Rattle.nc_num.specs.declared.places.Span.{Span}
 use Rattle.nc_plan.specs.Plans.{In}
+use Rattle.nc_plan.proofs.PlanLaws.{in_map}
 use Rattle.nc_sg.specs.declared.list.Entry.{Entry as Range}
 use Rattle.nc_ops.specs.declared.ops.Op.{Op}
 use Rattle.nc_ops.specs.declared.ops.Op.TheVariants as ops
@@ -19,15 +23,17 @@ use Rattle.nc_rules.specs.declared.steps.Step.{Step}
 use Rattle.nc_rules.specs.declared.steps.Turn.{Turn}
 use Rattle.nc_rules.specs.declared.steps.Turn.TheVariants as turns
 use Rattle.nc_rules.specs.Driver.{DriverState, in_hand, with_lots}
+use Rattle.nc_rules.specs.Copies.{source, target}
 use Rattle.nc_rules.specs.Lots.{Fixed, is_lot}
 use Rattle.nc_rules.specs.Turns.{is_area, with_side, set_side, lots_after}
 use Rattle.nc_scripts.proofs.Lists.{all_filtered}
+use Rattle.nc_scripts.proofs.LotLaws.{its_name}
 use Rattle.nc_holds.specs.Held.{IsEntryOf}
 use Rattle.nc_holds.proofs.ListsA.{all_at}
 use Rattle.nc_rows.specs.Ahead.{same_lot, turns_lot, stores_io, tokens_lot, ends}
-use Rattle.nc_flatness.specs.Plans.{IsStill, StillDevice, IsInHand, HasEnd, GoesIn, ComesOut, IsCopied, token_step, StepGoes, Loads, Stores, WritesBack, Drops, Gives, Fences, Ends, Zeroes, Flushes, Settles, GivesArea, TakesBack, Marks, Posts, PlanGoes}
+use Rattle.nc_flatness.specs.Plans.{IsStill, StillDevice, IsBeside, IsInHand, HasEnd, GoesIn, ComesOut, IsCopied, IsDrop, IsEnd, IsCopyEnd, IsTaken, token_step, StepGoes, Loads, Stores, WritesBack, Drops, Gives, Fences, Ends, Zeroes, Flushes, Settles, GivesArea, TakesBack, Marks, Posts, Claims, Registers, Polls, TakesTarget, TakesSource, PlanGoes}
 use Rattle.nc_flatness.specs.Flatness.{IsMapping, IsStillOrMade, PlanLeft, PlanIs, PlanOf, StandsAt, Drives}
-use Rattle.nc_flatness.proofs.Rests.{kept_in, settling_ends, same_id, behind, by_turn, by_token}
+use Rattle.nc_flatness.proofs.Rests.{kept_in, settling_ends, same_id, behind, by_turn, by_token, turn_name, first_ends}
 
 -- ---- a side that lots of a name get
 
@@ -57,7 +63,7 @@ hand_lent f lots lot area side id hand off = record {
   here = kept_in sides.Device id lots lot off hand.here;
   area_is = hand.area_is;
   side_is = hand.side_is;
-  others = all_sided (λ (o : Lot). is_lot lot.id o ≡ false → IsStill f o) (λ (o : Lot). is_lot lot.id o ≡ false → IsStill f o) sides.Device id lots hand.others (λ o is hit named. StillDevice refl) (λ o is miss. is);
+  others = all_sided (λ (o : Lot). is_lot lot.id o ≡ false → IsBeside f lot o) (λ (o : Lot). is_lot lot.id o ≡ false → IsBeside f lot o) sides.Device id lots hand.others (λ o is hit named. inl (StillDevice refl)) (λ o is miss. is);
 }
 
 entry_lent : (lots : List Lot) (lot : Lot) (i : ℕ) (e : Range) (id : LotId) → IsEntryOf lots lot i e → is_lot id lot ≡ false → IsEntryOf (lent id lots) lot i e
@@ -68,123 +74,6 @@ way_lent : (f : Fixed) (lots : List Lot) (lot : Lot) (e : Range) (rest : List St
 way_lent f lots lot e rest from to id (inl goes) off = inl (record { hand = hand_lent f lots lot false sides.Lending id goes.hand off; later = goes.later; from_is = goes.from_is; to_is = goes.to_is })
 way_lent f lots lot e rest from to id (inr comes) off =
     inr (record { hand = hand_lent f lots lot false sides.Returning id comes.hand off; back = comes.back; fenced = comes.fenced; from_is = comes.from_is; to_is = comes.to_is })
-
--- ---- a step, of another lot
-
--- the lot that a step is of is taken back, or lent with its end still to come
-abbrev IsMoving : List Step → Lot → Type 0
-IsMoving steps lot = ((lot.side ≡ sides.Lending) × HasEnd lot.id steps) ⊎ (lot.side ≡ sides.Returning)
-
-abbrev IsApart : LotId → List Lot → List Step → Type 0
-IsApart id lots steps = (lot : Lot) → In lot lots → IsMoving steps lot → is_lot id lot ≡ false
-
-copied_apart : (f : Fixed) (lots : List Lot) (s : Step) (rest : List Step) (from to : Span) (id : LotId) → (c : IsCopied f lots rest from to) → IsApart id lots (s ∷ rest) → is_lot id c.lot ≡ false
-copied_apart f lots s rest from to id c apart = elim c.way [
-  | inl goes ↦ apart c.lot c.here.lot_in (inl (goes.hand.side_is, behind c.lot.id s rest goes.later))
-  | inr comes ↦ apart c.lot c.here.lot_in (inr comes.hand.side_is)
-]
-
-step_lent : (f : Fixed) (lots : List Lot) (s : Step) (rest : List Step) (id : LotId) → StepGoes f lots s rest → IsApart id lots (s ∷ rest) → StepGoes f (lent id lots) s rest
-step_lent f lots s rest id (Loads is) apart =
-    let c = is.copied in
-    let off = copied_apart f lots s rest is.from is.to id c apart in
-    Loads (record {
-      from = is.from;
-      to = is.to;
-      copied = record { lot = c.lot; i = c.i; entry = c.entry; here = entry_lent lots c.lot c.i c.entry id c.here off; bounced = c.bounced; way = way_lent f lots c.lot c.entry rest is.from is.to id c.way off };
-      span = is.span;
-      step = is.step;
-      within = is.within;
-      next = is.next;
-    })
-step_lent f lots s rest id (Stores is) apart =
-    let c = is.copied in
-    let off = copied_apart f lots s rest is.from is.to id c apart in
-    Stores (record {
-      from = is.from;
-      to = is.to;
-      copied = record { lot = c.lot; i = c.i; entry = c.entry; here = entry_lent lots c.lot c.i c.entry id c.here off; bounced = c.bounced; way = way_lent f lots c.lot c.entry rest is.from is.to id c.way off };
-      span = is.span;
-      act = is.act;
-      first = is.first;
-      within = is.within;
-      once = is.once;
-      next = is.next;
-      last = is.last;
-    })
-step_lent f lots s rest id (WritesBack is) apart =
-    let off = apart is.lot is.hand.here (inl (is.hand.side_is, behind is.lot.id s rest is.later)) in
-    WritesBack (record { lot = is.lot; hand = hand_lent f lots is.lot false sides.Lending id is.hand off; op = is.op; block = is.block; step = is.step; writes = is.writes; later = is.later; next = is.next })
-step_lent f lots s rest id (Drops is) apart =
-    let off = apart is.lot is.hand.here (inr is.hand.side_is) in
-    Drops (record {
-      lot = is.lot;
-      hand = hand_lent f lots is.lot false sides.Returning id is.hand off;
-      back = is.back;
-      op = is.op;
-      block = is.block;
-      step = is.step;
-      drops = is.drops;
-      i = is.i;
-      entry = is.entry;
-      here = entry_lent lots is.lot is.i is.entry id is.here off;
-      place = is.place;
-      covered = is.covered;
-      met = is.met;
-      ahead = is.ahead;
-      next = is.next;
-    })
-step_lent f lots s rest id (Gives is) apart =
-    let off = apart is.lot is.hand.here (inl (is.hand.side_is, by_turn is.lot.id s rest (turns.Give is.lot.id) (ap (λ (t : Step). t.last) is.step) (same_id is.lot.id))) in
-    Gives (record { lot = is.lot; hand = hand_lent f lots is.lot false sides.Lending id is.hand off; step = is.step; over = is.over })
-step_lent f lots s rest id (Fences is) apart =
-    let off = apart is.lot is.hand.here (inr is.hand.side_is) in
-    Fences (record {
-      lot = is.lot;
-      hand = hand_lent f lots is.lot false sides.Returning id is.hand off;
-      step = is.step;
-      only = is.only;
-      next = is.next;
-      out = λ i e x here bounced back on. is.out i e x (record { lot_in = is.hand.here; entry = here.entry }) bounced back on;
-    })
-step_lent f lots s rest id (Ends is) apart =
-    let off = apart is.lot is.hand.here (inr is.hand.side_is) in
-    Ends (record { lot = is.lot; hand = hand_lent f lots is.lot false sides.Returning id is.hand off; turn = is.turn; is_back = is.is_back; step = is.step; over = is.over; straight = is.straight })
-step_lent f lots s rest id (Zeroes is) apart =
-    let off = apart is.lot is.hand.here (inl (is.hand.side_is, behind is.lot.id s rest (settling_ends is.lot.id rest is.settles))) in
-    Zeroes (record {
-      lot = is.lot;
-      hand = hand_lent f lots is.lot true sides.Lending id is.hand off;
-      block = is.block;
-      step = is.step;
-      i = is.i;
-      entry = is.entry;
-      here = entry_lent lots is.lot is.i is.entry id is.here off;
-      whole = is.whole;
-      once = is.once;
-      settles = is.settles;
-      next = is.next;
-    })
-step_lent f lots s rest id (Flushes is) apart =
-    let off = apart is.lot is.hand.here (inl (is.hand.side_is, behind is.lot.id s rest (settling_ends is.lot.id rest is.settles))) in
-    Flushes (record { lot = is.lot; hand = hand_lent f lots is.lot true sides.Lending id is.hand off; block = is.block; step = is.step; settles = is.settles; next = is.next })
-step_lent f lots s rest id (Settles is) apart =
-    let off = apart is.lot is.hand.here (inl (is.hand.side_is, by_turn is.lot.id s rest (turns.Settle is.lot.id) (ap (λ (t : Step). t.last) is.step) (same_id is.lot.id))) in
-    Settles (record { lot = is.lot; hand = hand_lent f lots is.lot true sides.Lending id is.hand off; step = is.step; over = is.over })
-step_lent f lots s rest id (GivesArea is) apart =
-    let off = apart is.lot is.hand.here (inl (is.hand.side_is, by_turn is.lot.id s rest (turns.Give is.lot.id) (ap (λ (t : Step). t.last) is.step) (same_id is.lot.id))) in
-    GivesArea (record { lot = is.lot; hand = hand_lent f lots is.lot true sides.Lending id is.hand off; step = is.step; over = is.over })
-step_lent f lots s rest id (TakesBack is) apart =
-    let off = apart is.lot is.hand.here (inr is.hand.side_is) in
-    TakesBack (record { lot = is.lot; hand = hand_lent f lots is.lot true sides.Returning id is.hand off; turn = is.turn; is_back = is.is_back; step = is.step; over = is.over })
-step_lent f lots s rest id (Marks is) apart =
-    let ended : HasEnd is.lot.id rest = ap (list_any (ends is.lot.id)) is.left ∙ or_left (ends is.lot.id (token_step is.lot)) false (by_token is.lot) in
-    let off = apart is.lot is.hand.here (inl (is.hand.side_is, behind is.lot.id s rest ended)) in
-    Marks (record { lot = is.lot; hand = hand_lent f lots is.lot (is_area is.lot.kind) sides.Lending id is.hand off; light = is.light; step = is.step; left = is.left })
-step_lent f lots s rest id (Posts is) apart =
-    let ended : HasEnd is.lot.id (s ∷ rest) = or_left (ends is.lot.id s) (list_any (ends is.lot.id) rest) (ap (ends is.lot.id) is.step ∙ by_token is.lot) in
-    let off = apart is.lot is.hand.here (inl (is.hand.side_is, ended)) in
-    Posts (record { lot = is.lot; hand = hand_lent f lots is.lot (is_area is.lot.kind) sides.Lending id is.hand off; light = is.light; step = is.step; over = is.over })
 
 -- ---- a turn of another lot
 
@@ -270,14 +159,237 @@ turn_lending id (turns.Settle to) lots off all = lending_sided sides.Own id to l
 turn_lending id (turns.End to) lots off all =
     all_filtered (λ (lot : Lot). is_lot id lot ≡ true → lot.side ≡ sides.Lending) (λ (lot : Lot). is_lot id lot ≡ true → lot.side ≡ sides.Lending) (λ lot. not (is_lot to lot)) lots all (λ lot is stays. is)
 
--- ---- what is left of a plan
-
 named_id : (id : LotId) (lot : Lot) → is_lot id lot ≡ true → lot.id ≡ id
 named_id id lot is =
     let both = and_parts (lot.id.label.0 == id.label.0) (lot.id.first == id.first) is in
     let label : lot.id.label.0 ≡ id.label.0 = eqb-true lot.id.label.0 id.label.0 both.0 in
     let first : lot.id.first ≡ id.first = eqb-true lot.id.first id.first both.1 in
     λ i. record { label = record { 0 = label i }; first = first i }
+
+-- ---- a step, of another lot
+
+-- the lot that a step is of is taken back, or lent with its end still to come
+abbrev IsMoving : List Step → Lot → Type 0
+IsMoving steps lot = ((lot.side ≡ sides.Lending) × HasEnd lot.id steps) ⊎ (lot.side ≡ sides.Returning)
+
+abbrev IsApart : LotId → List Lot → List Step → Type 0
+IsApart id lots steps = (lot : Lot) → In lot lots → IsMoving steps lot → is_lot id lot ≡ false
+
+copied_apart : (f : Fixed) (lots : List Lot) (s : Step) (rest : List Step) (from to : Span) (id : LotId) → (c : IsCopied f lots rest from to) → IsApart id lots (s ∷ rest) → is_lot id c.lot ≡ false
+copied_apart f lots s rest from to id c apart = elim c.way [
+  | inl goes ↦ apart c.lot c.here.lot_in (inl (goes.hand.side_is, behind c.lot.id s rest goes.later))
+  | inr comes ↦ apart c.lot c.here.lot_in (inr comes.hand.side_is)
+]
+
+-- a drop and an end of another lot
+drop_lent : (f : Fixed) (lots : List Lot) (s : Step) (rest : List Step) (id : LotId) → (is : IsDrop f lots s rest) → is_lot id is.lot ≡ false → IsDrop f (lent id lots) s rest
+drop_lent f lots s rest id is off = record {
+  lot = is.lot;
+  hand = hand_lent f lots is.lot false sides.Returning id is.hand off;
+  back = is.back;
+  op = is.op;
+  block = is.block;
+  step = is.step;
+  drops = is.drops;
+  i = is.i;
+  entry = is.entry;
+  here = entry_lent lots is.lot is.i is.entry id is.here off;
+  place = is.place;
+  covered = is.covered;
+  met = is.met;
+  ahead = is.ahead;
+  next = is.next;
+}
+
+end_lent : (f : Fixed) (lots : List Lot) (s : Step) (rest : List Step) (id : LotId) → (is : IsEnd f lots s rest) → is_lot id is.lot ≡ false → IsEnd f (lent id lots) s rest
+end_lent f lots s rest id is off = record { lot = is.lot; hand = hand_lent f lots is.lot false sides.Returning id is.hand off; turn = is.turn; is_back = is.is_back; step = is.step; next = is.next; straight = is.straight }
+
+-- an end of a copy stays one
+both_lent : (lots : List Lot) (lot : Lot) (id : LotId) → In lot lots → In (with_side sides.Device id lot) (lent id lots)
+both_lent lots lot id here = in_map {Y = Lot} (with_side sides.Device id) lot lots here
+
+end_by : (lots : List Lot) (lot : Lot) (end : LotId) (dir : Dir) (chan : ChanNo) (id : LotId) (t : Bool) → is_lot id lot ≡ t → IsCopyEnd lots lot end dir chan → IsCopyEnd (lent id lots) (with_side sides.Device id lot) end dir chan
+end_by lots lot end dir chan id true is e =
+    let same : with_side sides.Device id lot ≡ record lot { side = sides.Device } = cond-true (is_lot id lot) (record lot { side = sides.Device }) lot is in record {
+      here = both_lent lots lot id e.here;
+      id_is = ap (λ (l : Lot). l.id) same ∙ e.id_is;
+      kind = ap (λ (l : Lot). l.kind) same ∙ e.kind;
+      dir_is = ap (λ (l : Lot). l.list.dir) same ∙ e.dir_is;
+      chan_is = ap (λ (l : Lot). l.chan) same ∙ e.chan_is;
+    }
+end_by lots lot end dir chan id false is e =
+    let same : with_side sides.Device id lot ≡ lot = cond-false (is_lot id lot) (record lot { side = sides.Device }) lot is in record {
+      here = both_lent lots lot id e.here;
+      id_is = ap (λ (l : Lot). l.id) same ∙ e.id_is;
+      kind = ap (λ (l : Lot). l.kind) same ∙ e.kind;
+      dir_is = ap (λ (l : Lot). l.list.dir) same ∙ e.dir_is;
+      chan_is = ap (λ (l : Lot). l.chan) same ∙ e.chan_is;
+    }
+
+kept_end : (lots : List Lot) (lot : Lot) (end : LotId) (dir : Dir) (chan : ChanNo) (id : LotId) → is_lot id lot ≡ false → IsCopyEnd lots lot end dir chan → IsCopyEnd (lent id lots) lot end dir chan
+kept_end lots lot end dir chan id off e = record { here = kept_in sides.Device id lots lot off e.here; id_is = e.id_is; kind = e.kind; dir_is = e.dir_is; chan_is = e.chan_is }
+
+-- a lot of another side is none of those that are being lent
+unlent_off : (id : LotId) (lots : List Lot) (lot : Lot) (side : Side) → AreLending id lots → In lot lots → lot.side ≡ side → (side ≡ sides.Lending → ⊥) → is_lot id lot ≡ false
+unlent_off id lots lot side all here is other = false_from_ne_true (is_lot id lot) (λ named. other (sym is ∙ all_at (λ (l : Lot). is_lot id l ≡ true → l.side ≡ sides.Lending) lots lot all here named))
+
+unnamed_off : (id : LotId) (lot : Lot) → is_lot id lot ≡ false → same_lot id lot.id ≡ false
+unnamed_off id lot off = false_from_ne_true (same_lot id lot.id) (λ same. false≢true (sym off ∙ its_name lot id (sym (turn_name id lot.id same))))
+
+taken_lent : (lots : List Lot) (lot : Lot) (s : Step) (id : LotId) → is_lot id lot ≡ false → IsTaken lots lot s → IsTaken (lent id lots) lot s
+taken_lent lots lot s id off is = record { here = kept_in sides.Device id lots lot off is.here; kind = is.kind; side = is.side; first = is.first }
+
+drop_over : (f : Fixed) (ls ks : List Lot) (s : Step) (rest : List Step) → ls ≡ ks → (is : IsDrop f ls s rest) → (to : IsDrop f ks s rest) × (to.lot ≡ is.lot)
+drop_over f ls ks s rest e is = subst (λ (l : List Lot). (to : IsDrop f l s rest) × (to.lot ≡ is.lot)) e (is, refl)
+
+end_over : (f : Fixed) (ls ks : List Lot) (s : Step) (rest : List Step) → ls ≡ ks → (is : IsEnd f ls s rest) → (to : IsEnd f ks s rest) × (to.lot ≡ is.lot)
+end_over f ls ks s rest e is = subst (λ (l : List Lot). (to : IsEnd f l s rest) × (to.lot ≡ is.lot)) e (is, refl)
+
+step_lent : (f : Fixed) (lots : List Lot) (s : Step) (rest : List Step) (id : LotId) → StepGoes f lots s rest → AreLending id lots → IsApart id lots (s ∷ rest) → StepGoes f (lent id lots) s rest
+unfolding drop_lent end_lent
+step_lent f lots s rest id (Loads is) all apart =
+    let c = is.copied in
+    let off = copied_apart f lots s rest is.from is.to id c apart in
+    Loads (record {
+      from = is.from;
+      to = is.to;
+      copied = record { lot = c.lot; i = c.i; entry = c.entry; here = entry_lent lots c.lot c.i c.entry id c.here off; bounced = c.bounced; way = way_lent f lots c.lot c.entry rest is.from is.to id c.way off };
+      span = is.span;
+      step = is.step;
+      within = is.within;
+      next = is.next;
+    })
+step_lent f lots s rest id (Stores is) all apart =
+    let c = is.copied in
+    let off = copied_apart f lots s rest is.from is.to id c apart in
+    Stores (record {
+      from = is.from;
+      to = is.to;
+      copied = record { lot = c.lot; i = c.i; entry = c.entry; here = entry_lent lots c.lot c.i c.entry id c.here off; bounced = c.bounced; way = way_lent f lots c.lot c.entry rest is.from is.to id c.way off };
+      span = is.span;
+      act = is.act;
+      first = is.first;
+      within = is.within;
+      once = is.once;
+      next = is.next;
+      last = is.last;
+    })
+step_lent f lots s rest id (WritesBack is) all apart =
+    let off = apart is.lot is.hand.here (inl (is.hand.side_is, behind is.lot.id s rest is.later)) in
+    WritesBack (record { lot = is.lot; hand = hand_lent f lots is.lot false sides.Lending id is.hand off; op = is.op; block = is.block; step = is.step; writes = is.writes; later = is.later; next = is.next })
+step_lent f lots s rest id (Drops is) all apart = Drops (drop_lent f lots s rest id is (apart is.lot is.hand.here (inr is.hand.side_is)))
+step_lent f lots s rest id (Gives is) all apart =
+    let off = apart is.lot is.hand.here (inl (is.hand.side_is, by_turn is.lot.id s rest (turns.Give is.lot.id) (ap (λ (t : Step). t.last) is.step) (same_id is.lot.id))) in
+    Gives (record { lot = is.lot; hand = hand_lent f lots is.lot false sides.Lending id is.hand off; step = is.step; next = is.next })
+step_lent f lots s rest id (Fences is) all apart =
+    let off = apart is.lot is.hand.here (inr is.hand.side_is) in
+    Fences (record {
+      lot = is.lot;
+      hand = hand_lent f lots is.lot false sides.Returning id is.hand off;
+      step = is.step;
+      only = is.only;
+      next = is.next;
+      out = λ i e x here bounced back on. is.out i e x (record { lot_in = is.hand.here; entry = here.entry }) bounced back on;
+    })
+step_lent f lots s rest id (Ends is) all apart = Ends (end_lent f lots s rest id is (apart is.lot is.hand.here (inr is.hand.side_is)))
+step_lent f lots s rest id (Zeroes is) all apart =
+    let off = apart is.lot is.hand.here (inl (is.hand.side_is, behind is.lot.id s rest (settling_ends is.lot.id rest is.settles))) in
+    Zeroes (record {
+      lot = is.lot;
+      hand = hand_lent f lots is.lot true sides.Lending id is.hand off;
+      block = is.block;
+      step = is.step;
+      i = is.i;
+      entry = is.entry;
+      here = entry_lent lots is.lot is.i is.entry id is.here off;
+      whole = is.whole;
+      once = is.once;
+      settles = is.settles;
+      next = is.next;
+    })
+step_lent f lots s rest id (Flushes is) all apart =
+    let off = apart is.lot is.hand.here (inl (is.hand.side_is, behind is.lot.id s rest (settling_ends is.lot.id rest is.settles))) in
+    Flushes (record { lot = is.lot; hand = hand_lent f lots is.lot true sides.Lending id is.hand off; block = is.block; step = is.step; settles = is.settles; next = is.next })
+step_lent f lots s rest id (Settles is) all apart =
+    let off = apart is.lot is.hand.here (inl (is.hand.side_is, by_turn is.lot.id s rest (turns.Settle is.lot.id) (ap (λ (t : Step). t.last) is.step) (same_id is.lot.id))) in
+    Settles (record { lot = is.lot; hand = hand_lent f lots is.lot true sides.Lending id is.hand off; step = is.step; over = is.over })
+step_lent f lots s rest id (GivesArea is) all apart =
+    let off = apart is.lot is.hand.here (inl (is.hand.side_is, by_turn is.lot.id s rest (turns.Give is.lot.id) (ap (λ (t : Step). t.last) is.step) (same_id is.lot.id))) in
+    GivesArea (record { lot = is.lot; hand = hand_lent f lots is.lot true sides.Lending id is.hand off; step = is.step; over = is.over })
+step_lent f lots s rest id (TakesBack is) all apart =
+    let off = apart is.lot is.hand.here (inr is.hand.side_is) in
+    TakesBack (record { lot = is.lot; hand = hand_lent f lots is.lot true sides.Returning id is.hand off; turn = is.turn; is_back = is.is_back; step = is.step; over = is.over })
+step_lent f lots s rest id (Marks is) all apart =
+    let ended : HasEnd is.lot.id rest = ap (list_any (ends is.lot.id)) is.left ∙ or_left (ends is.lot.id (token_step is.lot)) false (by_token is.lot) in
+    let off = apart is.lot is.hand.here (inl (is.hand.side_is, behind is.lot.id s rest ended)) in
+    Marks (record { lot = is.lot; hand = hand_lent f lots is.lot (is_area is.lot.kind) sides.Lending id is.hand off; light = is.light; step = is.step; left = is.left })
+step_lent f lots s rest id (Posts is) all apart =
+    let ended : HasEnd is.lot.id (s ∷ rest) = or_left (ends is.lot.id s) (list_any (ends is.lot.id) rest) (ap (ends is.lot.id) is.step ∙ by_token is.lot) in
+    let off = apart is.lot is.hand.here (inl (is.hand.side_is, ended)) in
+    Posts (record { lot = is.lot; hand = hand_lent f lots is.lot (is_area is.lot.kind) sides.Lending id is.hand off; light = is.light; step = is.step; over = is.over })
+step_lent f lots s rest id (Claims is) all apart =
+    let reads = unlent_off id lots is.reads sides.Wanted all is.source_is.here is.wanted.0 (λ e. absurd (cc)) in
+    let writes = unlent_off id lots is.writes sides.Wanted all is.target_is.here is.wanted.1 (λ e. absurd (cc)) in
+    let P : Lot → Type 0 = λ (o : Lot). is_lot source o ≡ false → is_lot target o ≡ false → IsStill f o in
+    Claims (record {
+      chan = is.chan;
+      config = is.config;
+      reads = is.reads;
+      writes = is.writes;
+      source_is = kept_end lots is.reads source ToDev is.chan id reads is.source_is;
+      target_is = kept_end lots is.writes target FromDev is.chan id writes is.target_is;
+      wanted = is.wanted;
+      others = all_sided P P sides.Device id lots is.others (λ o was named a b. StillDevice refl) (λ o was off. was);
+      steps = is.steps;
+      next = is.next;
+    })
+step_lent f lots s rest id (Registers is) all apart =
+    Registers (record { chan = is.chan; off = is.off; width = is.width; value = is.value; step = is.step; still = still_lent f id lots is.still; next = is.next })
+step_lent f lots s rest id (Polls is) all apart =
+    Polls (record {
+      chan = is.chan;
+      step = is.step;
+      still = still_lent f id lots is.still;
+      reads = with_side sides.Device id is.reads;
+      writes = with_side sides.Device id is.writes;
+      source_is = end_by lots is.reads source ToDev is.chan id (is_lot id is.reads) refl is.source_is;
+      target_is = end_by lots is.writes target FromDev is.chan id (is_lot id is.writes) refl is.target_is;
+      more = is.more;
+      release = is.release;
+    })
+step_lent f lots s rest id (TakesTarget is) all apart =
+    let off = unlent_off id lots is.lot sides.Device all is.taken.here is.taken.side (λ e. absurd (cc)) in
+    let far : is_lot id is.goes.lot ≡ false = ap (is_lot id) is.same ∙ off in
+    let twice = sides_twice sides.Returning id is.lot.id lots (unnamed_off id is.lot off) in
+    let to = drop_over f (lent id (set_side sides.Returning is.lot.id lots)) (set_side sides.Returning is.lot.id (lent id lots)) (record s { first = turns.Stay }) rest (sym twice)
+    (drop_lent f (set_side sides.Returning is.lot.id lots) (record s { first = turns.Stay }) rest id is.goes far) in
+    TakesTarget (record {
+      lot = is.lot;
+      taken = taken_lent lots is.lot s id off is.taken;
+      goes = to.0;
+      same = to.1 ∙ is.same;
+      drops = is.drops;
+    })
+step_lent f lots s rest id (TakesSource is) all apart =
+    let off = unlent_off id lots is.lot sides.Device all is.taken.here is.taken.side (λ e. absurd (cc)) in
+    let far : is_lot id is.goes.lot ≡ false = ap (is_lot id) is.same ∙ off in
+    let twice = sides_twice sides.Returning id is.lot.id lots (unnamed_off id is.lot off) in
+    let to = end_over f (lent id (set_side sides.Returning is.lot.id lots)) (set_side sides.Returning is.lot.id (lent id lots)) (record s { first = turns.Stay }) rest (sym twice)
+    (end_lent f (set_side sides.Returning is.lot.id lots) (record s { first = turns.Stay }) rest id is.goes far) in
+    TakesSource (record {
+      lot = is.lot;
+      taken = taken_lent lots is.lot s id off is.taken;
+      goes = to.0;
+      same = to.1 ∙ is.same;
+      stays = is.stays;
+      last = is.last;
+    })
+
+-- a first turn is of no lot that is being lent
+first_off : (f : Fixed) (lots : List Lot) (s : Step) (rest : List Step) (id : LotId) → StepGoes f lots s rest → list_any (ends id) (s ∷ rest) ≡ false → turns_lot id s.first ≡ false
+first_off f lots s rest id goes none = false_from_ne_true (turns_lot id s.first) (λ turns. false≢true (sym none ∙ first_ends f lots s rest id goes turns))
+
+-- ---- what is left of a plan
 
 moves_apart : (id : LotId) (lots : List Lot) (steps : List Step) → list_any (ends id) steps ≡ false → AreLending id lots → IsApart id lots steps
 moves_apart id lots steps none all lot here (inl lends) =
@@ -290,8 +402,12 @@ plan_lent f lots [] id goes none all = still_lent f id lots goes
 plan_lent f lots (s ∷ rest) id goes none all =
     let off = or_parts (ends id s) (list_any (ends id) rest) none in
     let turn = (or_parts (turns_lot id s.last) (stores_io (tokens_lot id) s.act) off.0).0 in
-    let more = plan_lent f (lots_after s.last lots) rest id goes.1 off.1 (turn_lending id s.last lots turn all) in
-    (step_lent f lots s rest id goes.0 (moves_apart id lots (s ∷ rest) none all), subst (λ (ls : List Lot). PlanGoes f ls rest) (sym (turn_lent id s.last lots turn)) more)
+    let first = first_off f lots s rest id goes.0 none in
+    let lots_now = lots_after s.first lots in
+    let all_now = turn_lending id s.first lots first all in
+    let more = plan_lent f (lots_after s.last lots_now) rest id goes.1 off.1 (turn_lending id s.last lots_now turn all_now) in
+    let same : lots_after s.last (lots_after s.first (lent id lots)) ≡ lent id (lots_after s.last lots_now) = ap (lots_after s.last) (turn_lent id s.first lots first) ∙ turn_lent id s.last lots_now turn in
+    (step_lent f lots s rest id goes.0 all (moves_apart id lots (s ∷ rest) none all), subst (λ (ls : List Lot). PlanGoes f ls rest) (sym same) more)
 
 -- ---- the driver
 
@@ -325,7 +441,7 @@ op_lent d (ops.Run chan) id none all is = absurd is
 op_lent d (ops.Poll chan) id none all is = absurd is
 op_lent d (ops.Regr chan off width) id none all is = absurd is
 op_lent d (ops.Regw chan off width value) id none all is = absurd is
-op_lent d (ops.Copy chan src src_off dst dst_off len cfg) id none all is = absurd is
+op_lent d (ops.Copy chan src src_off dst dst_off len cfg) id none all is = left_lent d id none all is
 
 hand_of_lent : (d : DriverState) (o : Option Op) (id : LotId) → list_any (ends id) d.rest ≡ false → AreLending id d.lots → PlanOf d o → PlanOf (now d id) o
 hand_of_lent d None id none all is = absurd is

@@ -1,4 +1,5 @@
 pub mod Marks
+pub mod Copies
 pub mod FlatBytes
 pub mod Outcomes
 pub mod Loans

@@ -1,6 +1,6 @@
 -- What a mapping of a book is: an entry of a lot of its hart.
 use Rattle.std.proofs.Common.{◌≡◌, ℕ, ◌+◌, ◌<◌, ◌≤◌, cond, Bool, true, false, List, [], ◌∷◌, length, refl, sym, ap, ◌∙◌, inl, inr, subst, arith, Option, Some, None}
-use Rattle.std.specs.Prelude.{◌-◌, ◌==◌, ◌&&◌, nat_le, nat_lt, not, find, option_map, slice_get, slice_index_or}
+use Rattle.std.specs.Prelude.{◌-◌, ◌⊎◌, ◌==◌, ◌&&◌, nat_le, nat_lt, not, find, option_map, slice_get, slice_index_or}
 use Rattle.std.proofs.lemmas.Bool.{and_parts, and_from, cases_lt, false_from_ne_true, false≢true}
 use Rattle.std.proofs.lemmas.Bool.Decides.{nat_tests}
 use Rattle.std.proofs.lemmas.List.{get_or_past}
@@ -20,7 +20,7 @@ use Rattle.nc_rules.specs.Lots.{Fixed, is_lot, is_wanted, map_id, grant_of, no_e
 use Rattle.nc_rules.specs.Turns.{is_area}
 use Rattle.nc_rules.specs.World.{WorldState, no_driver, driver_of, hart}
 use Rattle.nc_rules.specs.World as worlds
-use Rattle.nc_scripts.specs.Drivers.{FitsKind, IsNamed, IsLotIn}
+use Rattle.nc_scripts.specs.Drivers.{FitsKind, IsNamed, IsEnd, IsLotIn}
 use Rattle.nc_scripts.proofs.Lists.{found, all_in}
 use Rattle.nc_scripts.proofs.LotLaws.{its_name}
 use Rattle.nc_holds.specs.Held.{IsEntryOf}
@@ -56,24 +56,68 @@ lot_of sc f w h lot flat here =
     let drives = flat.bytes.drives h (subst (λ k. h < k) flat.world.of_scenario.harts lt) in
     all_at IsMapping (driver_of w h).lots lot drives.lots here
 
--- a mapping has a script's name
-mapping_named : (pool : Span) (k : Kind) (id : LotId) (es : List Entry) → is_mapping k ≡ true → FitsKind pool k id es → IsNamed id
-mapping_named pool kinds.Single id es is fits = fits.0
-mapping_named pool kinds.List id es is fits = fits.0
-mapping_named pool kinds.Area id es is fits = fits.0
-mapping_named pool kinds.Copy id es is fits = absurd (false≢true is)
-
-pub lot_first : (sc : Scenario) (f : List ℕ) (w : WorldState) (h : ℕ) (lot : Lot) → Flatness sc f w → In lot (driver_of w h).lots → lot.id.first ≡ 0
-lot_first sc f w h lot flat here = (mapping_named (driver_of w h).fixed.pool lot.kind lot.id lot.list.entries (lot_of sc f w h lot flat here).kind (lot_in sc f w h lot flat here).kind).first
-
 label_lot : (lot : Lot) (id : LotId) → lot.id.label.0 ≡ id.label.0 → lot.id.first ≡ id.first → is_lot id lot ≡ true
 label_lot lot id a b = its_name lot id (λ i. record { label = record { 0 = a i }; first = b i })
 
--- two lots of one driver with one label are one
-pub one_lot : (sc : Scenario) (f : List ℕ) (w : WorldState) (h : ℕ) (a b : Lot) → Flatness sc f w → In a (driver_of w h).lots → In b (driver_of w h).lots → a.id.label.0 ≡ b.id.label.0 → a ≡ b
+-- two lots of one driver with one name are one
+pub one_lot : (sc : Scenario) (f : List ℕ) (w : WorldState) (h : ℕ) (a b : Lot) → Flatness sc f w → In a (driver_of w h).lots → In b (driver_of w h).lots → a.id ≡ b.id → a ≡ b
 one_lot sc f w h a b flat here there same =
     let lt = hart_of_lot w h a flat.world.holds here in
-    same_named (driver_of w h).lots b.id a b (flat.world.holds.each h lt).driver.apart here there (label_lot a b.id same (lot_first sc f w h a flat here ∙ sym (lot_first sc f w h b flat there))) (its_name b b.id refl)
+    same_named (driver_of w h).lots b.id a b (flat.world.holds.each h lt).driver.apart here there (its_name a b.id same) (its_name b b.id refl)
+
+-- a lot has a script's name, or it is an end of a copy and has one entry
+abbrev HasName : LotId → List Entry → Type 0
+HasName id es = IsNamed id ⊎ (IsEnd id × (length es ≡ 1))
+
+kind_named : (pool : Span) (k : Kind) (id : LotId) (es : List Entry) → FitsKind pool k id es → HasName id es
+kind_named pool kinds.Single id es fits = inl fits.0
+kind_named pool kinds.List id es fits = inl fits.0
+kind_named pool kinds.Area id es fits = inl fits.0
+kind_named pool kinds.Copy id es fits = inr fits
+
+-- the label and the number of a mapping tell its lot's name
+record IsNamedSo (n : MapId) (lot : Lot) : Type 0 where
+  pub lent : is_wanted lot.side ≡ false
+  pub label : lot.id.label.0 ≡ n.label.0
+  pub above : lot.id.first ≤ n.entry
+  pub below : n.entry < lot.id.first + length lot.list.entries
+
+not_true : (b : Bool) → not b ≡ true → b ≡ false
+not_true true e = absurd (false≢true e)
+not_true false e = refl
+
+named_by : (n : MapId) (lot : Lot) → is_entry_of n lot ≡ true → IsNamedSo n lot
+named_by n lot e =
+    let a = and_parts (not (is_wanted lot.side)) (lot.id.label.0 == n.label.0 && (nat_le lot.id.first n.entry && nat_lt n.entry (lot.id.first + length lot.list.entries))) e in
+    let b = and_parts (lot.id.label.0 == n.label.0) (nat_le lot.id.first n.entry && nat_lt n.entry (lot.id.first + length lot.list.entries)) a.1 in
+    let c = and_parts (nat_le lot.id.first n.entry) (nat_lt n.entry (lot.id.first + length lot.list.entries)) b.1 in
+    let label : lot.id.label.0 ≡ n.label.0 = let t = b.0 in grind (arith, nat_tests) in
+    let above : lot.id.first ≤ n.entry = let t = c.0 in grind (arith, nat_tests) in
+    let below : n.entry < lot.id.first + length lot.list.entries = let t = c.1 in grind (arith, nat_tests) in
+    record { lent = not_true (is_wanted lot.side) a.0; label = label; above = above; below = below }
+
+first_one : (n : MapId) (a b : Lot) → IsNamedSo n a → IsNamedSo n b → HasName a.id a.list.entries → HasName b.id b.list.entries → a.id.first ≡ b.id.first
+first_one n a b x y (inl p) (inl q) = p.first ∙ sym q.first
+first_one n a b x y (inl p) (inr q) = absurd (omega (arith, p.label, q.0.label, x.label, y.label))
+first_one n a b x y (inr p) (inl q) = absurd (omega (arith, q.label, p.0.label, x.label, y.label))
+first_one n a b x y (inr p) (inr q) = omega (arith, p.1, q.1, x.above, x.below, y.above, y.below)
+
+has_name : (sc : Scenario) (f : List ℕ) (w : WorldState) (h : ℕ) (lot : Lot) → Flatness sc f w → In lot (driver_of w h).lots → HasName lot.id lot.list.entries
+has_name sc f w h lot flat here = kind_named (driver_of w h).fixed.pool lot.kind lot.id lot.list.entries (lot_in sc f w h lot flat here).kind
+
+-- the lot of a mapping is one
+pub one_of : (sc : Scenario) (f : List ℕ) (w : WorldState) (h : ℕ) (n : MapId) (a b : Lot) → Flatness sc f w → In a (driver_of w h).lots → In b (driver_of w h).lots → is_entry_of n a ≡ true → is_entry_of n b ≡ true → a ≡ b
+one_of sc f w h n a b flat here there is too =
+    let x = named_by n a is in
+    let y = named_by n b too in
+    let label = x.label ∙ sym y.label in
+    let first = first_one n a b x y (has_name sc f w h a flat here) (has_name sc f w h b flat there) in
+    one_lot sc f w h a b flat here there (λ i. record { label = record { 0 = label i }; first = first i })
+
+-- so one of another lot is none of this one
+pub apart_lots : (sc : Scenario) (f : List ℕ) (w : WorldState) (h : ℕ) (n : MapId) (a b : Lot) → Flatness sc f w → In a (driver_of w h).lots → In b (driver_of w h).lots → is_lot a.id b ≡ false → is_entry_of n b ≡ true → is_entry_of n a ≡ false
+apart_lots sc f w h n a b flat here there off is =
+    false_from_ne_true (is_entry_of n a) (λ too. false≢true (sym off ∙ its_name b a.id (ap (λ (l : Lot). l.id) (one_of sc f w h n b a flat there here is too))))
 
 -- an area never bounces
 pub area_direct : (sc : Scenario) (f : List ℕ) (w : WorldState) (h : ℕ) (lot : Lot) (i : ℕ) (e : Entry) → Flatness sc f w → IsEntryOf (driver_of w h).lots lot i e → is_area lot.kind ≡ true → e.bounced ≡ false
@@ -92,9 +136,9 @@ pub record IsLoan (w : WorldState) (n : MapId) (l : Loan) : Type 0 where
   pub entry : Entry
   pub here : IsEntryOf (driver_of w n.hart.0).lots lot i entry
   pub kind : is_mapping lot.kind ≡ true
-  pub first : lot.id.first ≡ 0
   pub label : lot.id.label.0 ≡ n.label.0
-  pub number : n.entry ≡ i
+  pub number : n.entry ≡ lot.id.first + i
+  pub entry_of : is_entry_of n lot ≡ true
   pub name : n ≡ map_id (worlds.hart n.hart.0) lot.id i
   pub lent : is_wanted lot.side ≡ false
   pub loan : l ≡ loan_by (driver_of w n.hart.0).fixed n lot
@@ -104,24 +148,6 @@ pub record IsLoan (w : WorldState) (n : MapId) (l : Loan) : Type 0 where
   pub device : l.grant.device ≡ sg.device (driver_of w n.hart.0).fixed.slots_at entry
   pub dir : l.grant.dir ≡ lot.list.dir
   pub chan : l.grant.chan ≡ lot.chan
-
-record IsNamedSo (n : MapId) (lot : Lot) : Type 0 where
-  pub lent : is_wanted lot.side ≡ false
-  pub label : lot.id.label.0 ≡ n.label.0
-  pub below : n.entry < lot.id.first + length lot.list.entries
-
-not_true : (b : Bool) → not b ≡ true → b ≡ false
-not_true true e = absurd (false≢true e)
-not_true false e = refl
-
-named_by : (n : MapId) (lot : Lot) → is_entry_of n lot ≡ true → IsNamedSo n lot
-named_by n lot e =
-    let a = and_parts (not (is_wanted lot.side)) (lot.id.label.0 == n.label.0 && (nat_le lot.id.first n.entry && nat_lt n.entry (lot.id.first + length lot.list.entries))) e in
-    let b = and_parts (lot.id.label.0 == n.label.0) (nat_le lot.id.first n.entry && nat_lt n.entry (lot.id.first + length lot.list.entries)) a.1 in
-    let c = and_parts (nat_le lot.id.first n.entry) (nat_lt n.entry (lot.id.first + length lot.list.entries)) b.1 in
-    let label : lot.id.label.0 ≡ n.label.0 = let t = b.0 in grind (arith, nat_tests) in
-    let below : n.entry < lot.id.first + length lot.list.entries = let t = c.1 in grind (arith, nat_tests) in
-    record { lent = not_true (is_wanted lot.side) a.0; label = label; below = below }
 
 some_by : (f : Fixed) (n : MapId) (o : Option Lot) (l : Loan) → option_map (loan_by f n) o ≡ Some l → (lot : Lot) × (o ≡ Some lot) × (l ≡ loan_by f n lot)
 some_by f n None l e = absurd (cc)
@@ -134,28 +160,28 @@ loan_is sc f w n l flat e =
     let lot = some.0 in
     let it = found (λ (x : Lot). In x d.lots) (is_entry_of n) d.lots lot (all_in (λ (x : Lot). In x d.lots) d.lots (λ x k. k)) some.1 in
     let named = named_by n lot it.passes in
-    let first = lot_first sc f w n.hart.0 lot flat it.is in
     let kind = (lot_of sc f w n.hart.0 lot flat it.is).kind in
-    let less : n.entry < length lot.list.entries = omega (arith, first, named.below) in
-    let entry = slice_index_or lot.list.entries n.entry no_entry in
-    let at : slice_index_or lot.list.entries (n.entry - lot.id.first) no_entry ≡ entry = let k : n.entry - lot.id.first ≡ n.entry = omega (arith, first) in ap (λ (j : ℕ). slice_index_or lot.list.entries j no_entry) k in
+    let i = n.entry - lot.id.first in
+    let number : n.entry ≡ lot.id.first + i = omega (arith, named.above) in
+    let less : i < length lot.list.entries = omega (arith, named.above, named.below) in
+    let entry = slice_index_or lot.list.entries i no_entry in
     record {
       hart = hart_of_lot w n.hart.0 lot flat.world.holds it.is;
       lot = lot;
-      i = n.entry;
+      i = i;
       entry = entry;
-      here = record { lot_in = it.is; entry = slice_get-get_or lot.list.entries n.entry no_entry less };
+      here = record { lot_in = it.is; entry = slice_get-get_or lot.list.entries i no_entry less };
       kind = kind;
-      first = first;
       label = named.label;
-      number = refl;
-      name = let label = sym named.label in let entry : n.entry ≡ lot.id.first + n.entry = omega (arith, first) in λ i. record { hart = n.hart; label = record { 0 = label i }; entry = entry i };
+      number = number;
+      entry_of = it.passes;
+      name = let label = sym named.label in λ j. record { hart = n.hart; label = record { 0 = label j }; entry = number j };
       lent = named.lent;
       loan = some.2;
       lot_is = ap (λ (k : Loan). k.lot) some.2;
       area = ap (λ (k : Loan). k.area) some.2;
-      buffer = ap (λ (k : Loan). k.grant.buffer) some.2 ∙ ap (λ (e : Entry). e.span) at;
-      device = ap (λ (k : Loan). k.grant.device) some.2 ∙ ap (sg.device d.fixed.slots_at) at;
+      buffer = ap (λ (k : Loan). k.grant.buffer) some.2;
+      device = ap (λ (k : Loan). k.grant.device) some.2;
       dir = ap (λ (k : Loan). k.grant.dir) some.2;
       chan = ap (λ (k : Loan). k.grant.chan) some.2;
     }
@@ -166,8 +192,8 @@ unwanted : (b : Bool) → b ≡ false → not b ≡ true
 unwanted true e = absurd (false≢true (sym e))
 unwanted false e = refl
 
-entry_named : (h : ℕ) (lot : Lot) (i : ℕ) → i < length lot.list.entries → is_wanted lot.side ≡ false → is_entry_of (map_id (hart h) lot.id i) lot ≡ true
-entry_named h lot i lt lent =
+pub own_entry : (h : ℕ) (lot : Lot) (i : ℕ) → i < length lot.list.entries → is_wanted lot.side ≡ false → is_entry_of (map_id (hart h) lot.id i) lot ≡ true
+own_entry h lot i lt lent =
     let label : (lot.id.label.0 == lot.id.label.0) ≡ true = grind (arith, nat_tests) in
     let low : nat_le lot.id.first (lot.id.first + i) ≡ true = grind (arith, nat_tests) in
     let high : nat_lt (lot.id.first + i) (lot.id.first + length lot.list.entries) ≡ true = grind (arith, nat_tests) in
@@ -198,8 +224,9 @@ pub entry_loan : (sc : Scenario) (f : List ℕ) (w : WorldState) (h : ℕ) (lot 
 entry_loan sc f w h lot i e flat here lent =
     let d = driver_of w h in
     let n = map_id (hart h) lot.id i in
-    let alone : (other : Lot) → In other d.lots → is_entry_of n other ≡ true → other ≡ lot = λ other k t. one_lot sc f w h other lot flat k here.lot_in (named_by n other t).label in
-    let one : find (is_entry_of n) d.lots ≡ Some lot = find_only (is_entry_of n) d.lots lot here.lot_in (entry_named h lot i (get_below lot.list.entries i e here.entry) lent) alone in
+    let mine = own_entry h lot i (get_below lot.list.entries i e here.entry) lent in
+    let alone : (other : Lot) → In other d.lots → is_entry_of n other ≡ true → other ≡ lot = λ other k t. one_of sc f w h n other lot flat k here.lot_in t mine in
+    let one : find (is_entry_of n) d.lots ≡ Some lot = find_only (is_entry_of n) d.lots lot here.lot_in mine alone in
     let number : (lot.id.first + i) - lot.id.first ≡ i = omega arith in
     let entry : slice_index_or lot.list.entries ((lot.id.first + i) - lot.id.first) no_entry ≡ e =
     ap (λ (j : ℕ). slice_index_or lot.list.entries j no_entry) number ∙ get_or_from_slice_get lot.list.entries i e no_entry here.entry in

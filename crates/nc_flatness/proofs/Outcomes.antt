@@ -20,6 +20,7 @@ use Rattle.nc_rules.specs.Records.{moves_records}
 use Rattle.nc_rules.specs.World.{WorldState, driver_of, owners_moved}
 use Rattle.nc_flatness.specs.Flatness.{BytesStand}
 use Rattle.nc_flatness.specs.Steps.{GoesTo, EventGoes, Goes}
+use Rattle.nc_flatness.proofs.Copies.{copy_as}
 use Rattle.nc_flatness.proofs.Marks.{append_none, marks-append, moves_silent}
 
 -- the world behind a machine that goes on alone
@@ -45,6 +46,7 @@ stand_as sc f w v s = record {
   uncached = s.uncached;
   lasts = s.lasts;
   tokens = s.tokens;
+  copying = λ h lt. copy_as sc f w v h (s.copying h lt);
 }
 
 goes_as : (sc : Scenario) (f : List ℕ) (ms : List Mark) (w v : WorldState) → GoesTo sc f ms (record v { machine = w.machine; drivers = w.drivers; owners = w.owners }) → GoesTo sc f ms w

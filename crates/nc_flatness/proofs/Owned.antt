@@ -1,10 +1,11 @@
 -- The places of mappings: each is of an entry of a lot, whose side says its owner.
-use Rattle.std.proofs.Common.{◌≡◌, ℕ, zero, suc, ◌<◌, ◌≤◌, Bool, true, List, [], ◌∷◌, length, refl, sym, ap, subst, ◌∙◌, inl, inr, arith, Option, Some, None}
+use Rattle.std.proofs.Common.{◌≡◌, ℕ, zero, suc, ◌<◌, ◌≤◌, true, false, List, [], ◌∷◌, length, refl, sym, ap, subst, ◌∙◌, inl, inr, arith, Option, Some, None}
 use Rattle.std.specs.Prelude.{All, slice_index_or, slice_get}
-use Rattle.std.proofs.lemmas.Bool.{cases_lt}
+use Rattle.std.proofs.lemmas.Bool.{cases_lt, false_from_ne_true, false≢true}
 use Rattle.std.proofs.lemmas.List.{get_or_past}
 use Rattle.std.proofs.lemmas.List.Elements.{All-head, All-tail}
 use Rattle.nc_num.specs.Places.{covers}
+use Rattle.nc_num.specs.declared.names.ChanNo.{ChanNo}
 use Rattle.nc_num.specs.declared.names.HartNo.{HartNo}
 use Rattle.nc_num.specs.declared.names.MapId.{MapId}
 use Rattle.nc_num.specs.declared.places.Span.{Span}
@@ -13,6 +14,7 @@ use Rattle.nc_model.specs.declared.owners.Owner.TheVariants.{Pool}
 use Rattle.nc_own.specs.Books.{owner_in}
 use Rattle.nc_sg.specs.declared.list.Entry.{Entry}
 use Rattle.nc_ops.specs.declared.ops.Op.{Op}
+use Rattle.nc_ops.specs.declared.ops.Op.TheVariants as ops
 use Rattle.nc_scen.specs.declared.scenario.HartSpec.{HartSpec}
 use Rattle.nc_scen.specs.declared.scenario.Scenario.{Scenario}
 use Rattle.nc_rules.specs.declared.lots.Lot.{Lot}
@@ -21,7 +23,8 @@ use Rattle.nc_rules.specs.Lots.{Fixed, map_id, owner_of_side}
 use Rattle.nc_rules.specs.Start.{fixed_of, hart_spec, no_hart_spec}
 use Rattle.nc_rules.specs.Watched.{owner_of}
 use Rattle.nc_rules.specs.World.{WorldState, driver_of, hart}
-use Rattle.nc_holds.specs.Held.{IsEntryOf}
+use Rattle.nc_plan.specs.Plans.{In}
+use Rattle.nc_holds.specs.Held.{IsEntryOf, FitsSide}
 use Rattle.nc_holds.specs.Holds.{Holds}
 use Rattle.nc_holds.proofs.ListsA.{all_at, at_get}
 use Rattle.nc_holds.proofs.OwnerLots.{below}
@@ -51,6 +54,12 @@ pub entry_ram : (sc : Scenario) (f : List ℕ) (w : WorldState) (h : ℕ) (lot :
 entry_ram sc f w h lot i e x flat here on =
     let lt = below (length w.machine.cache.ram) (driver_of w h).fixed lot i e x (lot_in sc f w h lot flat here.lot_in) here.entry on in
     omega (arith, lt, flat.world.of_scenario.ram)
+
+-- what its kind says of a lot
+pub fits_side : (sc : Scenario) (f : List ℕ) (w : WorldState) (h : ℕ) (lot : Lot) → Flatness sc f w → In lot (driver_of w h).lots → FitsSide (driver_of w h).fixed lot
+fits_side sc f w h lot flat here =
+    let lt = hart_of_lot w h lot flat.world.holds here in
+    all_at (FitsSide (driver_of w h).fixed) (driver_of w h).lots lot (flat.world.holds.each h lt).agrees.sides here
 
 -- ---- the place of a mapping
 
@@ -110,8 +119,15 @@ script_by [] h all lt = absurd (omega (arith, lt))
 script_by (s ∷ specs) zero all lt = All-head IsCoveredScript s specs all
 script_by (s ∷ specs) (suc h) all lt = script_by specs h (All-tail IsCoveredScript s specs all) (omega (arith, lt))
 
--- the operation in hand is covered
-pub covered_op : (sc : Scenario) (w : WorldState) (h : ℕ) (o : Op) → IsCovered sc → IsWorldOf sc w → h < length sc.harts → in_hand (driver_of w h) ≡ Some o → is_covered_op o ≡ true
-covered_op sc w h o c world lt e =
-    covered_by (hart_spec sc h).script (driver_of w h).op o (script_by sc.harts h c.scripts lt)
-    (ap (λ (f : Fixed). slice_get f.script (driver_of w h).op) (sym (world.fixed h lt)) ∙ e)
+-- with light fences the operation in hand is covered
+pub covered_op : (sc : Scenario) (w : WorldState) (h : ℕ) (o : Op) → IsCovered sc → IsWorldOf sc w → h < length sc.harts → in_hand (driver_of w h) ≡ Some o → (driver_of w h).fixed.light ≡ true → is_covered_op o ≡ true
+covered_op sc w h o c world lt e light =
+    let fixed = world.fixed h lt in
+    covered_by (hart_spec sc h).script (driver_of w h).op o (script_by sc.harts h (c.scripts (sym (ap (λ (f : Fixed). f.light) fixed) ∙ light)) lt)
+    (ap (λ (f : Fixed). slice_get f.script (driver_of w h).op) (sym fixed) ∙ e)
+
+-- so a hart that has a copy in hand has full fences
+pub copy_full : (sc : Scenario) (w : WorldState) (h : ℕ) (chan : ChanNo) (src src_off dst dst_off len cfg : ℕ) → IsCovered sc → IsWorldOf sc w → h < length sc.harts → in_hand (driver_of w h) ≡ Some (ops.Copy chan src src_off dst dst_off len cfg)
+    → (driver_of w h).fixed.light ≡ false
+copy_full sc w h chan src src_off dst dst_off len cfg c world lt e =
+    false_from_ne_true (driver_of w h).fixed.light (λ light. false≢true (covered_op sc w h (ops.Copy chan src src_off dst dst_off len cfg) c world lt e light))

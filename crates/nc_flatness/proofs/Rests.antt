@@ -1,13 +1,16 @@
 -- What the rest of a plan is still to do: the end of each lot that is not still, a store of a last load's bytes as it comes
 -- next, and the lot that its next step is of.
-use Rattle.std.proofs.Common.{◌≡◌, ℕ, ◌≤◌, cond, Bool, true, false, List, [], ◌∷◌, length, refl, sym, ap, ◌∙◌, inl, inr, Option, Some, None}
-use Rattle.std.specs.Prelude.{◌≢◌, not, ◌==◌, ◌||◌, ◌⊎◌, All, find}
+use Rattle.std.proofs.Common.{◌≡◌, ℕ, ◌≤◌, cond, Bool, true, false, List, [], ◌∷◌, ◌++◌, length, refl, sym, ap, ◌∙◌, inl, inr, subst, Option, Some, None}
+use Rattle.std.specs.Prelude.{◌≢◌, not, ◌==◌, ◌||◌, find, map}
 use Rattle.std.specs.List.{list_any}
-use Rattle.std.proofs.lemmas.Bool.{and_from, or_parts, or_left, or_right, eq-eqb, false_from_ne_true, false≢true}
+use Rattle.std.proofs.lemmas.Bool.{cases_Bool, and_parts, and_from, or_parts, or_left, or_right, cond-true, cond-false, eqb-true, eq-eqb, false_from_ne_true, false≢true}
 use Rattle.std.proofs.lemmas.List.{get_or_past}
+use Rattle.std.proofs.lemmas.List.Folds.{list_any-append}
+use Rattle.nc_num.specs.declared.names.ChanNo.{ChanNo}
 use Rattle.nc_num.specs.declared.names.HartNo.{HartNo}
 use Rattle.nc_num.specs.declared.places.Span.{Span}
-use Rattle.nc_plan.specs.Plans.{In, moved}
+use Rattle.nc_plan.specs.Plans.{In, full, moved}
+use Rattle.nc_memcpy.specs.Copy.{transfer}
 use Rattle.nc_ops.specs.declared.ops.Op.{Op}
 use Rattle.nc_ops.specs.declared.ops.Op.TheVariants as ops
 use Rattle.nc_rules.specs.declared.lots.Lot.{Lot}
@@ -20,15 +23,18 @@ use Rattle.nc_rules.specs.declared.steps.Step.{Step}
 use Rattle.nc_rules.specs.declared.steps.Turn.{Turn}
 use Rattle.nc_rules.specs.declared.steps.Turn.TheVariants as turns
 use Rattle.nc_rules.specs.Driver.{DriverState, in_hand}
-use Rattle.nc_rules.specs.Lots.{Fixed, is_lot}
-use Rattle.nc_rules.specs.Turns.{is_area, with_side, set_side, lots_after}
+use Rattle.nc_rules.specs.Copies.{source, copy_step, claim_step, back_steps, end_part, copy_steps}
+use Rattle.nc_rules.specs.Lots.{Fixed, is_lot, map_id, parts}
+use Rattle.nc_rules.specs.Plans.{hart_step, op_steps, turning, carried, token_steps, lending_end, lend_steps}
+use Rattle.nc_rules.specs.Turns.{with_side, set_side, lots_after, lots_after_both}
 use Rattle.nc_rules.specs.World.{WorldState, no_driver, driver_of}
 use Rattle.nc_holds.proofs.ListsA.{all_at, in_filter, same_some}
 use Rattle.nc_holds.specs.Rests.{RestAt}
-use Rattle.nc_rows.specs.Ahead.{same_lot, turns_lot, stores_io, tokens_lot, ends, is_settling, settling}
+use Rattle.nc_rows.specs.Ahead.{same_lot, turns_lot, stores_io, tokens_lot, ends, is_settling, settling, is_full}
 use Rattle.nc_rows.specs.Parts.{act_last, rest_last}
+use Rattle.nc_rows.proofs.Steps.{steps_ahead}
 use Rattle.nc_flatness.specs.Flatness.{IsHanding, PlanLeft, PlanIs, PlanOf, StandsAt, Drives}
-use Rattle.nc_flatness.specs.Plans.{IsStill, StillDevice, StillSynced, StillOwn, StillSent, IsInHand, HasEnd, IsCopied, token_step, IsStore, StepGoes, Loads, Stores, WritesBack, Drops, Gives, Fences, Ends, Zeroes, Flushes, Settles, GivesArea, TakesBack, Marks, Posts, PlanGoes, EndsOne}
+use Rattle.nc_flatness.specs.Plans.{IsStill, StillDevice, StillSynced, StillOwn, StillSent, HasFull, HasEnd, token_step, IsStore, StepGoes, Loads, Stores, WritesBack, Drops, Gives, Fences, Ends, Zeroes, Flushes, Settles, GivesArea, TakesBack, Marks, Posts, Claims, Registers, Polls, TakesTarget, TakesSource, PlanGoes, EndsOne}
 
 -- ---- the end of a lot
 
@@ -53,29 +59,7 @@ later_by : (a b : Bool) → (a ≡ false → b ≡ true) → (a || b) ≡ true
 later_by true b more = refl
 later_by false b more = more refl
 
--- a lot that is not still has its end in the rest
-pub ends_later : (f : Fixed) (lots : List Lot) (rest : List Step) (lot : Lot) → PlanGoes f lots rest → In lot lots → (IsStill f lot → ⊥) → list_any (ends lot.id) rest ≡ true
-ends_later f lots [] lot goes here moves = absurd (moves (all_at (IsStill f) lots lot goes here))
-ends_later f lots (s ∷ rest) lot goes here moves =
-    later_by (ends lot.id s) (list_any (ends lot.id) rest) (λ off. ends_later f (lots_after s.last lots) rest lot goes.1 (stays_in s.last lots lot (or_parts (turns_lot lot.id s.last) _ off).0 here) moves)
-
--- a lot that is taken back is not still, and one that is lent is so with light fences alone
-pub back_moves : (f : Fixed) (lot : Lot) → lot.side ≡ sides.Returning → IsStill f lot → ⊥
-back_moves f lot is (StillDevice side) = let both = sym side ∙ is in absurd (cc)
-back_moves f lot is (StillSynced side kind) = let both = sym side ∙ is in absurd (cc)
-back_moves f lot is (StillOwn side kind) = let both = sym side ∙ is in absurd (cc)
-back_moves f lot is (StillSent side light) = let both = sym side ∙ is in absurd (cc)
-
-pub lend_light : (f : Fixed) (lot : Lot) → lot.side ≡ sides.Lending → IsStill f lot → f.light ≡ true
-lend_light f lot is (StillDevice side) = let both = sym side ∙ is in absurd (cc)
-lend_light f lot is (StillSynced side kind) = let both = sym side ∙ is in absurd (cc)
-lend_light f lot is (StillOwn side kind) = let both = sym side ∙ is in absurd (cc)
-lend_light f lot is (StillSent side light) = light
-
-pub lend_moves : (f : Fixed) (lot : Lot) → lot.side ≡ sides.Lending → f.light ≡ false → IsStill f lot → ⊥
-lend_moves f lot is full still = false≢true (sym full ∙ lend_light f lot is still)
-
--- ---- what a rest ends
+-- ---- the end of a stay
 
 settles_by : (id : LotId) (s : Step) (rest : List Step) (t : Bool) → is_settling id (cond t (Some s) (find (ends id) rest)) ≡ true → (settling id rest ≡ true → HasEnd id rest) → (t || list_any (ends id) rest) ≡ true
 settles_by id s rest true is more = refl
@@ -101,65 +85,119 @@ by_turn id s rest t last is = or_left (ends id s) (list_any (ends id) rest) (or_
 pub by_token : (lot : Lot) → ends lot.id (token_step lot) ≡ true
 by_token lot = same_id lot.id
 
--- where it ends the stay of the lots of one label alone, it ends none of another
-pub ends_others : (steps : List Step) (a b : LotId) → EndsOne steps → HasEnd a steps → a.label.0 ≢ b.label.0 → list_any (ends b) steps ≡ false
+-- ---- the first turn of a step
+
+pub turn_name : (a b : LotId) → same_lot a b ≡ true → a ≡ b
+turn_name a b is =
+    let both = and_parts (a.label.0 == b.label.0) (a.first == b.first) is in
+    let label = eqb-true a.label.0 b.label.0 both.0 in
+    let first = eqb-true a.first b.first both.1 in
+    λ i. record { label = record { 0 = label i }; first = first i }
+
+stay_turns : (id : LotId) (t : Turn) → t ≡ turns.Stay → turns_lot id t ≡ false
+stay_turns id t is = ap (turns_lot id) is
+
+pub before : (id : LotId) (steps more : List Step) → HasEnd id steps → HasEnd id (steps ++ more)
+before id steps more ended = list_any-append (ends id) steps more ∙ or_left (list_any (ends id) steps) (list_any (ends id) more) ended
+
+-- the lending of a lot ends its stay
+pub lend_ends : (f : Fixed) (lot : Lot) → HasEnd lot.id (lend_steps f lot)
+lend_ends f lot =
+    let ops = op_steps (carried f.effects f.size (parts f lot)) in
+    list_any-append (ends lot.id) ops (lending_end f lot) ∙ or_right (list_any (ends lot.id) ops) (list_any (ends lot.id) (lending_end f lot)) (by_light f.light refl)
+  where
+    by_light : (t : Bool) → f.light ≡ t → list_any (ends lot.id) (lending_end f lot) ≡ true
+    by_light true is = ap (list_any (ends lot.id)) (cond-true f.light (token_steps lot) (turning (turns.Give lot.id) (hart_step full) ∷ []) is) ∙ or_left (ends lot.id (token_step lot)) false (by_token lot)
+    by_light false is =
+        ap (list_any (ends lot.id)) (cond-false f.light (token_steps lot) (turning (turns.Give lot.id) (hart_step full) ∷ []) is) ∙ or_left (ends lot.id (turning (turns.Give lot.id) (hart_step full))) false (or_left (same_lot lot.id lot.id) false (same_id lot.id))
+
+-- a full fence that is to come is before the end of the lot's stay
+pub full_ends : (id : LotId) (rest : List Step) → HasFull id rest true → HasEnd id rest
+full_ends id rest full = elim (cases_Bool (list_any (ends id) rest)) [
+  | inl some ↦ some
+  | inr none ↦ let n = map_id (record { 0 = 0 }) id 0 in absurd (false≢true (sym (ap (list_any is_full) (steps_ahead.none n id rest none)) ∙ full n))
+]
+
+-- the plan of a copy ends the stay of its source
+pub copy_ends : (f : Fixed) (chan : ChanNo) (config : ℕ) (src dst : Lot) → HasEnd src.id (copy_steps f chan config src dst)
+copy_ends f chan config src dst =
+    let lends = claim_step chan ∷ lend_steps f src in
+    let both = lends ++ lend_steps f dst in
+    let moves = map (copy_step chan) (transfer chan (end_part f src) (end_part f dst) config) in
+    before src.id (both ++ moves ++ back_steps f dst) (back_steps f src)
+    (before src.id (both ++ moves) (back_steps f dst) (before src.id both moves (before src.id lends (lend_steps f dst) (behind src.id (claim_step chan) (lend_steps f src) (lend_ends f src)))))
+
+-- a lot that a step's first turn is of has its end to come
+pub first_ends : (f : Fixed) (lots : List Lot) (s : Step) (rest : List Step) (id : LotId) → StepGoes f lots s rest → turns_lot id s.first ≡ true → HasEnd id (s ∷ rest)
+first_ends f lots s rest id (Loads is) on = absurd (false≢true (sym (stay_turns id s.first (ap (λ (t : Step). t.first) is.step)) ∙ on))
+first_ends f lots s rest id (Stores is) on = absurd (false≢true (sym (stay_turns id s.first is.first) ∙ on))
+first_ends f lots s rest id (WritesBack is) on = absurd (false≢true (sym (stay_turns id s.first (ap (λ (t : Step). t.first) is.step)) ∙ on))
+first_ends f lots s rest id (Drops is) on = absurd (false≢true (sym (stay_turns id s.first (ap (λ (t : Step). t.first) is.step)) ∙ on))
+first_ends f lots s rest id (Gives is) on = absurd (false≢true (sym (stay_turns id s.first (ap (λ (t : Step). t.first) is.step)) ∙ on))
+first_ends f lots s rest id (Fences is) on = absurd (false≢true (sym (stay_turns id s.first (ap (λ (t : Step). t.first) is.step)) ∙ on))
+first_ends f lots s rest id (Ends is) on = absurd (false≢true (sym (stay_turns id s.first (ap (λ (t : Step). t.first) is.step)) ∙ on))
+first_ends f lots s rest id (Zeroes is) on = absurd (false≢true (sym (stay_turns id s.first (ap (λ (t : Step). t.first) is.step)) ∙ on))
+first_ends f lots s rest id (Flushes is) on = absurd (false≢true (sym (stay_turns id s.first (ap (λ (t : Step). t.first) is.step)) ∙ on))
+first_ends f lots s rest id (Settles is) on = absurd (false≢true (sym (stay_turns id s.first (ap (λ (t : Step). t.first) is.step)) ∙ on))
+first_ends f lots s rest id (GivesArea is) on = absurd (false≢true (sym (stay_turns id s.first (ap (λ (t : Step). t.first) is.step)) ∙ on))
+first_ends f lots s rest id (TakesBack is) on = absurd (false≢true (sym (stay_turns id s.first (ap (λ (t : Step). t.first) is.step)) ∙ on))
+first_ends f lots s rest id (Marks is) on = absurd (false≢true (sym (stay_turns id s.first (ap (λ (t : Step). t.first) is.step)) ∙ on))
+first_ends f lots s rest id (Posts is) on = absurd (false≢true (sym (stay_turns id s.first (ap (λ (t : Step). t.first) is.step)) ∙ on))
+first_ends f lots s rest id (Registers is) on = absurd (false≢true (sym (stay_turns id s.first (ap (λ (t : Step). t.first) is.step)) ∙ on))
+first_ends f lots s rest id (Polls is) on = absurd (false≢true (sym (stay_turns id s.first (ap (λ (t : Step). t.first) is.step)) ∙ on))
+first_ends f lots s rest id (Claims is) on =
+    let steps = is.steps in
+    let first : s.first ≡ turns.Lend source = ap first_of steps in
+    let name : id ≡ is.reads.id = turn_name id source (sym (ap (turns_lot id) first) ∙ on) ∙ sym is.source_is.id_is in
+    subst (λ (k : LotId). HasEnd k (s ∷ rest)) (sym name) (subst (λ (r : List Step). HasEnd is.reads.id r) (sym steps) (copy_ends f is.chan is.config is.reads is.writes))
+  where
+    first_of : List Step → Turn
+    first_of [] = turns.Stay
+    first_of (t ∷ ts) = t.first
+first_ends f lots s rest id (TakesTarget is) on =
+    let name : id ≡ is.lot.id = turn_name id is.lot.id (sym (ap (turns_lot id) is.taken.first) ∙ on) in
+    let ended = full_ends is.goes.lot.id rest is.goes.ahead in
+    behind id s rest (subst (λ (k : LotId). HasEnd k rest) (ap (λ (l : Lot). l.id) is.same ∙ sym name) ended)
+first_ends f lots s rest id (TakesSource is) on =
+    let name : id ≡ is.lot.id = turn_name id is.lot.id (sym (ap (turns_lot id) is.taken.first) ∙ on) in
+    let last : s.last ≡ is.goes.turn = ap (λ (t : Step). t.last) is.goes.step in
+    let ended : HasEnd is.goes.lot.id (s ∷ rest) = elim is.goes.is_back [
+      | inl sync ↦ by_turn is.goes.lot.id s rest (turns.Sync is.goes.lot.id) (last ∙ sync) (same_id is.goes.lot.id)
+      | inr end ↦ by_turn is.goes.lot.id s rest (turns.End is.goes.lot.id) (last ∙ end) (same_id is.goes.lot.id)
+    ] in
+    subst (λ (k : LotId). HasEnd k (s ∷ rest)) (ap (λ (l : Lot). l.id) is.same ∙ sym name) ended
+
+-- a lot that is not still has its end in the rest
+pub ends_later : (f : Fixed) (lots : List Lot) (rest : List Step) (lot : Lot) → PlanGoes f lots rest → In lot lots → (IsStill f lot → ⊥) → list_any (ends lot.id) rest ≡ true
+ends_later f lots [] lot goes here moves = absurd (moves (all_at (IsStill f) lots lot goes here))
+ends_later f lots (s ∷ rest) lot goes here moves = elim (cases_Bool (turns_lot lot.id s.first)) [
+  | inl first ↦ first_ends f lots s rest lot.id goes.0 first
+  | inr off ↦
+      later_by (ends lot.id s) (list_any (ends lot.id) rest) (λ none.
+      ends_later f (lots_after_both s.first s.last lots) rest lot goes.1 (stays_in s.last (lots_after s.first lots) lot (or_parts (turns_lot lot.id s.last) _ none).0 (stays_in s.first lots lot off here)) moves)
+]
+
+-- a lot that is taken back is not still, and one that is lent is so with light fences alone
+pub back_moves : (f : Fixed) (lot : Lot) → lot.side ≡ sides.Returning → IsStill f lot → ⊥
+back_moves f lot is (StillDevice side) = let both = sym side ∙ is in absurd (cc)
+back_moves f lot is (StillSynced side kind) = let both = sym side ∙ is in absurd (cc)
+back_moves f lot is (StillOwn side kind) = let both = sym side ∙ is in absurd (cc)
+back_moves f lot is (StillSent side light) = let both = sym side ∙ is in absurd (cc)
+
+pub lend_light : (f : Fixed) (lot : Lot) → lot.side ≡ sides.Lending → IsStill f lot → f.light ≡ true
+lend_light f lot is (StillDevice side) = let both = sym side ∙ is in absurd (cc)
+lend_light f lot is (StillSynced side kind) = let both = sym side ∙ is in absurd (cc)
+lend_light f lot is (StillOwn side kind) = let both = sym side ∙ is in absurd (cc)
+lend_light f lot is (StillSent side light) = light
+
+pub lend_moves : (f : Fixed) (lot : Lot) → lot.side ≡ sides.Lending → f.light ≡ false → IsStill f lot → ⊥
+lend_moves f lot is full still = false≢true (sym full ∙ lend_light f lot is still)
+
+-- ---- what a rest ends
+
+-- where it ends the stay of the lots of one name alone, it ends none of another
+pub ends_others : (steps : List Step) (a b : LotId) → EndsOne steps → HasEnd a steps → a ≢ b → list_any (ends b) steps ≡ false
 ends_others steps a b one ended other = false_from_ne_true (list_any (ends b) steps) (λ too. other (one a b ended too))
-
--- ---- the lot in hand
-
--- the lot that the next step of a plan is of: the others are still, and where it is lent its end is to come
-pub record IsWorked (f : Fixed) (lots : List Lot) (steps : List Step) : Type 0 where
-  pub lot : Lot
-  pub here : In lot lots
-  pub moves : (lot.side ≡ sides.Lending) ⊎ (lot.side ≡ sides.Returning)
-  pub others : All (λ other. is_lot lot.id other ≡ false → IsStill f other) lots
-  pub later : lot.side ≡ sides.Lending → HasEnd lot.id steps
-
-lent_worked : (f : Fixed) (lots : List Lot) (steps : List Step) (lot : Lot) (area : Bool) → IsInHand f lots lot area sides.Lending → HasEnd lot.id steps → IsWorked f lots steps
-lent_worked f lots steps lot area hand later = record { lot = lot; here = hand.here; moves = inl hand.side_is; others = hand.others; later = λ side. later }
-
-back_worked : (f : Fixed) (lots : List Lot) (steps : List Step) (lot : Lot) (area : Bool) → IsInHand f lots lot area sides.Returning → IsWorked f lots steps
-back_worked f lots steps lot area hand = record {
-  lot = lot;
-  here = hand.here;
-  moves = inr hand.side_is;
-  others = hand.others;
-  later = λ side. let both : sides.Returning ≡ sides.Lending = sym hand.side_is ∙ side in absurd (cc);
-}
-
-copied_worked : (f : Fixed) (lots : List Lot) (s : Step) (rest : List Step) (from to : Span) → IsCopied f lots rest from to → IsWorked f lots (s ∷ rest)
-copied_worked f lots s rest from to c = elim c.way [
-  | inl goes ↦ lent_worked f lots (s ∷ rest) c.lot false goes.hand (behind c.lot.id s rest goes.later)
-  | inr comes ↦ back_worked f lots (s ∷ rest) c.lot false comes.hand
-]
-
-turned_worked : (f : Fixed) (lots : List Lot) (s : Step) (rest : List Step) (lot : Lot) (area : Bool) (t : Turn) → IsInHand f lots lot area sides.Lending → s.last ≡ t → turns_lot lot.id t ≡ true → IsWorked f lots (s ∷ rest)
-turned_worked f lots s rest lot area t hand last is = lent_worked f lots (s ∷ rest) lot area hand (by_turn lot.id s rest t last is)
-
-pub worked_of : (f : Fixed) (lots : List Lot) (s : Step) (rest : List Step) → StepGoes f lots s rest → IsWorked f lots (s ∷ rest)
-worked_of f lots s rest (Loads is) = copied_worked f lots s rest is.from is.to is.copied
-worked_of f lots s rest (Stores is) = copied_worked f lots s rest is.from is.to is.copied
-worked_of f lots s rest (WritesBack is) = lent_worked f lots (s ∷ rest) is.lot false is.hand (behind is.lot.id s rest is.later)
-worked_of f lots s rest (Drops is) = back_worked f lots (s ∷ rest) is.lot false is.hand
-worked_of f lots s rest (Gives is) = turned_worked f lots s rest is.lot false (turns.Give is.lot.id) is.hand (ap (λ (t : Step). t.last) is.step) (same_id is.lot.id)
-worked_of f lots s rest (Fences is) = back_worked f lots (s ∷ rest) is.lot false is.hand
-worked_of f lots s rest (Ends is) = back_worked f lots (s ∷ rest) is.lot false is.hand
-worked_of f lots s rest (Zeroes is) = lent_worked f lots (s ∷ rest) is.lot true is.hand (behind is.lot.id s rest (settling_ends is.lot.id rest is.settles))
-worked_of f lots s rest (Flushes is) = lent_worked f lots (s ∷ rest) is.lot true is.hand (behind is.lot.id s rest (settling_ends is.lot.id rest is.settles))
-worked_of f lots s rest (Settles is) = turned_worked f lots s rest is.lot true (turns.Settle is.lot.id) is.hand (ap (λ (t : Step). t.last) is.step) (same_id is.lot.id)
-worked_of f lots s rest (GivesArea is) = turned_worked f lots s rest is.lot true (turns.Give is.lot.id) is.hand (ap (λ (t : Step). t.last) is.step) (same_id is.lot.id)
-worked_of f lots s rest (TakesBack is) = back_worked f lots (s ∷ rest) is.lot true is.hand
-worked_of f lots s rest (Marks is) =
-    lent_worked f lots (s ∷ rest) is.lot (is_area is.lot.kind) is.hand (behind is.lot.id s rest (ap (list_any (ends is.lot.id)) is.left ∙ or_left (ends is.lot.id (token_step is.lot)) false (by_token is.lot)))
-worked_of f lots s rest (Posts is) =
-    lent_worked f lots (s ∷ rest) is.lot (is_area is.lot.kind) is.hand (or_left (ends is.lot.id s) (list_any (ends is.lot.id) rest) (ap (ends is.lot.id) is.step ∙ by_token is.lot))
-
--- so its end is to come, be it lent or taken back
-pub worked_ends : (f : Fixed) (lots : List Lot) (s : Step) (rest : List Step) → (k : IsWorked f lots (s ∷ rest)) → PlanGoes f lots (s ∷ rest) → HasEnd k.lot.id (s ∷ rest)
-worked_ends f lots s rest k goes = elim k.moves [
-  | inl lends ↦ k.later lends
-  | inr returns ↦ ends_later f lots (s ∷ rest) k.lot goes k.here (back_moves f k.lot returns)
-]
 
 -- ---- a store of a last load's bytes
 
@@ -189,6 +227,11 @@ store_of f lots s rest span (GivesArea is) e = absurd (none_some (act_last s.act
 store_of f lots s rest span (TakesBack is) e = absurd (none_some (act_last s.act) span (ap (λ (t : Step). act_last t.act) is.step) e)
 store_of f lots s rest span (Marks is) e = absurd (none_some (act_last s.act) span (ap (λ (t : Step). act_last t.act) is.step) e)
 store_of f lots s rest span (Posts is) e = absurd (none_some (act_last s.act) span (ap (λ (t : Step). act_last t.act) is.step) e)
+store_of f lots s rest span (Claims is) e = absurd (none_some (act_last s.act) span (ap rest_last is.steps) e)
+store_of f lots s rest span (Registers is) e = absurd (none_some (act_last s.act) span (ap (λ (t : Step). act_last t.act) is.step) e)
+store_of f lots s rest span (Polls is) e = absurd (none_some (act_last s.act) span (ap (λ (t : Step). act_last t.act) is.step) e)
+store_of f lots s rest span (TakesTarget is) e = absurd (none_some (act_last s.act) span (ap (λ (t : Step). act_last t.act) is.goes.step) e)
+store_of f lots s rest span (TakesSource is) e = absurd (none_some (act_last s.act) span (ap (λ (t : Step). act_last t.act) is.goes.step) e)
 
 goes_store : (f : Fixed) (lots : List Lot) (rest : List Step) (span : Span) → PlanGoes f lots rest → rest_last rest ≡ Some span → IsNextStore f lots span
 goes_store f lots [] span goes e = absurd (cc)
@@ -224,7 +267,7 @@ op_store d (ops.Calloc label pages chan) span is e = goes_store d.fixed d.lots d
 op_store d (ops.Cgive label) span is e = goes_store d.fixed d.lots d.rest span is.goes e
 op_store d (ops.Ctake label) span is e = goes_store d.fixed d.lots d.rest span is.goes e
 op_store d (ops.Cfree label) span is e = goes_store d.fixed d.lots d.rest span is.goes e
-op_store d (ops.Copy chan src src_off dst dst_off len cfg) span is e = absurd is
+op_store d (ops.Copy chan src src_off dst dst_off len cfg) span is e = goes_store d.fixed d.lots d.rest span is.goes e
 
 hand_store : (d : DriverState) (o : Option Op) (span : Span) → PlanOf d o → rest_last d.rest ≡ Some span → IsNextStore d.fixed d.lots span
 hand_store d None span is e = absurd is
@@ -275,7 +318,7 @@ op_left d (ops.Run chan) id is e = absurd is
 op_left d (ops.Poll chan) id is e = absurd is
 op_left d (ops.Regr chan off width) id is e = absurd is
 op_left d (ops.Regw chan off width value) id is e = absurd is
-op_left d (ops.Copy chan src src_off dst dst_off len cfg) id is e = absurd is
+op_left d (ops.Copy chan src src_off dst dst_off len cfg) id is e = is
 
 plan_of : (d : DriverState) (o : Option Op) (id : LotId) → PlanOf d o → HasEnd id d.rest → PlanLeft d
 plan_of d None id is e = absurd is

@@ -21,6 +21,7 @@ use Rattle.nc_scen.specs.Accepted.{IsAccepted}
 use Rattle.nc_scen.specs.Regions.{slots_of, pool_of}
 use Rattle.nc_scen.specs.declared.scenario.Scenario.{Scenario}
 use Rattle.nc_rules.specs.declared.lots.Lot.{Lot}
+use Rattle.nc_rules.specs.declared.steps.Phase.TheVariants.{Steps}
 use Rattle.nc_rules.specs.declared.steps.Step.{Step}
 use Rattle.nc_rules.specs.Driver.{DriverState}
 use Rattle.nc_rules.specs.Machine.{MachineState, hart_of, queue_of}
@@ -40,6 +41,7 @@ use Rattle.nc_flatness.specs.Tokens.{TokenStands}
 use Rattle.nc_flatness.specs.Steps.{StartIsFlat}
 use Rattle.nc_flatness.proofs.Regions.{buffer_at, pool_off, slots_off}
 use Rattle.nc_flatness.proofs.BookReads.{uncached_of}
+use Rattle.nc_flatness.proofs.Copies.{copy_idle}
 use Rattle.nc_flatness.proofs.Rests.{no_rest}
 use Rattle.nc_flatness.proofs.StartOwners.{owner_elsewhere, IsPlainOwner, plain_owner, all_pool}
 use Rattle.nc_flatness.proofs.Worlds.{driver_start, machine_start, worlds_start}
@@ -142,6 +144,13 @@ lots_first sc h = refl
 lots_start : (sc : Scenario) (h : ℕ) → h < length sc.harts → (driver_of (start sc) h).lots ≡ []
 lots_start sc h lt = ap (λ (d : DriverState). d.lots) (driver_start sc h lt) ∙ lots_first sc h
 
+phase_first : (sc : Scenario) (h : ℕ) → (first_driver sc (hart h)).phase ≡ Steps 0
+unfolding first_driver
+phase_first sc h = refl
+
+phase_start : (sc : Scenario) (h : ℕ) → h < length sc.harts → (driver_of (start sc) h).phase ≡ Steps 0
+phase_start sc h lt = ap (λ (d : DriverState). d.phase) (driver_start sc h lt) ∙ phase_first sc h
+
 -- no token is queued
 none_sent : (d : DriverState) (q : List Entry) → d.lots ≡ [] → All (TokenStands d.rest q) d.lots
 none_sent d q none = subst (λ (lots : List Lot). All (TokenStands d.rest q) lots) (sym none) (All-nil (TokenStands d.rest q))
@@ -165,6 +174,7 @@ bytes_start sc a =
       unfenced = λ h. subst (λ (k : MachineState). list_any is_full (queue_of k h) ≡ false) m (ap (list_any is_full) (start_is_empty.queues sc h));
       uncached = uncached_of (book_of (start sc)) (owner_of (start sc)) (start sc).machine (λ x on. subst (λ (k : MachineState). NotHeld k x) m (start_is_empty.not_held sc x));
       lasts = lasts_start sc a;
+      copying = λ h lt. copy_idle sc (memory sc) (start sc) h 0 (phase_start sc h lt);
       tokens = λ h lt light. none_sent (driver_of (start sc) h) (queue_of (start sc).machine h) (lots_start sc h lt);
     }
   where

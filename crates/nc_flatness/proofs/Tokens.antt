@@ -18,7 +18,7 @@ use Rattle.nc_rules.specs.declared.lots.LotId.{LotId}
 use Rattle.nc_rules.specs.declared.lots.Side.{Side}
 use Rattle.nc_rules.specs.declared.lots.Side.TheVariants as sides
 use Rattle.nc_rules.specs.declared.steps.Step.{Step}
-use Rattle.nc_rules.specs.Lots.{is_lot, lot_id}
+use Rattle.nc_rules.specs.Lots.{is_lot, is_wanted, lot_id}
 use Rattle.nc_rules.specs.Machine.{queue_of}
 use Rattle.nc_rules.specs.World.{WorldState, driver_of}
 use Rattle.nc_holds.specs.Tokens.{HasLent, token_of, TokenStays}
@@ -26,10 +26,11 @@ use Rattle.nc_holds.proofs.ListsA.{all_at, in_filter, of_filter, none_of, none_a
 use Rattle.nc_rows.specs.Ahead.{ends, names, is_settling, settling, coming}
 use Rattle.nc_rows.specs.Rows.{Loan}
 use Rattle.nc_rows.proofs.Steps.{steps_ahead}
+use Rattle.nc_flatness.specs.Books.{is_entry_of}
 use Rattle.nc_flatness.specs.Flatness.{Flatness}
 use Rattle.nc_flatness.specs.Plans.{HasEnd}
 use Rattle.nc_flatness.specs.Tokens.{lot_token, is_lot_token, is_lending_side, is_sent, TokenStands}
-use Rattle.nc_flatness.proofs.Loans.{IsLoan, get_below, one_lot}
+use Rattle.nc_flatness.proofs.Loans.{IsLoan, get_below, one_of}
 
 -- ---- a lot that is sent
 
@@ -132,13 +133,31 @@ is_named lot label first count is =
     let both = and_parts (lot.id.label.0 == label.0) (lot.id.first == first) is in
     and_from (label.0 == lot.id.label.0) (first == lot.id.first) (eq-eqb label.0 lot.id.label.0 (sym (eqb-true lot.id.label.0 label.0 both.0))) (eq-eqb first lot.id.first (sym (eqb-true lot.id.first first both.1)))
 
+-- where a token is queued fences are light
+pub token_light : (sc : Scenario) (f : List ℕ) (w : WorldState) (h : ℕ) (id : LotId) (e : Entry) → Flatness sc f w → h < length w.machine.harts → In e (queue_of w.machine h) → is_lot_token id e ≡ true → (driver_of w h).fixed.light ≡ true
+token_light sc f w h id (entries.Lend label first count) flat lt here is = (flat.world.holds.each h lt).tokens.light (entries.Lend label first count) (lot_id label first) here refl
+token_light sc f w h id (entries.Store span bytes kind) flat lt here is = absurd (false≢true is)
+token_light sc f w h id (entries.Cbo block op) flat lt here is = absurd (false≢true is)
+token_light sc f w h id (entries.Reg chan off width value) flat lt here is = absurd (false≢true is)
+token_light sc f w h id (entries.Mail buf to) flat lt here is = absurd (false≢true is)
+token_light sc f w h id (entries.Mark pred succ) flat lt here is = absurd (false≢true is)
+
 named_by : (sc : Scenario) (f : List ℕ) (w : WorldState) (n : MapId) (l : Loan) (label : Label) (first count : ℕ) → Flatness sc f w → (is : IsLoan w n l) → In (entries.Lend label first count) (queue_of w.machine n.hart.0)
     → names n (entries.Lend label first count) ≡ true → is_lot_token is.lot.id (entries.Lend label first count) ≡ true
 named_by sc f w n l label first count flat is here named =
-    let t = token_lot sc f w n.hart.0 (entries.Lend label first count) (lot_id label first) flat is.hart here refl in
-    let both = and_parts (t.lot.id.label.0 == label.0) (t.lot.id.first == first) t.is in
-    let label_is : label.0 ≡ n.label.0 = eqb-true label.0 n.label.0 (and_parts (label.0 == n.label.0) (nat_le first n.entry && nat_lt n.entry (first + count)) named).0 in
-    let same : t.lot ≡ is.lot = one_lot sc f w n.hart.0 t.lot is.lot flat t.here is.here.lot_in (eqb-true t.lot.id.label.0 label.0 both.0 ∙ label_is ∙ sym is.label) in
+    let d = driver_of w n.hart.0 in
+    let q = queue_of w.machine n.hart.0 in
+    let e = entries.Lend label first count in
+    let t = token_lot sc f w n.hart.0 e (lot_id label first) flat is.hart here refl in
+    let token = is_named t.lot label first count t.is in
+    let light = token_light sc f w n.hart.0 t.lot.id e flat is.hart here token in
+    let lt : n.hart.0 < length sc.harts = omega (arith, is.hart, flat.world.of_scenario.harts) in
+    let stands = all_at (TokenStands d.rest q) d.lots t.lot (flat.bytes.tokens n.hart.0 lt light) t.here in
+    let its : e ≡ lot_token t.lot = (queued_sent d.rest q t.lot e stands here token).1 in
+    let names_its : names n (lot_token t.lot) ≡ true = subst (λ (k : Entry). names n k ≡ true) its named in
+    let sent = (queued_sent d.rest q t.lot e stands here token).0 in
+    let entry : is_entry_of n t.lot ≡ true = and_from (not (is_wanted t.lot.side)) _ (ap (λ (s : Side). not (is_wanted s)) (sent_side d.rest t.lot sent)) names_its in
+    let same : t.lot ≡ is.lot = one_of sc f w n.hart.0 n t.lot is.lot flat t.here is.here.lot_in entry is.entry_of in
     subst (λ (lot : Lot). is_lot_token lot.id (entries.Lend label first count) ≡ true) same (is_named t.lot label first count t.is)
 
 -- a token that names a mapping is one of its lot
@@ -154,19 +173,10 @@ named_token sc f w n l (entries.Mark pred succ) flat is here named = absurd (fal
 pub token_names : (w : WorldState) (n : MapId) (l : Loan) → (is : IsLoan w n l) → names n (lot_token is.lot) ≡ true
 token_names w n l is =
     let less = get_below is.lot.list.entries is.i is.entry is.here.entry in
-    let low : nat_le is.lot.id.first n.entry ≡ true = let first = is.first in let number = is.number in grind (arith, nat_tests) in
-    let high : nat_lt n.entry (is.lot.id.first + length is.lot.list.entries) ≡ true = let first = is.first in let number = is.number in grind (arith, nat_tests) in
+    let low : nat_le is.lot.id.first n.entry ≡ true = let number = is.number in grind (arith, nat_tests) in
+    let high : nat_lt n.entry (is.lot.id.first + length is.lot.list.entries) ≡ true = let number = is.number in grind (arith, nat_tests) in
     and_from (is.lot.id.label.0 == n.label.0) (nat_le is.lot.id.first n.entry && nat_lt n.entry (is.lot.id.first + length is.lot.list.entries)) (eq-eqb is.lot.id.label.0 n.label.0 is.label)
     (and_from (nat_le is.lot.id.first n.entry) (nat_lt n.entry (is.lot.id.first + length is.lot.list.entries)) low high)
-
--- where a token is queued fences are light
-pub token_light : (sc : Scenario) (f : List ℕ) (w : WorldState) (h : ℕ) (id : LotId) (e : Entry) → Flatness sc f w → h < length w.machine.harts → In e (queue_of w.machine h) → is_lot_token id e ≡ true → (driver_of w h).fixed.light ≡ true
-token_light sc f w h id (entries.Lend label first count) flat lt here is = (flat.world.holds.each h lt).tokens.light (entries.Lend label first count) (lot_id label first) here refl
-token_light sc f w h id (entries.Store span bytes kind) flat lt here is = absurd (false≢true is)
-token_light sc f w h id (entries.Cbo block op) flat lt here is = absurd (false≢true is)
-token_light sc f w h id (entries.Reg chan off width value) flat lt here is = absurd (false≢true is)
-token_light sc f w h id (entries.Mail buf to) flat lt here is = absurd (false≢true is)
-token_light sc f w h id (entries.Mark pred succ) flat lt here is = absurd (false≢true is)
 
 -- the lot of a mapping whose token is queued is sent
 pub named_sent : (sc : Scenario) (f : List ℕ) (w : WorldState) (n : MapId) (l : Loan) (e : Entry) → Flatness sc f w → (is : IsLoan w n l) → In e (queue_of w.machine n.hart.0) → names n e ≡ true

@@ -14,7 +14,6 @@ use Rattle.nc_model.specs.declared.owners.Owner.TheVariants.{Thread, Passing, Le
 use Rattle.nc_sg.specs.declared.list.Entry.{Entry}
 use Rattle.nc_ops.specs.declared.ops.Op.{Op}
 use Rattle.nc_ops.specs.declared.ops.Op.TheVariants as ops
-use Rattle.nc_ops.specs.declared.ops.SgEntry.{SgEntry}
 use Rattle.nc_scen.specs.declared.scenario.Scenario.{Scenario}
 use Rattle.nc_rules.specs.declared.lots.Lot.{Lot}
 use Rattle.nc_rules.specs.declared.lots.LotId.{LotId}
@@ -26,7 +25,7 @@ use Rattle.nc_rules.specs.declared.steps.Seen.{Seen}
 use Rattle.nc_rules.specs.declared.steps.Seen.TheVariants as seen
 use Rattle.nc_rules.specs.declared.steps.Step.{Step}
 use Rattle.nc_rules.specs.Copies.{source, target}
-use Rattle.nc_rules.specs.Driver.{DriverState, in_hand}
+use Rattle.nc_rules.specs.Driver.{in_hand}
 use Rattle.nc_rules.specs.Lots.{Fixed, is_lot, is_wanted}
 use Rattle.nc_rules.specs.Machine.{queue_of, channel_of, grantee_of}
 use Rattle.nc_rules.specs.Refusals.{buffer_of, part_of}

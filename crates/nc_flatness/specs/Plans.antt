@@ -1,6 +1,6 @@
 -- What is left of the plan of a mapping, an area or a copy, step by step: what each step is for, and that behind all of them
 -- each lot of the hart is still. This project's own.
-use Rattle.std.specs.Prelude.{ℕ, ◌≡◌, ◌⊎◌, ◌≤◌, ◌+◌, ◌/◌, Bool, true, false, List, [], ◌∷◌, length, Some, None, All}
+use Rattle.std.specs.Prelude.{ℕ, ◌≡◌, ◌⊎◌, ◌≤◌, ◌+◌, ◌/◌, Bool, true, false, List, [], ◌∷◌, length, Some, None, All, slice_get}
 use Rattle.std.specs.List.{list_any}
 use Rattle.nc_num.specs.Places.{covers}
 use Rattle.nc_num.specs.declared.names.ChanNo.{ChanNo}
@@ -13,6 +13,7 @@ use Rattle.nc_num.specs.declared.places.Span.{Span}
 use Rattle.nc_env.specs.declared.CboOp.{CboOp}
 use Rattle.nc_env.specs.declared.CboOp.TheVariants as cbos
 use Rattle.nc_queue.specs.Entries.{has_op, is_zero, writes_back}
+use Rattle.nc_queue.specs.Laws.{Stands}
 use Rattle.nc_lines.specs.Lines.{gives_at}
 use Rattle.nc_plan.specs.Parts.{comes_back}
 use Rattle.nc_plan.specs.Plans.{In, full, moved}
@@ -338,6 +339,8 @@ pub record IsTakeTarget (f : Fixed) (lots : List Lot) (s : Step) (rest : List St
   pub taken : IsTaken lots lot s
   pub goes : IsDrop f (set_side sides.Returning lot.id lots) (record s { first = turns.Stay }) rest
   pub same : goes.lot ≡ record lot { side = sides.Returning }
+  -- each of its blocks is dropped before the full fence
+  pub drops : (n : MapId) (i : ℕ) (e : Entry) (y : ℕ) → slice_get lot.list.entries i ≡ Some e → covers (device_of f e) y ≡ true → Stands (has_op drops_copies (y / f.size)) is_full (coming n lot.id (s ∷ rest))
 
 -- the source, which ends with the same step
 pub record IsTakeSource (f : Fixed) (lots : List Lot) (s : Step) (rest : List Step) : Type 0 where
@@ -345,6 +348,9 @@ pub record IsTakeSource (f : Fixed) (lots : List Lot) (s : Step) (rest : List St
   pub taken : IsTaken lots lot s
   pub goes : IsEnd f (set_side sides.Returning lot.id lots) (record s { first = turns.Stay }) rest
   pub same : goes.lot ≡ record lot { side = sides.Returning }
+  -- the device read it only
+  pub stays : comes_back lot.list.dir ≡ false
+  pub last : s.last ≡ turns.End lot.id
 
 -- ---- all steps
 
@@ -373,6 +379,6 @@ abbrev pub PlanGoes : Fixed → List Lot → List Step → Type 0
 PlanGoes f lots [] = All (IsStill f) lots
 PlanGoes f lots (s ∷ rest) = StepGoes f lots s rest × PlanGoes f (lots_after_both s.first s.last lots) rest
 
--- it ends the stay of the lots of one label alone
+-- it ends the stay of the lots of one name alone
 abbrev pub EndsOne : List Step → Type 0
-EndsOne rest = (a b : LotId) → HasEnd a rest → HasEnd b rest → a.label.0 ≡ b.label.0
+EndsOne rest = (a b : LotId) → HasEnd a rest → HasEnd b rest → a ≡ b
