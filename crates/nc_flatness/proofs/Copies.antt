@@ -111,20 +111,24 @@ end_mapped sc f w h id dir chan range device x flat e on =
     let plain : is_own e.lot.side ≡ false = false_from_ne_true (is_own e.lot.side) (λ own. false≢true (sym (ap is_area e.is.kind) ∙ fits.own own)) in
     ap mapping_in owner ∙ mapped_by (map_id (hart h) e.lot.id 0) e.lot.side e.lent plain ∙ ap (λ (i : LotId). Some (map_id (hart h) i 0)) e.is.id_is
 
--- a byte of an end stays
-end_byte : (sc : Scenario) (f g : List ℕ) (w v : WorldState) (h : ℕ) (id : LotId) (dir : Dir) (chan : ChanNo) (at len : ℕ) (device : Span) (i : ℕ) → Flatness sc f w → KeepsCopy f g w v h → id.label.0 ≡ 1000 → IsEndAt (driver_of w h).fixed (driver_of w h).lots id dir chan (span_of at len) device → i < len
-    → byte g (at + i) ≡ byte f (at + i)
-end_byte sc f g w v h id dir chan at len device i flat keeps label e lt =
-    let on : covers (span_of at len) (at + i) ≡ true = covers-from (span_of at len) (at + i) (omega arith) (omega (arith, lt)) in
-    keeps.bytes (at + i) (map_id (hart h) id 0) (end_mapped sc f w h id dir chan (span_of at len) device (at + i) flat e on) refl label
+-- no place that is lent for the hart's copy has another byte
+abbrev pub KeepsLent : List ℕ → List ℕ → WorldState → ℕ → Type 0
+KeepsLent f g w h = (x : ℕ) (n : MapId) → mapping_in (owner_of w x) ≡ Some n → n.hart.0 ≡ h → n.label.0 ≡ 1000 → byte g x ≡ byte f x
 
-pub same_ends : (sc : Scenario) (f g : List ℕ) (w v : WorldState) (h : ℕ) (k : CopyOp) (from to : Span) → Flatness sc f w → KeepsCopy f g w v h → (u : IsUnderWay sc f w h k from to) → SameEnds u.ends f g
-same_ends sc f g w v h k from to flat keeps u = record {
+-- a byte of an end stays
+end_byte : (sc : Scenario) (f g : List ℕ) (w : WorldState) (h : ℕ) (id : LotId) (dir : Dir) (chan : ChanNo) (at len : ℕ) (device : Span) (i : ℕ) → Flatness sc f w → KeepsLent f g w h → id.label.0 ≡ 1000 → IsEndAt (driver_of w h).fixed (driver_of w h).lots id dir chan (span_of at len) device → i < len
+    → byte g (at + i) ≡ byte f (at + i)
+end_byte sc f g w h id dir chan at len device i flat keeps label e lt =
+    let on : covers (span_of at len) (at + i) ≡ true = covers-from (span_of at len) (at + i) (omega arith) (omega (arith, lt)) in
+    keeps (at + i) (map_id (hart h) id 0) (end_mapped sc f w h id dir chan (span_of at len) device (at + i) flat e on) refl label
+
+pub ends_same : (sc : Scenario) (f g : List ℕ) (w : WorldState) (h : ℕ) (k : CopyOp) (from to : Span) → Flatness sc f w → KeepsLent f g w h → (u : IsUnderWay sc f w h k from to) → SameEnds u.ends f g
+ends_same sc f g w h k from to flat keeps u = record {
   source = λ i lt.
-      end_byte sc f g w v h source ToDev k.chan u.ends.source u.ends.len (span_of u.ends.reads_at u.ends.len) i flat keeps refl
+      end_byte sc f g w h source ToDev k.chan u.ends.source u.ends.len (span_of u.ends.reads_at u.ends.len) i flat keeps refl
       (subst (λ (s : Span). IsEndAt (driver_of w h).fixed (driver_of w h).lots source ToDev k.chan s (span_of u.ends.reads_at u.ends.len)) u.from_is u.source_at) lt;
   target = λ i lt.
-      end_byte sc f g w v h target FromDev k.chan u.ends.target u.ends.len (span_of u.ends.writes_at u.ends.len) i flat keeps refl
+      end_byte sc f g w h target FromDev k.chan u.ends.target u.ends.len (span_of u.ends.writes_at u.ends.len) i flat keeps refl
       (subst (λ (s : Span). IsEndAt (driver_of w h).fixed (driver_of w h).lots target FromDev k.chan s (span_of u.ends.writes_at u.ends.len)) u.to_is u.target_at) lt;
 }
 
@@ -143,7 +147,7 @@ under_aside sc f g w v h k from to flat keeps u =
       left = ap (λ (q : List QueueEntry). q ++ registers_coming (driver_of v h).rest) keeps.registers ∙ ap (λ (e : DriverState). registers (queue_of w.machine h) ++ registers_coming e.rest) keeps.driver ∙ u.left;
       few = u.few;
       stage = subst (λ (c : ChannelState). IsCopying u.ends g u.stores c) (sym chan.0)
-          (copies_go_on.stays u.ends f g (channel_of w.machine k.chan.0) u.stores (same_ends sc f g w v h k from to flat keeps u) u.stage);
+          (copies_go_on.stays u.ends f g (channel_of w.machine k.chan.0) u.stores (ends_same sc f g w h k from to flat keeps.bytes u) u.stage);
       granted = chan.1;
     }
 

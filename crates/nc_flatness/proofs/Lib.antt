@@ -1,5 +1,6 @@
 pub mod Marks
 pub mod Copies
+pub mod CopySteps
 pub mod FlatBytes
 pub mod Outcomes
 pub mod Loans
