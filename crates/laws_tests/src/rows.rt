@@ -1,8 +1,9 @@
 //! Each law is called.
 
+use nc_flat_claims::claims_go;
 use nc_flat_moves::moves_go;
 use nc_flat_plans::plans_go;
-use nc_flat_scripts::steps_go;
+use nc_flat_scripts::{steps_go, transfers_go};
 use nc_flat_starts::{book_rows, starts_go};
 use nc_lines::{lines_cover, lines_drain, lines_gain};
 use nc_row_channels::rows_of_channels;
@@ -32,4 +33,6 @@ fn laws_are_called() {
     book_rows();
     starts_go();
     plans_go();
+    claims_go();
+    transfers_go();
 }

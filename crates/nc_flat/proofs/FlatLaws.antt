@@ -4,7 +4,9 @@ use Rattle.nc_num.specs.Places.{covers}
 use Rattle.nc_num.specs.declared.places.Span.{Span}
 use Rattle.nc_flatness.specs.Steps.{EachGoes}
 use Rattle.nc_flat_moves.proofs.MoveLaws.{moves_go_law}
+use Rattle.nc_flat_claims.proofs.ClaimEvents as claims
 use Rattle.nc_flat_scripts.proofs.IssueEvents as scripts
+use Rattle.nc_flat_scripts.proofs.TransferEvents as transfers
 use Rattle.nc_flat_starts.proofs.Events as starts
 use Rattle.nc_flat_plans.proofs.PlanEvents as plans
 use Rattle.nc_flat.specs.Laws.{EachRunIsLatest, EachRunIsKept, EachEventIsFlat, EachRunIsFlat, EachPoolIsUncached}
@@ -12,7 +14,7 @@ use Rattle.nc_flat.proofs.Dispatch.{each_goes}
 use Rattle.nc_flat.proofs.Runs.{event_goes, latest_of, flat_of, kept_of}
 
 goes_always : EachGoes
-goes_always = each_goes moves_go_law scripts.steps_go starts.starts_go plans.plans_go
+goes_always = each_goes moves_go_law (record { steps = scripts.steps_go; starts = starts.starts_go; plans = plans.plans_go; claims = claims.claims_go; transfers = transfers.transfers_go })
 
 pub event_always : EachEventIsFlat
 event_always sc f w e a c flat there = event_goes sc f w e goes_always a c flat there

@@ -36,6 +36,7 @@ use Rattle.nc_rows.specs.Laws.{place_of}
 use Rattle.nc_row_channels.specs.Laws.{Beside, IsWritten, IsPlain}
 use Rattle.nc_row_channels.proofs.RowWrites.{rows_of_channels}
 use Rattle.nc_flatness.specs.Books.{book_of, mapping_in}
+use Rattle.nc_flatness.specs.Copying.{CopyStands}
 use Rattle.nc_flatness.specs.Flatness.{IsUnseen, BytesStand, Flatness}
 use Rattle.nc_flatness.proofs.FlatBytes.{out_of}
 use Rattle.nc_flatness.proofs.Lasts.{last_stays}
@@ -59,8 +60,8 @@ uncached_on a owner m k shape free uncached = λ x over. elim (uncached x (subst
 lasts_on : (a : Book) (f : List ℕ) (m k : MachineState) → k.harts ≡ m.harts → Lasts a f m → Lasts a f k
 lasts_on a f m k same lasts = λ h. rw same (lasts h)
 
-pub stay_bytes : (sc : Scenario) (f : List ℕ) (w : WorldState) (k : MachineState) → Flatness sc f w → SameShape w.machine k → Stays w.machine k → BytesStand sc f (ran w k)
-stay_bytes sc f w k flat shape same =
+pub stay_bytes : (sc : Scenario) (f : List ℕ) (w : WorldState) (k : MachineState) → Flatness sc f w → SameShape w.machine k → Stays w.machine k → ((h : ℕ) → h < length sc.harts → CopyStands sc f (ran w k) h) → BytesStand sc f (ran w k)
+stay_bytes sc f w k flat shape same copying =
     let a = book_of w in
     let m = w.machine in
     let s = flat.bytes in
@@ -77,6 +78,7 @@ stay_bytes sc f w k flat shape same =
       uncached = uncached_on a (owner_of w) m k shape (λ x none. (same.places x).line ∙ none) s.uncached;
       lasts = lasts_on a f m k same.harts s.lasts;
       tokens = tokens_same sc f w k flat same.queues;
+      copying = copying;
     }
 
 -- ---- what is read
@@ -96,7 +98,7 @@ seen_by : (o : Option Loan) (l : Loan) (x z : ℕ) → o ≡ Some l → device_p
 seen_by o l x z known here = ap (λ (k : Option Loan). place_of k x) known ∙ here
 
 -- memory has flat memory's byte at a place that is used
-read_byte : (sc : Scenario) (f : List ℕ) (w : WorldState) (c : ChanNo) (z : ℕ) → Flatness sc f w → IsUsed w c Read z → byte w.machine.cache.ram z ≡ byte f (channel_name w.grants c z)
+pub read_byte : (sc : Scenario) (f : List ℕ) (w : WorldState) (c : ChanNo) (z : ℕ) → Flatness sc f w → IsUsed w c Read z → byte w.machine.cache.ram z ≡ byte f (channel_name w.grants c z)
 read_byte sc f w c z flat u =
     let a = book_of w in
     let m = w.machine in
@@ -116,11 +118,11 @@ read_shows sc f w c span bytes flat uses inside is =
 -- ---- what is written
 
 -- what channel c writes of the span, in a world with flat memory
-record IsWrite (sc : Scenario) (f : List ℕ) (w : WorldState) (k : MachineState) (c : ChanNo) (span : Span) (bytes : List ℕ) : Type 0 where
-  flat : Flatness sc f w
-  shape : SameShape w.machine k
-  writes : WritesSpan w.machine k span bytes
-  uses : (z : ℕ) → covers span z ≡ true → IsUsed w c Write z
+pub record IsWrite (sc : Scenario) (f : List ℕ) (w : WorldState) (k : MachineState) (c : ChanNo) (span : Span) (bytes : List ℕ) : Type 0 where
+  pub flat : Flatness sc f w
+  pub shape : SameShape w.machine k
+  pub writes : WritesSpan w.machine k span bytes
+  pub uses : (z : ℕ) → covers span z ≡ true → IsUsed w c Write z
 
 -- flat memory with the bytes, under the names that they have
 abbrev pub told : WorldState → ChanNo → List ℕ → Span → List ℕ → List ℕ
@@ -135,14 +137,14 @@ used_apart w c access y z u v same =
     sym u.here ∙ ap (λ (l : Loan). device_place l u.place) loan ∙ ap (device_place v.loan) place ∙ v.here
 
 -- a place that is seen at none of the span keeps its byte
-byte_beside : (sc : Scenario) (f : List ℕ) (w : WorldState) (k : MachineState) (c : ChanNo) (span : Span) (bytes : List ℕ) (x : ℕ) → (is : IsWrite sc f w k c span bytes) → ((z : ℕ) → covers span z ≡ true → (u : IsUsed w c Write z) → u.place ≡ x → ⊥)
+pub byte_beside : (sc : Scenario) (f : List ℕ) (w : WorldState) (k : MachineState) (c : ChanNo) (span : Span) (bytes : List ℕ) (x : ℕ) → (is : IsWrite sc f w k c span bytes) → ((z : ℕ) → covers span z ≡ true → (u : IsUsed w c Write z) → u.place ≡ x → ⊥)
     → byte (told w c f span bytes) x ≡ byte f x
 byte_beside sc f w k c span bytes x is other = byte_kept f (channel_name w.grants c) span.at bytes x (λ z low high same.
     let on = covers-from span z low (omega (arith, high, is.writes.long)) in
     let u = is.uses z on in other z on u (sym u.name ∙ same))
 
 -- one that is gets the byte
-byte_used : (sc : Scenario) (f : List ℕ) (w : WorldState) (k : MachineState) (c : ChanNo) (span : Span) (bytes : List ℕ) (z : ℕ) → (is : IsWrite sc f w k c span bytes) → covers span z ≡ true → (u : IsUsed w c Write z)
+pub byte_used : (sc : Scenario) (f : List ℕ) (w : WorldState) (k : MachineState) (c : ChanNo) (span : Span) (bytes : List ℕ) (z : ℕ) → (is : IsWrite sc f w k c span bytes) → covers span z ≡ true → (u : IsUsed w c Write z)
     → byte (told w c f span bytes) u.place ≡ byte bytes (z - span.at)
 byte_used sc f w k c span bytes z is on u =
     let there = used_there sc f w c Write z is.flat u in
@@ -232,8 +234,8 @@ lasts_written sc f w k c span bytes is = λ h.
 -- ---- the whole
 
 pub write_bytes : (sc : Scenario) (f : List ℕ) (w : WorldState) (k : MachineState) (c : ChanNo) (span : Span) (bytes : List ℕ) → Flatness sc f w → SameShape w.machine k → WritesSpan w.machine k span bytes → ((z : ℕ) → covers span z ≡ true → IsUsed w c Write z)
-    → BytesStand sc (told w c f span bytes) (ran w k)
-write_bytes sc f w k c span bytes flat shape writes uses =
+    → ((h : ℕ) → h < length sc.harts → CopyStands sc (told w c f span bytes) (ran w k) h) → BytesStand sc (told w c f span bytes) (ran w k)
+write_bytes sc f w k c span bytes flat shape writes uses copying =
     let a = book_of w in
     let m = w.machine in
     let s = flat.bytes in
@@ -251,4 +253,5 @@ write_bytes sc f w k c span bytes flat shape writes uses =
       uncached = uncached_on a (owner_of w) m k shape writes.not_held s.uncached;
       lasts = lasts_written sc f w k c span bytes is;
       tokens = tokens_same sc f w k flat writes.queues;
+      copying = copying;
     }

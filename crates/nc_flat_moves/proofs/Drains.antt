@@ -1,7 +1,7 @@
 -- A drain in flat memory: a touch of a register, or the bytes stand as they did.
 use Rattle.nc_calls.proofs.DrainPlaces as drain_places
 use Rattle.std.specs.Prelude.{Option, Some, None, is_some, ◌==◌, ◌&&◌}
-use Rattle.std.proofs.Common.{◌≡◌, ℕ, Bool, true, false, List, [], ◌++◌, refl, ap, ◌∙◌, arith}
+use Rattle.std.proofs.Common.{◌≡◌, ℕ, ◌<◌, Bool, true, false, List, [], ◌++◌, length, refl, ap, ◌∙◌, arith}
 use Rattle.std.proofs.lemmas.Bool.{false≢true}
 use Rattle.nc_num.specs.Memory.{byte}
 use Rattle.nc_num.specs.declared.names.HartNo.{HartNo}
@@ -35,12 +35,14 @@ use Rattle.nc_row_moves.proofs.PartMoves.{parts_stay}
 use Rattle.nc_row_moves.proofs.PlaceDrains.{leaves as entry_leaves}
 use Rattle.nc_row_moves.proofs.RowDrains.{rows_drain}
 use Rattle.nc_flatness.specs.Books.{book_of}
+use Rattle.nc_flatness.specs.Copying.{CopyStands}
 use Rattle.nc_flatness.specs.Flatness.{BytesStand, Flatness}
 use Rattle.nc_flatness.specs.Steps.{IsNow, Goes}
 use Rattle.nc_flatness.proofs.Marks.{transfers_silent, entry_silent}
 use Rattle.nc_flatness.proofs.Outcomes.{ran, goes_silent, runs_go, goes_go}
 use Rattle.nc_flat_moves.proofs.LosesRows.{loses_row}
 use Rattle.nc_flat_moves.proofs.Calm.{calm_of}
+use Rattle.nc_flat_moves.proofs.RegisterDrains.{copies_drained}
 use Rattle.nc_flat_moves.proofs.Tokens.{tokens_drained}
 use Rattle.nc_flat_moves.proofs.GivenWorld.{given_world, IsGiving}
 use Rattle.nc_flat_moves.proofs.SentLots.{sent}
@@ -93,8 +95,9 @@ drains sc f w h i e now out = record { sound = now.flat.world.machine; hart = om
 
 -- ---- the bytes
 
-drained_bytes : (sc : Scenario) (f : List ℕ) (w : WorldState) (h i : ℕ) (e : Entry) → Flatness sc f w → IsDrain w.machine h i e → In e (queue_of w.machine h) → token_of e ≡ None → BytesStand sc f (ran w (drain_next w.machine h i))
-drained_bytes sc f w h i e flat is here none =
+drained_bytes : (sc : Scenario) (f : List ℕ) (w : WorldState) (h i : ℕ) (e : Entry) → Flatness sc f w → IsDrain w.machine h i e → In e (queue_of w.machine h) → token_of e ≡ None
+    → ((g : ℕ) → g < length sc.harts → CopyStands sc f (ran w (drain_next w.machine h i)) g) → BytesStand sc f (ran w (drain_next w.machine h i))
+drained_bytes sc f w h i e flat is here none copying =
     let a = book_of w in
     let m = w.machine in
     let b = flat.bytes in
@@ -112,6 +115,7 @@ drained_bytes sc f w h i e flat is here none =
       uncached = parts_stay.uncached_drain a (owner_of w) m h i e is (whole_pool sc f w flat) b.queued b.uncached;
       lasts = parts_stay.lasts_drain a f m h i e is b.lasts;
       tokens = tokens_drained sc f w (drain_next m h i) h i e flat (entry_leaves m h i e is).drains.queues none;
+      copying = copying;
     }
 
 -- ---- the event
@@ -122,7 +126,8 @@ plain_goes sc f w h i e now out none =
     let is = drains sc f w h i e now out in
     let here : In e (queue_of w.machine h.0) = at_get (queue_of w.machine h.0) i e (entry_leaves w.machine h.0 i e is).drains.queues.stood in
     runs_go sc f w (events.Drain h i) (drain_next w.machine h.0 i) (drain_touch w h e) (drain_records w.machine h e) now.may (drain_is w h i e out none)
-    (λ untouched. goes_silent sc f (all_marks w.machine.size w.grants (drain_records w.machine h e)) (ran w (drain_next w.machine h.0 i)) (drain_silent w h e) (drained_bytes sc f w h.0 i e flat is here none))
+    (λ untouched. goes_silent sc f (all_marks w.machine.size w.grants (drain_records w.machine h e)) (ran w (drain_next w.machine h.0 i)) (drain_silent w h e)
+    (drained_bytes sc f w h.0 i e flat is here none (copies_drained sc f w h i e flat is none untouched)))
 
 -- with a token its lot is its channel's
 token_is : (w : WorldState) (h : HartNo) (i : ℕ) (label : Label) (first count : ℕ) → leaving w.machine h.0 i ≡ Some (entries.Lend label first count)
@@ -137,7 +142,7 @@ token_goes sc f w h i label first count now out =
     let is = drains sc f w h i e now out in
     let stood = (entry_leaves w.machine h.0 i e is).drains.queues.stood in
     let giving : IsGiving sc f w h i label first count =
-    record { flat = now.flat; lt = now.there; there = is.hart; is = is; sent = sent sc f w h.0 i label first count now.flat now.there is.hart stood } in
+    record { covered = now.covered; flat = now.flat; lt = now.there; there = is.hart; is = is; sent = sent sc f w h.0 i label first count now.flat now.there is.hart stood } in
     goes_go sc f w (events.Drain h i) h m (lent (driver_of w h.0) label first) w.slots (drain_touch w h e) (drain_records w.machine h e) now.may (token_is w h i label first count out)
     (λ untouched. goes_silent sc f (all_marks w.machine.size w.grants (drain_records w.machine h e)) (given_world w h i label first) (drain_silent w h e) (given_bytes sc f w h i label first count giving))
 

@@ -2,7 +2,7 @@
 use Rattle.std.specs.Prelude.{Option, Some, ◌&&◌, ◌==◌, not, nat_le, nat_lt, option_map}
 use Rattle.std.specs.List.{find}
 use Rattle.std.proofs.Common.{◌≡◌, ℕ, ◌+◌, ◌<◌, Bool, true, false, List, [], ◌∷◌, length, refl, sym, ap, ◌∙◌, inl, inr, subst, arith}
-use Rattle.std.proofs.lemmas.Bool.{cases_Bool, cases_eq, and_parts, both_ways, eqb-true, cond-true, cond-false}
+use Rattle.std.proofs.lemmas.Bool.{cases_Bool, cases_eq, and_parts, and_from, both_ways, eqb-true, cond-true, cond-false}
 use Rattle.std.proofs.lemmas.Bool.Decides.{nat_tests}
 use Rattle.std.proofs.lemmas.List.Elements.{All-head, All-tail}
 use Rattle.nc_num.specs.Places.{covers}
@@ -21,6 +21,7 @@ use Rattle.nc_scen.specs.declared.scenario.Scenario.{Scenario}
 use Rattle.nc_sg.specs.declared.list.Entry.{Entry}
 use Rattle.nc_rules.specs.declared.lots.Lot.{Lot}
 use Rattle.nc_rules.specs.declared.lots.LotId.{LotId}
+use Rattle.nc_rules.specs.declared.lots.Side.{Side}
 use Rattle.nc_rules.specs.declared.lots.Side.TheVariants as sides
 use Rattle.nc_rules.specs.declared.steps.Turn.TheVariants as turns
 use Rattle.nc_rules.specs.Calls.{drain_next}
@@ -29,7 +30,6 @@ use Rattle.nc_rules.specs.Lots.{Fixed, is_lot, is_wanted, lot_id, map_id, owner_
 use Rattle.nc_rules.specs.Turns.{to_side, of_those, with_side, lots_after, turned_by}
 use Rattle.nc_rules.specs.Watched.{owner_of}
 use Rattle.nc_rules.specs.World.{WorldState, driver_of, hart, owners_moved}
-use Rattle.nc_scripts.proofs.LotLaws.{named_so}
 use Rattle.nc_holds.specs.Held.{IsEntryOf, OwnersAgree}
 use Rattle.nc_holds.proofs.ListsC.{nothing_behind}
 use Rattle.nc_holds.proofs.OwnerMoves.{moved_off}
@@ -38,10 +38,11 @@ use Rattle.nc_rows.specs.Ahead.{names, settling}
 use Rattle.nc_rows.specs.Rows.{Loan}
 use Rattle.nc_row_moves.specs.Laws.{is_token_of, is_token, IsDrain}
 use Rattle.nc_flatness.specs.Books.{is_entry_of, loan_by, loan_of, book_of, mapping_in}
+use Rattle.nc_flatness.specs.Covered.{IsCovered}
 use Rattle.nc_flatness.specs.Flatness.{Flatness}
 use Rattle.nc_flatness.specs.Tokens.{lot_token}
 use Rattle.nc_flatness.proofs.BookReads.{loan_here, loan_away, rest_gone, buffer_gone}
-use Rattle.nc_flatness.proofs.Loans.{IsLoan, loan_is, one_lot, get_below}
+use Rattle.nc_flatness.proofs.Loans.{IsLoan, loan_is, one_of, get_below}
 use Rattle.nc_flatness.proofs.Outcomes.{gone}
 use Rattle.nc_flatness.proofs.Owned.{me_is, entry_owned, of_buffer, mapped, owned_ram}
 use Rattle.nc_flatness.proofs.Lents.{lent as lent_lots, AreLending}
@@ -53,6 +54,7 @@ given_world w h i label first = gone w h (drain_next w.machine h.0 i) (lent (dri
 
 -- the token at place i of hart h's queue drains
 pub record IsGiving (sc : Scenario) (f : List ℕ) (w : WorldState) (h : HartNo) (i : ℕ) (label : Label) (first count : ℕ) : Type 0 where
+  pub covered : IsCovered sc
   pub flat : Flatness sc f w
   pub lt : h.0 < length sc.harts
   pub there : h.0 < length w.machine.harts
@@ -125,18 +127,22 @@ pub record IsNamedBy (w : WorldState) (h : HartNo) (lot : Lot) (n : MapId) (l : 
   pub hart : n.hart.0 ≡ h.0
   pub lot_is : is.lot ≡ lot
 
+-- what a lot's own token names is an entry of it
+own_token : (n : MapId) (lot : Lot) → lot.side ≡ sides.Lending → names n (lot_token lot) ≡ true → is_entry_of n lot ≡ true
+own_token n lot lending on =
+    and_from (not (is_wanted lot.side)) (lot.id.label.0 == n.label.0 && (nat_le lot.id.first n.entry && nat_lt n.entry (lot.id.first + length lot.list.entries))) (ap (λ (s : Side). not (is_wanted s)) lending) on
+
 named_by : (sc : Scenario) (f : List ℕ) (w : WorldState) (h : HartNo) (i : ℕ) (label : Label) (first count : ℕ) (n : MapId) (l : Loan) → (g : IsGiving sc f w h i label first count) → is_token_of n h.0 (entries.Lend label first count) ≡ true → (book_of w).loan n ≡ Some l
     → IsNamedBy w h g.sent.lot n l
 named_by sc f w h i label first count n l g on known =
     let is = loan_is sc f w n l g.flat known in
     let k = and_parts (n.hart.0 == h.0) (names n (entries.Lend label first count)) on in
     let own : n.hart.0 ≡ h.0 = eqb-true n.hart.0 h.0 k.0 in
-    let label_is : label.0 ≡ n.label.0 = eqb-true label.0 n.label.0 (and_parts (label.0 == n.label.0) _ k.1).0 in
-    let named : g.sent.lot.id.label.0 ≡ label.0 = ap (λ (id : LotId). id.label.0) (named_so g.sent.lot (lot_id label first) g.sent.named) in
+    let named : is_entry_of n g.sent.lot ≡ true = own_token n g.sent.lot g.sent.lending (ap (names n) (sym g.sent.token) ∙ k.1) in
     record {
       is = is;
       hart = own;
-      lot_is = one_lot sc f w h.0 is.lot g.sent.lot g.flat (subst (λ (j : ℕ). In is.lot (driver_of w j).lots) own is.here.lot_in) g.sent.here (is.label ∙ sym label_is ∙ sym named);
+      lot_is = one_of sc f w h.0 n is.lot g.sent.lot g.flat (subst (λ (j : ℕ). In is.lot (driver_of w j).lots) own is.here.lot_in) g.sent.here is.entry_of named;
     }
 
 -- none of them is allocated

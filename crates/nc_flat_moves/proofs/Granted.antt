@@ -87,6 +87,7 @@ pub record IsUsed (w : WorldState) (c : ChanNo) (access : Access) (z : ℕ) : Ty
   pub owner : owner_of w place ≡ Device id
   pub loan : Loan
   pub known : (book_of w).loan id ≡ Some loan
+  pub chan : loan.grant.chan.0 ≡ c.0
   pub allows : device_may access loan.grant.dir ≡ true
   pub here : device_place loan place ≡ z
 
@@ -98,7 +99,8 @@ uses_is sc f w c access z flat uses =
     let g = uses.grant in
     let it = found (IsHeldGrant w) (serves c z) w.grants g flat.world.holds.grants uses.serves in
     let granted = granted_by sc f w g flat it.is in
-    let over : covers g.device z ≡ true = (and_parts (g.chan.0 == c.0) (covers g.device z) it.passes).1 in
+    let parts = and_parts (g.chan.0 == c.0) (covers g.device z) it.passes in
+    let over : covers g.device z ≡ true = parts.1 in
     record {
       place = buffer_place g z;
       name = ap (λ (o : Option Grant). name_by (option_map (reached z) o) z) uses.serves;
@@ -106,6 +108,7 @@ uses_is sc f w c access z flat uses =
       owner = device_is g.id (owner_of w (buffer_place g z)) uses.owner;
       loan = granted.loan;
       known = granted.known;
+      chan = ap (λ (k : Grant). k.chan.0) granted.grant ∙ eqb-true g.chan.0 c.0 parts.0;
       allows = ap (λ (k : Grant). device_may access k.dir) granted.grant ∙ uses.allows;
       here = ap (λ (k : Grant). k.device.at + (buffer_place g z - k.buffer.at)) granted.grant ∙ here_by g.device.at g.buffer.at z (covers-low g.device z over);
     }

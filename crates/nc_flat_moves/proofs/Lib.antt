@@ -11,6 +11,11 @@ pub mod WorldNow
 pub mod Drains
 pub mod Moves
 pub mod Granted
+pub mod EndPlaces
+pub mod MoreRegisters
+pub mod CopiesBeside
+pub mod RegisterDrains
 pub mod ChannelBytes
+pub mod ChannelCopies
 pub mod ChannelEvents
 pub mod MoveLaws

@@ -29,6 +29,7 @@ use Rattle.nc_flatness.specs.Steps.{IsNow, Goes}
 use Rattle.nc_flatness.proofs.Marks.{answer_silent}
 use Rattle.nc_flatness.proofs.Outcomes.{ran, goes_silent, runs_go}
 use Rattle.nc_flat_moves.proofs.Calm.{calm_of}
+use Rattle.nc_flat_moves.proofs.CopiesBeside.{copies_kept}
 use Rattle.nc_flat_moves.proofs.Pooled.{loan_pooled}
 use Rattle.nc_flat_moves.proofs.Tokens.{tokens_same}
 use Rattle.nc_flat_moves.proofs.WorldNow.{whole_pool}
@@ -69,6 +70,7 @@ filled_bytes sc f w h b flat by =
       uncached = parts_stay.uncached_fill a (owner_of w) m h b sound by (whole_pool sc f w flat) s.uncached;
       lasts = parts_stay.lasts_fill a f m h b sound by s.lasts;
       tokens = tokens_same sc f w (fill_next m h b) flat (fill_is m h b sound by.block).queues;
+      copying = copies_kept sc f w (fill_next m h b) flat (fill_is m h b sound by.block).devices (fill_is m h b sound by.block).queues;
     }
 
 is_move : (sc : Scenario) (f : List ℕ) (w : WorldState) (h : HartNo) (b : Block) → Flatness sc f w → h.0 < length sc.harts → sc.block_size * b.0 + sc.block_size ≤ sc.ram → IsMove w.machine h.0 b.0
@@ -104,6 +106,7 @@ evicted_bytes sc f w h b flat by =
       uncached = parts_stay.uncached_evict a (owner_of w) m h b sound by s.uncached;
       lasts = parts_stay.lasts_evict a f m h b sound by s.lasts;
       tokens = tokens_same sc f w (evict_next m h b) flat (evict_is m h b sound by.block).queues;
+      copying = copies_kept sc f w (evict_next m h b) flat (evict_is m h b sound by.block).devices (evict_is m h b sound by.block).queues;
     }
 
 pub evict_goes : (sc : Scenario) (f : List ℕ) (w : WorldState) (h : HartNo) (b : Block) → IsNow sc f w (events.Evict h b) → Goes sc f w (events.Evict h b)

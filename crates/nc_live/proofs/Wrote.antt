@@ -5,6 +5,7 @@ use Rattle.nc_io.specs.Streams.{GrowsByFront}
 use Rattle.nc_scen.specs.Accepted.{IsAccepted}
 use Rattle.nc_scen.specs.declared.events.Event.{Event}
 use Rattle.nc_scen.specs.declared.scenario.Scenario.{Scenario}
+use Rattle.nc_copied.specs.Laws.{EachCopyIsDone}
 use Rattle.nc_flat.specs.Laws.{EachRunIsLatest, EachRunIsKept}
 use Rattle.nc_rules.specs.Flat.{AreThere}
 use Rattle.nc_rules.specs.Lines.{status}
@@ -12,13 +13,13 @@ use Rattle.nc_turns.specs.Played.{IsLiveRun, live_text}
 use Rattle.nc_live.specs.Due.{WroteLive, GrewByLive}
 
 pub wrote : (before now : Option (List ℕ)) (sc : Scenario) (answered : ℕ) (es shown : List Event) → IsLiveRun sc es → shown ≡ es → answered ≡ status sc shown → Appends before now (live_text sc shown)
-    → IsAccepted sc → EachRunIsLatest → EachRunIsKept → AreThere sc es → WroteLive before now sc answered
-wrote before now sc answered es shown run same is text accepted latest kept there = record {
+    → IsAccepted sc → EachRunIsLatest → EachRunIsKept → EachCopyIsDone → AreThere sc es → WroteLive before now sc answered
+wrote before now sc answered es shown run same is text accepted latest kept copied there = record {
   history = es;
   run = run;
   status = subst (λ (xs : List Event). answered ≡ status sc xs) same is;
   text = subst (λ (xs : List Event). Appends before now (live_text sc xs)) same text;
-  flat = λ covered. (latest sc accepted covered es there, kept sc accepted covered es there);
+  flat = λ covered. (latest sc accepted covered es there, (kept sc accepted covered es there, copied sc accepted covered es there));
 }
 
 pub grew : (before now : Option (List ℕ)) (sc : Scenario) (es shown : List Event) → IsLiveRun sc es → shown ≡ es → GrowsByFront before now (live_text sc shown) → GrewByLive before now sc

@@ -12,6 +12,7 @@ use crate::crew::{Crew, PoolName};
 use crate::ends::make_up;
 use crate::gate::Gate;
 use crate::threads::drive_all;
+use nc_copied::copied_law;
 use nc_flat::{kept_law, latest_law};
 use nc_io::{Sink, Stop};
 use nc_num::NoMemory;
@@ -98,6 +99,7 @@ pub fn live_run<N: SceneName + Send + Sync, R: Threads + Wait + Sync, K: Sink, G
 {
     latest_law();
     kept_law();
+    copied_law();
     let Ok(done) = make_history::<N, R, G>(rt, alloc, sc, gate) else {
         return Err(Stop::NoMemory);
     };

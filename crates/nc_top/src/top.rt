@@ -8,6 +8,7 @@ ghost use Rattle.nc_scen.specs.Reading.{reading};
 ghost use Rattle.nc_migrate.specs.Migrating.{migrated};
 ghost use Rattle.nc_pieces.specs.Serving.{pool_answer};
 ghost use Rattle.nc_flat.specs.Laws.{EachRunIsLatest, EachRunIsKept};
+ghost use Rattle.nc_copied.specs.Laws.{EachCopyIsDone};
 ghost use Rattle.nc_scen.specs.Accepted.{IsAccepted};
 ghost use Rattle.nc_top.specs.Due.{due, due_by, due_for, due_for_gen, due_for_migrate, due_for_pool, command_of, is_migrate, is_pool, is_run, IsAnswer};
 ghost use Rattle.nc_top.specs.Inputs.{HasRead, IsFlat, IsRunWhereRead, KeepsScenario, TakesFew, TellsItsTouches, WroteFront};
@@ -16,6 +17,7 @@ use crate::generated::run_generated;
 use crate::input::{Lost, input_of};
 use crate::run::run_out;
 use crate::words::{Command, command_of};
+use nc_copied::copied_law;
 use nc_counts::status_law;
 use nc_flat::{kept_law, latest_law};
 use nc_io::{Sink, Source, Stop, write_all};
@@ -71,6 +73,7 @@ fn answer_to<K: Sink>(alloc: Global, bytes: &[u8], out: &mut K) -> u8
         Ok(sc) => {
             latest_law();
             kept_law();
+            copied_law();
             status_law();
             answer_scenario(alloc, &sc, out)
         }
@@ -206,9 +209,14 @@ pub fn dmasim<S: Source, K: Sink>(
     // among them.
     ensures latest { EachRunIsLatest }
     ensures kept { EachRunIsKept }
+
+    // Each copy that is answered done before the first touch left its source's bytes in its destination, and none is answered
+    // failed: in every run of those scenarios too.
+    ensures copied { EachCopyIsDone }
 {
     latest_law();
     kept_law();
+    copied_law();
     let Some(command) = command_of(words) else {
         return put(out, 2, b"refused words\n");
     };

@@ -16,4 +16,4 @@ returns-clause-text g c =
     let held = g.K.Sink.held in
     let es = c.in-Ok.done.events in
     wrote (held c.args.out.now) (held c.write_live.new.out) c.args.sc.now c.in_ok-status.status es c.history.result.now c.in-Ok.ensures c.history.ensures.value c.in_ok-status.ensures.status c.in_ok-status.ensures.text c.requires.accepted
-    c.latest_law.ensures c.kept_law.ensures (subst (λ (s : Scenario). AreThere s es) (sym c.requires.scene) c.history.ensures.there)
+    c.latest_law.ensures c.kept_law.ensures c.copied_law.ensures (subst (λ (s : Scenario). AreThere s es) (sym c.requires.scene) c.history.ensures.there)
