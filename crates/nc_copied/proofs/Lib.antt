@@ -5,3 +5,6 @@ pub mod Comings
 pub mod ZeroSteps
 pub mod EventMarks
 pub mod IssueBytes
+pub mod EndLots
+pub mod EventBytes
+pub mod EventComes
