@@ -8,3 +8,5 @@ pub mod IssueBytes
 pub mod EndLots
 pub mod EventBytes
 pub mod EventComes
+pub mod RunEnds
+pub mod BehindPoll

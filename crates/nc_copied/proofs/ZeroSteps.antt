@@ -149,7 +149,7 @@ zero_of d o s rest drives hand phase is on = zero_by d o s rest (is_lending o) r
 
 -- ---- its places
 
-area_unended : (pool : Span) (kind : Kind) (id : LotId) (es : List Entry) → is_area kind ≡ true → FitsKind pool kind id es → IsEndName id → ⊥
+pub area_unended : (pool : Span) (kind : Kind) (id : LotId) (es : List Entry) → is_area kind ≡ true → FitsKind pool kind id es → IsEndName id → ⊥
 area_unended pool kinds.Area id es area fits end = omega (arith, fits.0.label, end)
 area_unended pool kinds.Single id es area fits end = false≢true area
 area_unended pool kinds.List id es area fits end = false≢true area
