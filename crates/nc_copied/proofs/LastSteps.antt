@@ -53,7 +53,7 @@ tells_copy answers.CopyDone = true
 tells_copy (answers.CopyFailed control) = true
 tells_copy _ = false
 
-abbrev tells : Option Answer → Bool
+abbrev pub tells : Option Answer → Bool
 tells None = false
 tells (Some a) = tells_copy a
 
@@ -188,7 +188,7 @@ refused_not d o (Err r) = bad_tells d.fixed d.lots o r
 refused_not d o (Ok s) = refl
 
 -- what a start step of an operation makes
-abbrev MakesLots : DriverState → List Owner → PageMap → Op → Type 0
+abbrev pub MakesLots : DriverState → List Owner → PageMap → Op → Type 0
 MakesLots d owners pages o = (new : List Lot) → begin d.fixed d.lots owners pages o ≡ Ok new → AreMade o (d.lots ++ new)
 
 pub start_not : (d : DriverState) (owners : List Owner) (pages : PageMap) → ((o : Op) → in_hand d ≡ Some o → has_start o ≡ true → MakesLots d owners pages o) → tells (started d owners pages).moves.answer ≡ false

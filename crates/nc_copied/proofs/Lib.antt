@@ -10,3 +10,6 @@ pub mod EventBytes
 pub mod EventComes
 pub mod RunEnds
 pub mod BehindPoll
+pub mod LastAnswers
+pub mod LastOwners
+pub mod CopyRuns
