@@ -52,19 +52,20 @@ use Rattle.nc_row_plans.proofs.LendingPlans.{plans_lend}
 use Rattle.nc_row_plans.proofs.PlanBegins.{rows_begin}
 use Rattle.nc_flatness.specs.Books.{book_of}
 use Rattle.nc_flatness.specs.Covered.{is_lending}
+use Rattle.nc_flatness.proofs.Copies.{is_copy}
 use Rattle.nc_flatness.specs.Flatness.{Flatness}
-use Rattle.nc_flatness.specs.Plans.{device_of}
+use Rattle.nc_flatness.specs.Plans.{IsStill, device_of}
 use Rattle.nc_flatness.specs.Tokens.{is_lending_side}
 use Rattle.nc_flatness.proofs.Seen.{slot_at, slot_slots, slot_whole}
-use Rattle.nc_flat_starts.proofs.Bases.{IsBase, fixed_is, base_lot, base_beside, base_one, base_planned, base_unseen, waits_not, slot_in, in_slot_so}
+use Rattle.nc_flat_starts.proofs.Bases.{IsBase, fixed_is, base_lot, base_beside, base_entry, base_planned, base_unseen, waits_not, slot_in, in_slot_so}
 use Rattle.nc_flat_starts.proofs.Befores.{base_before}
 use Rattle.nc_flat_starts.proofs.Blocks.{none_in_block, whole_range}
 use Rattle.nc_flat_starts.proofs.Effects.{writes, drops}
 use Rattle.nc_flat_starts.proofs.Frames.{IsPlace}
-use Rattle.nc_flat_starts.proofs.Lots.{loan_for}
-use Rattle.nc_flat_starts.proofs.Opens.{Opens, base_owner, side_mine}
+use Rattle.nc_flat_starts.proofs.Lots.{loan_for, own_entry}
+use Rattle.nc_flat_starts.proofs.Opens.{Opens, base_owner, side_thread, side_mine}
 use Rattle.nc_flat_starts.proofs.PlansGo.{Lends, lend_so}
-use Rattle.nc_flat_starts.proofs.Sides.{hand_set, set_named, turned_lot}
+use Rattle.nc_flat_starts.proofs.Sides.{hand_set, set_others, set_named, turned_lot}
 use Rattle.nc_flat_starts.proofs.Tokens.{none_named}
 
 -- ---- what is known of the hart
@@ -221,10 +222,10 @@ either_second false p q is x = x
 pub unpooled : (sc : Scenario) (f : List ℕ) (w : WorldState) (h : HartNo) (lots : List Lot) (lot : Lot) (i : ℕ) (e : Entry) (x : ℕ) → IsBase sc f w h lots lot → is_area lot.kind ≡ false → IsPlace lot i e x → covers (pool_of sc) x ≡ true → is_area lot.kind ≡ true
 unpooled sc f w h lots lot i e x b plain place over = absurd (both_ways (covers (pool_of sc) x) (base_beside sc f w h lots lot i e x b plain place.entry place.on).0 over)
 
-pub lend_opens : (sc : Scenario) (f : List ℕ) (w : WorldState) (h : HartNo) (o : Op) (went : Went) (lots : List Lot) (lot : Lot) → IsBase sc f w h lots lot → is_area lot.kind ≡ false → in_hand (driver_of w h.0) ≡ Some o → is_lending o ≡ true → IsReadySide lot
+pub lend_opens : (sc : Scenario) (f : List ℕ) (w : WorldState) (h : HartNo) (o : Op) (went : Went) (lots : List Lot) (lot : Lot) → IsBase sc f w h lots lot → is_area lot.kind ≡ false → in_hand (driver_of w h.0) ≡ Some o → is_lending o ≡ true → is_copy o ≡ false → IsReadySide lot
     → went.driver ≡ went_to (with_lots (driver_of w h.0) lots) (set_side sides.Lending lot.id lots) (driver_of w h.0).saw (lend_steps (driver_of w h.0).fixed lot) → went.moves.transfers ≡ of_those (to_side (driver_of w h.0).fixed.me sides.Lending) lot.id lots
     → Opens sc f w h o went lots lot sides.Lending (lend_steps (driver_of w h.0).fixed lot)
-lend_opens sc f w h o went lots lot b plain hand lends side driver transfers =
+lend_opens sc f w h o went lots lot b plain hand lends no_copy side driver transfers =
     let m = w.machine in
     let d = driver_of w h.0 in
     let fx = d.fixed in
@@ -235,11 +236,12 @@ lend_opens sc f w h o went lots lot b plain hand lends side driver transfers =
     let size = sizes sc f w h b.flat b.lt in
     let z = b.flat.world.machine.block_size in
     let k : Lends fx now (turned_lot sides.Lending lot) plan =
-    lend_so fx now (turned_lot sides.Lending lot) (hand_set fx sides.Lending false lots lot b.here plain b.others) (set_named sides.Lending lot.id lots) (record { size = planned.size; some = planned.some; off = planned.off; slots = planned.slots; buffers = planned.buffers }) writes_so in
+    lend_so fx now (turned_lot sides.Lending lot) (hand_set fx sides.Lending false lots lot b.here plain b.others) (set_others (IsStill fx) sides.Lending lot.id lots b.others) (set_named sides.Lending lot.id lots) (record { size = planned.size; some = planned.some; off = planned.off; slots = planned.slots; buffers = planned.buffers }) writes_so in
     record {
       before = base_before sc f w h lots lot b;
       hand = hand;
       lends = lends;
+      no_copy = no_copy;
       driver = driver ∙ went_work (with_lots d lots) now d.saw lot.id plan k.plan.ended;
       transfers = transfers;
       lent = refl;
@@ -249,6 +251,7 @@ lend_opens sc f w h o went lots lot b plain hand lends side driver transfers =
       was = λ i. owner_of_side (map_id h lot.id i) lot.side;
       owned = λ i e x place. base_owner sc f w h lots lot i e x b place;
       mine = λ i n is. side_mine h lot i n is;
+      threads = λ i k is. side_thread h lot i k is;
       unslotted = λ i e x place. (base_beside sc f w h lots lot i e x b plain place.entry place.on).1;
       area = λ i e x place over. unpooled sc f w h lots lot i e x b plain place over;
       row = λ i e x v there place c known rest row.
@@ -259,7 +262,7 @@ lend_opens sc f w h o went lots lot b plain hand lends side driver transfers =
           let ahead : ahead_of c n l ≡ coming n lot.id plan = ap (λ (ss : List Step). coming n lot.id ss) rest in
           let entry : IsEntryOfLot n lot = record { label = refl; from = omega arith; before = omega (arith, slice_get_within lot.list.entries i e place.entry) } in
           let at = place_is fx lot i e x place.entry place.on in
-          let none = none_named sc f w h lots lot n b.flat b.lt b.kept (λ other k same. base_one sc f w h lots lot other b k same) (ready_unsent lot side) refl in
+          let none = none_named sc f w h lots lot n b.flat b.lt b.kept (λ other k named. base_entry sc f w h lots lot other n b k named (own_entry h lot i e place.entry)) (ready_unsent lot side) in
           let own = own_row w h lot i x v side row in
           let ready = subst (λ (es : List QueueEntry). IsReady m x y es) (sym ahead)
           (ready_so sc f w h lots lot i e x (coming n lot.id plan) b place side (λ u bounced over. subst (λ (s : ℕ). list_any (gives_at s u) (coming n lot.id plan) ≡ true) size (k.stores i e u place.entry bounced over n)) e.bounced refl) in
