@@ -22,7 +22,7 @@ use Rattle.nc_rules.specs.declared.lots.Kind.TheVariants as kinds
 use Rattle.nc_rules.specs.declared.lots.Lot.{Lot}
 use Rattle.nc_rules.specs.declared.lots.LotId.{LotId}
 use Rattle.nc_rules.specs.declared.lots.Side.TheVariants as sides
-use Rattle.nc_rules.specs.Lots.{Fixed, is_named, is_labelled, is_wanted, owner_of_side, same_kind, lot_waits}
+use Rattle.nc_rules.specs.Lots.{Fixed, is_named, is_labelled, is_wanted, map_id, owner_of_side, same_kind, lot_waits}
 use Rattle.nc_rules.specs.Turns.{is_area}
 use Rattle.nc_rules.specs.Start.{fixed_of, hart_spec}
 use Rattle.nc_rules.specs.World.{WorldState, driver_of, hart}
@@ -128,10 +128,10 @@ pub record IsMember (sc : Scenario) (f : List ℕ) (w : WorldState) (h : HartNo)
 pub member_of : (sc : Scenario) (f : List ℕ) (w : WorldState) (h : HartNo) (lots : List Lot) (lot : Lot) → IsBase sc f w h lots lot → IsMember sc f w h lots lot
 member_of sc f w h lots lot b = record { flat = b.flat; lt = b.lt; slots = b.slots; each = b.each; here = b.here; placed = b.placed }
 
-member_lot : (sc : Scenario) (f : List ℕ) (w : WorldState) (h : HartNo) (lots : List Lot) (lot : Lot) → IsMember sc f w h lots lot → IsLotIn (length w.machine.cache.ram) (driver_of w h.0).fixed lot
+pub member_lot : (sc : Scenario) (f : List ℕ) (w : WorldState) (h : HartNo) (lots : List Lot) (lot : Lot) → IsMember sc f w h lots lot → IsLotIn (length w.machine.cache.ram) (driver_of w h.0).fixed lot
 member_lot sc f w h lots lot b = all_at (IsLotIn (length w.machine.cache.ram) (driver_of w h.0).fixed) lots lot b.each.knows.lots b.here
 
-member_lies : (sc : Scenario) (f : List ℕ) (w : WorldState) (h : HartNo) (lots : List Lot) (lot : Lot) (i : ℕ) (e : Entry) → IsMember sc f w h lots lot → is_area lot.kind ≡ false → slice_get lot.list.entries i ≡ Some e → LiesInBuffer (driver_of w h.0).fixed e.span
+pub member_lies : (sc : Scenario) (f : List ℕ) (w : WorldState) (h : HartNo) (lots : List Lot) (lot : Lot) (i : ℕ) (e : Entry) → IsMember sc f w h lots lot → is_area lot.kind ≡ false → slice_get lot.list.entries i ≡ Some e → LiesInBuffer (driver_of w h.0).fixed e.span
 member_lies sc f w h lots lot i e b plain there =
     all_at (λ (d : Entry). LiesInBuffer (driver_of w h.0).fixed d.span) lot.list.entries e ((all_at (FitsSide (driver_of w h.0).fixed) lots lot b.each.mine.sides b.here).in_buffer plain) (at_get lot.list.entries i e there)
 
@@ -143,17 +143,25 @@ pub base_lies : (sc : Scenario) (f : List ℕ) (w : WorldState) (h : HartNo) (lo
 base_lies sc f w h lots lot i e b plain there = member_lies sc f w h lots lot i e (member_of sc f w h lots lot b) plain there
 
 -- none of its bytes is the pool's or a slot's
-pub base_beside : (sc : Scenario) (f : List ℕ) (w : WorldState) (h : HartNo) (lots : List Lot) (lot : Lot) (i : ℕ) (e : Entry) (x : ℕ) → IsBase sc f w h lots lot → is_area lot.kind ≡ false → slice_get lot.list.entries i ≡ Some e → covers e.span x ≡ true
+pub member_beside : (sc : Scenario) (f : List ℕ) (w : WorldState) (h : HartNo) (lots : List Lot) (lot : Lot) (i : ℕ) (e : Entry) (x : ℕ) → IsMember sc f w h lots lot → is_area lot.kind ≡ false → slice_get lot.list.entries i ≡ Some e → covers e.span x ≡ true
     → (covers (pool_of sc) x ≡ false) × (covers (slots_of sc) x ≡ false)
-base_beside sc f w h lots lot i e x b plain there on =
+member_beside sc f w h lots lot i e x b plain there on =
     let fx = (driver_of w h.0).fixed in
-    let lies = base_lies sc f w h lots lot i e b plain there in
+    let lies = member_lies sc f w h lots lot i e b plain there in
     let same = fixed_is sc f w h b.flat b.lt in
     let pool : fx.pool ≡ pool_of sc = ap (λ (k : Fixed). k.pool) same in
     let slots : slots_span fx ≡ slots_of sc = ap (λ (k : Fixed). slots_span k) same in (
       false_from_ne_true (covers (pool_of sc) x) (λ over. b.each.knows.regions.buffers_off_pool lies.0 x (lies.1 x on) (subst (λ (s : Span). covers s x ≡ true) (sym pool) over)),
       false_from_ne_true (covers (slots_of sc) x) (λ over. b.each.knows.regions.buffers_off_slots lies.0 x (lies.1 x on) (subst (λ (s : Span). covers s x ≡ true) (sym slots) over)),
     )
+
+pub base_beside : (sc : Scenario) (f : List ℕ) (w : WorldState) (h : HartNo) (lots : List Lot) (lot : Lot) (i : ℕ) (e : Entry) (x : ℕ) → IsBase sc f w h lots lot → is_area lot.kind ≡ false → slice_get lot.list.entries i ≡ Some e → covers e.span x ≡ true
+    → (covers (pool_of sc) x ≡ false) × (covers (slots_of sc) x ≡ false)
+base_beside sc f w h lots lot i e x b plain there on = member_beside sc f w h lots lot i e x (member_of sc f w h lots lot b) plain there on
+
+-- its owner is its hart, where it is not lent yet, or the mapping says it
+pub member_owner : (sc : Scenario) (f : List ℕ) (w : WorldState) (h : HartNo) (lots : List Lot) (lot : Lot) (i : ℕ) (e : Entry) (x : ℕ) → IsMember sc f w h lots lot → slice_get lot.list.entries i ≡ Some e → covers e.span x ≡ true → owner_of w x ≡ owner_of_side (map_id h lot.id i) lot.side
+member_owner sc f w h lots lot i e x b there on = b.each.mine.owners lot i e x (record { lot_in = b.here; entry = there }) on ∙ ap (λ (me : HartNo). owner_of_side (map_id me lot.id i) lot.side) (me_of w h b.each.me)
 
 -- ---- its slots
 
@@ -240,11 +248,11 @@ pub base_entry : (sc : Scenario) (f : List ℕ) (w : WorldState) (h : HartNo) (l
 base_entry sc f w h lots lot other n b there is too = entry_one (length w.machine.cache.ram) (driver_of w h.0).fixed lots other lot n b.each.knows.lots b.each.knows.names there b.here is too
 
 -- a place that is seen in a slot is not of the slot of a lot that waits, or is synced
-pub base_unseen : (sc : Scenario) (f : List ℕ) (w : WorldState) (h : HartNo) (lots : List Lot) (lot : Lot) (i : ℕ) (e : Entry) (k z : ℕ) → IsBase sc f w h lots lot → slice_get lot.list.entries i ≡ Some e → (lot.side ≡ sides.Wanted) ⊎ (lot.side ≡ sides.Synced) → e.bounced ≡ true → e.slot ≡ Some k
+pub member_unseen : (sc : Scenario) (f : List ℕ) (w : WorldState) (h : HartNo) (lots : List Lot) (lot : Lot) (i : ℕ) (e : Entry) (k z : ℕ) → IsMember sc f w h lots lot → AreKept w h lots → slice_get lot.list.entries i ≡ Some e → (lot.side ≡ sides.Wanted) ⊎ (lot.side ≡ sides.Synced) → e.bounced ≡ true → e.slot ≡ Some k
     → covers (slot_at sc k) z ≡ true → IsUnseen (book_of w) (owner_of w) (slots_of sc) z
-base_unseen sc f w h lots lot i e k z b there side bounced slot on x off same =
+member_unseen sc f w h lots lot i e k z b all_kept there side bounced slot on x off same =
     let fx = (driver_of w h.0).fixed in
-    let few : k < sc.slots = subst (λ (n : ℕ). k < n) (ap (λ (j : Fixed). j.slots) (fixed_is sc f w h b.flat b.lt)) ((entry_in (length w.machine.cache.ram) fx lot i e (base_lot sc f w h lots lot b) there).slot k slot).few in
+    let few : k < sc.slots = subst (λ (n : ℕ). k < n) (ap (λ (j : Fixed). j.slots) (fixed_is sc f w h b.flat b.lt)) ((entry_in (length w.machine.cache.ram) fx lot i e (member_lot sc f w h lots lot b) there).slot k slot).few in
     let never : seen w x ≡ x → ⊥ = λ at. both_ways (covers (slots_of sc) x) off (ap (covers (slots_of sc)) (sym at ∙ same) ∙ slot_slots sc k z few on) in
     elim (seen_ways sc f w x b.flat) [
       | inl at ↦ never at
@@ -257,7 +265,7 @@ base_unseen sc f w h lots lot i e k z b there side bounced slot on x off same =
           elim (cases_eq p.id.hart.0 h.0) [
             | inl own ↦
                 let mine : In m.lot (driver_of w h.0).lots = subst (λ (g : ℕ). In m.lot (driver_of w g).lots) own m.here.lot_in in
-                let kept = b.kept m.lot mine m.lent in
+                let kept = all_kept m.lot mine m.lent in
                 let one = slot_once fx.me b.slots lots k lot m.lot i m.i e m.entry b.each.words (record { lot_in = b.here; entry = there }) (record { lot_in = kept; entry = m.here.entry }) slot its_slot in
                 let lot_is : lot ≡ m.lot = same_lot lots lot m.lot b.each.knows.names b.here kept one.lot in
                 elim side [
@@ -273,3 +281,7 @@ base_unseen sc f w h lots lot i e k z b there side bounced slot on x off same =
                 ne (sym theirs.me ∙ sym (slot_harts fx.me (driver_of w p.id.hart.0).fixed.me b.slots k my_word their_word) ∙ b.each.me)
           ]
     ]
+
+pub base_unseen : (sc : Scenario) (f : List ℕ) (w : WorldState) (h : HartNo) (lots : List Lot) (lot : Lot) (i : ℕ) (e : Entry) (k z : ℕ) → IsBase sc f w h lots lot → slice_get lot.list.entries i ≡ Some e → (lot.side ≡ sides.Wanted) ⊎ (lot.side ≡ sides.Synced) → e.bounced ≡ true → e.slot ≡ Some k
+    → covers (slot_at sc k) z ≡ true → IsUnseen (book_of w) (owner_of w) (slots_of sc) z
+base_unseen sc f w h lots lot i e k z b there side bounced slot on = member_unseen sc f w h lots lot i e k z (member_of sc f w h lots lot b) b.kept there side bounced slot on

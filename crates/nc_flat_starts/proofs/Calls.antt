@@ -1,5 +1,5 @@
 -- A call at a start or in a search: it opens the operation, searches for a slot, or gives up.
-use Rattle.std.specs.Prelude.{Option, Some, All, not, Bool, true, false, if◌then◌else◌, option_map}
+use Rattle.std.specs.Prelude.{Option, Some, All, ◌==◌, not, Bool, true, false, if◌then◌else◌, option_map}
 use Rattle.std.specs.List.{list_any, find}
 use Rattle.std.proofs.Common.{◌≡◌, ℕ, ◌<◌, List, [], ◌∷◌, length, map, refl, sym, ap, ◌∙◌, inl, inr, subst}
 use Rattle.std.proofs.lemmas.Bool.{both_ways, and_from, eq-eqb}
@@ -11,6 +11,7 @@ use Rattle.nc_num.specs.declared.names.HartNo.{HartNo}
 use Rattle.nc_num.specs.declared.names.Label.{Label}
 use Rattle.nc_num.specs.declared.names.MapId.{MapId}
 use Rattle.nc_model.specs.declared.owners.Owner.{Owner}
+use Rattle.nc_pdma_regs.specs.Config.{repeat_of}
 use Rattle.nc_plan.specs.Plans.{In}
 use Rattle.nc_plan.proofs.PlanLaws.{in_right}
 use Rattle.nc_ops.specs.declared.ops.Op.{Op}
@@ -42,6 +43,7 @@ use Rattle.nc_rules.specs.Driver.{DriverState, Went, in_hand, stands, stays, sea
 use Rattle.nc_rules.specs.Watched.{owner_of}
 use Rattle.nc_rules.specs.World.{WorldState, driver_of}
 use Rattle.nc_scripts.specs.Drivers.{IsSettled, AreMade, made_names}
+use Rattle.nc_scripts.proofs.EveryDriver.{in_hand_is}
 use Rattle.nc_scripts.proofs.Lists.{all_in, all_filtered, none_any}
 use Rattle.nc_scripts.proofs.LotLaws.{its_name}
 use Rattle.nc_holds.proofs.EventFrom.{EveryoneIn}
@@ -351,7 +353,7 @@ made_ends sc f w h k lots c made =
     )
 
 -- with full fences nothing is to come of a lot that is still
-still_restful : (f : Fixed) (n : MapId) (o : Owner) (lot : Lot) → f.light ≡ false → IsStill f lot → o ≡ owner_of_side n lot.side → IsRestful o
+pub still_restful : (f : Fixed) (n : MapId) (o : Owner) (lot : Lot) → f.light ≡ false → IsStill f lot → o ≡ owner_of_side n lot.side → IsRestful o
 still_restful f n o lot full (StillDevice is) same = subst IsRestful (sym (same ∙ ap (owner_of_side n) is)) tt
 still_restful f n o lot full (StillSynced is kind) same = subst IsRestful (sym (same ∙ ap (owner_of_side n) is)) tt
 still_restful f n o lot full (StillOwn is kind) same = subst IsRestful (sym (same ∙ ap (owner_of_side n) is)) tt
@@ -385,8 +387,9 @@ copy_opens sc f w h k lots c made none =
     let went = opened (with_lots d lots) o in
     let behind = stands (with_lots d lots) Work plan lots d.saw in
     let its_driver : went.driver ≡ behind = so.driver in
+    let once : repeat_of k.config ≡ false = ap (λ (n : ℕ). n == 1) (in_hand_is (length m.cache.ram) (length m.harts) d o c.each.knows.fixed c.hand).fits.7 in
     let goes : CopyGoes fx lots plan =
-    copy_goes fx m k.chan k.config src dst lots (record {
+    copy_goes fx m k.chan k.config src dst lots once (record {
       block = c.flat.world.machine.block_size;
       size = sizes sc f w h c.flat c.lt;
       unlight = full;

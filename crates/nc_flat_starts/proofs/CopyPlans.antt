@@ -17,6 +17,7 @@ use Rattle.nc_queue.specs.Laws.{Stands}
 use Rattle.nc_queue.specs.declared.entry.Entry.{Entry as QueueEntry}
 use Rattle.nc_model.proofs.Faults.{covers-low, covers-high}
 use Rattle.nc_calls.specs.PlaceLaws.{drops_copies}
+use Rattle.nc_pdma_regs.specs.Config.{repeat_of}
 use Rattle.nc_plan.specs.Parts.{comes_back}
 use Rattle.nc_plan.specs.Plans.{In, full, dropped, return_op, blocks, cbo}
 use Rattle.nc_plan.specs.declared.effects.Effects.{Effects}
@@ -266,7 +267,7 @@ some_drops f lot e only comes size some =
     (o, in_flat_map (dropped f.effects f.size) p o (parts f lot) there here)
 
 -- what comes of a front that ends the lot's stay
-coming_front : (n : MapId) (id : LotId) (front more : List Step) → list_any (ends id) front ≡ true → coming n id (front ++ more) ≡ coming n id front
+pub coming_front : (n : MapId) (id : LotId) (front more : List Step) → list_any (ends id) front ≡ true → coming n id (front ++ more) ≡ coming n id front
 coming_front n id [] more ended = absurd cc
 coming_front n id (s ∷ front) more ended = elim (cases_Bool (ends id s)) [
   | inl is ↦ last n id s (front ++ more) is ∙ sym (last n id s front is)
@@ -450,8 +451,8 @@ pub record CopyGoes (f : Fixed) (lots : List Lot) (steps : List Step) : Type 0 w
   pub polled : polls steps ≡ true
   pub unclaimed : transfers steps ≡ false
 
-pub copy_goes : (f : Fixed) (m : MachineState) (chan : ChanNo) (cfg : ℕ) (src dst : Lot) (lots : List Lot) → MayCopy f m chan src dst lots → CopyGoes f lots (copy_steps f chan cfg src dst)
-copy_goes f m chan cfg src dst lots c =
+pub copy_goes : (f : Fixed) (m : MachineState) (chan : ChanNo) (cfg : ℕ) (src dst : Lot) (lots : List Lot) → repeat_of cfg ≡ false → MayCopy f m chan src dst lots → CopyGoes f lots (copy_steps f chan cfg src dst)
+copy_goes f m chan cfg src dst lots once c =
     let two = c.ends.two in
     let lent_src = set_side sides.Lending src.id lots in
     let lent = set_side sides.Lending dst.id lent_src in
@@ -482,6 +483,7 @@ copy_goes f m chan cfg src dst lots c =
         Claims (record {
           chan = chan;
           config = cfg;
+          once = once;
           reads = src;
           writes = dst;
           source_is = record { here = c.source_in; id_is = two.source_is; kind = c.ends.source_kind; dir_is = c.ends.source_dir; chan_is = c.ends.source_chan };

@@ -107,6 +107,9 @@ pub record AreBegun (f : Fixed) (k : CopyOp) (new : List Lot) : Type 0 where
   pub to_is : target_range f k to
   pub new_is : ends_of f k.chan (from ∷ to ∷ []) ≡ new
 
+two_by : (a b : Span) (rest all : List Span) → b ∷ [] ≡ rest → a ∷ rest ≡ all → a ∷ b ∷ [] ≡ all
+two_by a b rest all last is = ap (λ (ss : List Span). a ∷ ss) last ∙ is
+
 ends_by : (f : Fixed) (chan : ChanNo) (from to : Span) (ranges : List Span) (new : List Lot) → from ∷ to ∷ [] ≡ ranges → ends_of f chan ranges ≡ new → ends_of f chan (from ∷ to ∷ []) ≡ new
 ends_by f chan from to ranges new same is = ap (ends_of f chan) same ∙ is
 
@@ -126,7 +129,7 @@ copy_begun f lots new os pages k e =
     let s = passed (part_of (buffer_of f dst.buf) dst.off dst.len) (λ range. ranges_of f [] >>= λ ranges. Ok (range ∷ ranges)) r.value r.first in
     let last : s.value ∷ [] ≡ r.value = cc (s.rest) in
     let all : q.value ∷ r.value ≡ p2.value = cc (r.rest) in
-    let ranges : q.value ∷ s.value ∷ [] ≡ p2.value = ap (λ (ss : List Span). q.value ∷ ss) last ∙ all in
+    let ranges = two_by q.value s.value r.value p2.value last all in
     record {
       from = q.value;
       to = s.value;
