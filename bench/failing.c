@@ -1,4 +1,5 @@
 /* Stands before the C library (LD_PRELOAD) and fails one call of the program: bench/failures builds it and says how.
+ * Threads may call at once: each call has a number of its own.
  *
  * FAILING_COUNTS  a file of three 64-bit counts, of allocations, reads and writes, which each call raises
  * FAILING_KIND    the kind of call that fails: 0 allocations, 1 reads of descriptor 0, 2 writes to descriptor 1
@@ -35,7 +36,7 @@ __attribute__((constructor)) static void begin(void) {
 }
 
 static int fails(uint64_t of, int error) {
-    if (!counts || ++counts[of] != call || kind != of)
+    if (!counts || __atomic_add_fetch(&counts[of], 1, __ATOMIC_RELAXED) != call || kind != of)
         return 0;
     errno = error;
     return 1;

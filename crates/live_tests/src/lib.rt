@@ -6,3 +6,5 @@
 mod gates;
 #[cfg(test)]
 mod live;
+#[cfg(test)]
+mod streams;

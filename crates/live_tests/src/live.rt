@@ -21,7 +21,8 @@ const TWO_SLOTS: &str =
 const ONE_SLOT: &str =
     "{\"version\":1,\"ram\":65536,\"harts\":[{\"mode\":\"S\",\"menvcfg\":4611686018427388144,\"senvcfg\":240,\"script\":[[\"map\",1,0,0,8,2,0]]},{\"mode\":\"S\",\"menvcfg\":4611686018427388144,\"senvcfg\":240,\"script\":[[\"map\",1,1,0,8,2,1]]}],\"buffers\":[{\"at\":4097,\"len\":8,\"fill\":0,\"step\":0,\"owner\":0},{\"at\":4361,\"len\":8,\"fill\":0,\"step\":0,\"owner\":1}],\"slots\":{\"at\":32768,\"count\":1},\"pool\":{\"at\":49152,\"pages\":2}";
 
-fn words(alloc: Global, word: &str) -> Result<Vec<String>, AllocError> {
+/// The words of a command line.
+pub fn words(alloc: Global, word: &str) -> Result<Vec<String>, AllocError> {
     let mut words = Vec::new(alloc);
     words.push(String::from_str(alloc, word)?)?;
     Ok(words)
@@ -29,14 +30,17 @@ fn words(alloc: Global, word: &str) -> Result<Vec<String>, AllocError> {
 
 /// What a run in threads wrote: its history, a token each, and the report behind it.
 #[derive(Drop)]
-struct Told {
-    status: u8,
-    tokens: Vec<String>,
-    report: String,
+pub struct Told {
+    /// The status.
+    pub status: u8,
+    /// The events, a token each.
+    pub tokens: Vec<String>,
+    /// The lines behind them.
+    pub report: String,
 }
 
 /// Takes the text of a run apart.
-fn told_of(alloc: Global, status: u8, text: &str) -> Result<Told, AllocError> {
+pub fn told_of(alloc: Global, status: u8, text: &str) -> Result<Told, AllocError> {
     let mut tokens = Vec::new(alloc);
     let mut report = String::new(alloc);
     let mut left = 0u64;
@@ -79,7 +83,11 @@ fn live<R: Threads + Wait + Sync, G: Gate>(
 }
 
 /// Runs a scenario by a schedule of these tokens, with no finishing rounds.
-fn again(alloc: Global, scenario: &str, tokens: &[String]) -> Result<(u8, Vec<u8>), AllocError> {
+pub fn again(
+    alloc: Global,
+    scenario: &str,
+    tokens: &[String],
+) -> Result<(u8, Vec<u8>), AllocError> {
     let mut input = String::from_str(alloc, scenario)?;
     input.push_str(",\"schedule\":[")?;
     for (i, token) in tokens.iter().enumerate() {
@@ -193,27 +201,6 @@ fn one_slot_between_two(rt: HostRuntime) -> Result<(), Fail> {
         1
     );
     assert!(rt; runs_again(alloc, ONE_SLOT, &told)?);
-    Ok(())
-}
-
-#[test]
-fn failing_streams(rt: HostRuntime) -> Result<(), Fail> {
-    let alloc = rt.alloc();
-    let words = words(alloc, "run")?;
-    let mut input = String::from_str(alloc, FALSE_SHARING)?;
-    input.push_str(",\"schedule\":[]}")?;
-    let mut src = MemSource::new(
-        Vec::from_slice(alloc, input.as_bytes())?,
-        8,
-        vec![in alloc; 1]?,
-    );
-    let mut out = MemSink::new(alloc, Vec::new(alloc));
-    assert_eq!(rt; dmalive(&rt, alloc, &words, &mut src, &mut out, &NoGate), 4);
-    assert!(rt; out.bytes().is_empty());
-    let mut src = MemSource::new(input.into_bytes(), 4096, Vec::new(alloc));
-    let mut out = MemSink::new(alloc, vec![in alloc; 1]?);
-    assert_eq!(rt; dmalive(&rt, alloc, &words, &mut src, &mut out, &NoGate), 5);
-    assert!(rt; out.bytes().starts_with(b"history "));
     Ok(())
 }
 

@@ -39,8 +39,9 @@ use Rattle.nc_flatness.proofs.Outcomes.{gone}
 use Rattle.nc_flatness.proofs.Rests.{by_turn}
 use Rattle.nc_flat_starts.proofs.Frames.{IsPlace, rewrites_none, goes_still, loan_hart, last_none}
 use Rattle.nc_flat_plans.proofs.OwnRows.{either_true}
-use Rattle.nc_flat_plans.proofs.Drivers.{IsNext, IsDone, done_so, same_id}
-use Rattle.nc_flat_plans.proofs.Places.{IsUnder, lends_under, back_under, its_id, its_loan, known, in_ram, unslotted}
+use Rattle.nc_flat_plans.proofs.Drivers.{IsNext, IsDone, stay_lots, stay_transfers, done_so, same_id}
+use Rattle.nc_flat_plans.proofs.OwnCopies.{channels_stay}
+use Rattle.nc_flat_plans.proofs.Places.{IsUnder, lends_under, back_under, its_id, its_loan, known, in_ram, unslotted, area_alone}
 use Rattle.nc_flat_plans.proofs.Shifts.{sided, IsShift, side_loans, side_shift, end_shift}
 use Rattle.nc_flat_plans.proofs.StepFrames.{driven, behind_bytes}
 use Rattle.nc_flat_plans.proofs.StepQueues.{queue_clear}
@@ -59,6 +60,7 @@ pub record IsFenced (sc : Scenario) (f : List ℕ) (w : WorldState) (h : HartNo)
   pub under : IsUnder sc f w h lot
   pub area : is_area lot.kind ≡ true
   pub over : rest ≡ []
+  pub first : s.first ≡ turns.Stay
   pub done : IsDone (driver_of w h.0) s rest (went_by w h full)
   pub shift : IsShift w h (went_by w h full) lot to
   pub row : (i : ℕ) (e : Entry) (x : ℕ) → IsPlace lot i e x → Row (book_of w) (owner_of w x) (byte f x) w.machine x → Row (book_of (gone w h w.machine (went_by w h full))) (to (its_id h lot i)) (byte f x) w.machine x
@@ -74,13 +76,16 @@ area_fenced sc f w h o s rest lot to c =
     let none = emptied w h (op_may sc f w h o full s rest c.op) in
     fence_event sc f w h o s rest c.op
     (behind_bytes sc f f w h o s rest m went lot to c.op.next c.done u c.shift (rewrites_none sc f w h lot) (goes_still sc f w h u.flat.bytes) (record {
-      passes = λ x b there off beyond row. row;
+      passes = λ x b there off beyond still row. row;
+      waits = λ x there off beyond at row. absurd (area_alone sc f w h lot x u c.area at);
       row = c.row;
+      channels = channels_stay m h.0;
+      same = λ plain. refl;
       queue = queue_clear (book_of v) (owner_of v) m.pool m.size h.0 (queue_of m h.0) none;
       lasting = last_none (book_of v) f h.0 (hart_of m h.0).last (rest_last went.driver.rest) (ap rest_last (c.done.rest ∙ c.over));
       calm = λ z slot unseen. u.flat.bytes.calm z slot (area_unseen sc f w h m went lot to z u c.area c.shift slot unseen);
       pooled = λ i e x p on. c.pooled i e x p;
-      tokens = fence_tokens sc f w h o s rest c.op c.done;
+      tokens = fence_tokens sc f w h o s rest c.op c.done c.first;
       free = λ i e x p on. inl (c.free i e x p);
     }))
 
@@ -88,9 +93,9 @@ area_fenced sc f w h o s rest lot to c =
 
 -- its mapping stays
 side_known : (sc : Scenario) (f : List ℕ) (w : WorldState) (h : HartNo) (s : Step) (rest : List Step) (went : Went) (lot : Lot) (to : Side) (i : ℕ) (e : Entry) (x : ℕ) → IsUnder sc f w h lot → is_wanted to ≡ false → IsDone (driver_of w h.0) s rest went
-    → lots_after s.last (driver_of w h.0).lots ≡ set_side to lot.id (driver_of w h.0).lots → IsPlace lot i e x → (book_of (gone w h w.machine went)).loan (its_id h lot i) ≡ Some (its_loan w h lot i e)
-side_known sc f w h s rest went lot to i e x u now done lots p =
-    loan_hart w h w.machine went (its_id h lot i) (driven sc f w h lot u) refl ∙ side_loans sc f w h went lot to u now done.fixed (done.lots ∙ lots) (its_id h lot i) ∙ known sc f w h lot i e u p.entry
+    → s.first ≡ turns.Stay → lots_after s.last (driver_of w h.0).lots ≡ set_side to lot.id (driver_of w h.0).lots → IsPlace lot i e x → (book_of (gone w h w.machine went)).loan (its_id h lot i) ≡ Some (its_loan w h lot i e)
+side_known sc f w h s rest went lot to i e x u now done first lots p =
+    loan_hart w h w.machine went (its_id h lot i) (driven sc f w h lot u) refl ∙ side_loans sc f w h went lot to u now done.fixed (stay_lots (driver_of w h.0) s rest went done first ∙ lots) (its_id h lot i) ∙ known sc f w h lot i e u p.entry
 
 -- the hart's own
 own_row : (w : WorldState) (h : HartNo) (went : Went) (lot : Lot) (i x v : ℕ) → ThreadRow h.0 v w.machine x → Row (book_of (gone w h w.machine went)) (owner_of_side (its_id h lot i) sides.Own) v w.machine x
@@ -100,7 +105,7 @@ own_row w h went lot i x v row = row
 fence_comes : (sc : Scenario) (f : List ℕ) (w : WorldState) (h : HartNo) (o : Op) (s : Step) (rest : List Step) (lot : Lot) (i : ℕ) → IsOpNext sc f w h o full s rest → rest ≡ [] → turns_lot lot.id s.last ≡ true → gives_lot lot.id s.last ≡ false
     → to_come h lot i (driver_of w h.0).rest ≡ entries.Mark 15 15 ∷ []
 fence_comes sc f w h o s rest lot i k over turns gives =
-    ap (λ (r : List Step). to_come h lot i r) (k.next.rest_is ∙ ap (λ (r : List Step). s ∷ r) over) ∙ turn_comes (its_id h lot i) lot.id s turns gives ∙ ap act_coming k.act
+    ap (λ (r : List Step). to_come h lot i r) (k.next.rest_is ∙ ap (λ (r : List Step). s ∷ r) over) ∙ turn_comes (its_id h lot i) lot.id s [] turns gives ∙ ap act_coming k.act
 
 -- whether the plan settles the area
 fence_settles : (sc : Scenario) (f : List ℕ) (w : WorldState) (h : HartNo) (o : Op) (s : Step) (rest : List Step) (lot : Lot) → IsOpNext sc f w h o full s rest → rest ≡ [] → turns_lot lot.id s.last ≡ true → settling lot.id (driver_of w h.0).rest ≡ settles_lot lot.id s.last
@@ -118,7 +123,8 @@ settled_goes sc f w h o s rest next is =
     let k : IsOpNext sc f w h o full s rest = record { next = next; act = ap (λ (t : Step). t.act) is.step } in
     let u : IsUnder sc f w h lot = lends_under sc f w h o s rest lot true next is.hand (by_turn lot.id s rest (turns.Settle lot.id) (ap (λ (t : Step). t.last) is.step) (same_id lot.id)) in
     let area = is.hand.area_is in
-    let done = done_so sc f w h o s rest _ next refl in
+    let done = done_so sc f w h o s rest _ next refl refl in
+    let first : s.first ≡ turns.Stay = ap (λ (t : Step). t.first) is.step in
     let turn : s.last ≡ turns.Settle lot.id = ap (λ (t : Step). t.last) is.step in
     let lots : lots_after s.last d.lots ≡ set_side sides.Own lot.id d.lots = ap (λ (t : Turn). lots_after t d.lots) turn in
     let none = emptied w h (op_may sc f w h o full s rest k) in
@@ -133,10 +139,11 @@ settled_goes sc f w h o s rest next is =
       under = u;
       area = area;
       over = is.over;
+      first = first;
       done = done;
-      shift = side_shift sc f w h went lot sides.Own u refl done.fixed (done.lots ∙ lots) (done.transfers ∙ ap {B = List (Span × Owner)} (λ (t : Turn). transfers_of d.fixed.me d.lots t) turn);
+      shift = side_shift sc f w h went lot sides.Own u refl done.fixed (stay_lots d s rest went done first ∙ lots) (stay_transfers d s rest went done first ∙ ap {B = List (Span × Owner)} (λ (t : Turn). transfers_of d.fixed.me d.lots t) turn);
       row = λ i e x p row. own_row w h went lot i x (byte f x) (both i e x p row).0;
-      pooled = λ i e x p. area_is_pooled sc f w h m went lot i e x _ area p (side_known sc f w h s rest went lot sides.Own i e x u refl done lots p);
+      pooled = λ i e x p. area_is_pooled sc f w h m went lot i e x _ area p (side_known sc f w h s rest went lot sides.Own i e x u refl done first lots p);
       free = λ i e x p. (both i e x p (u.flat.bytes.rows x (in_ram sc f w h lot i e x u p) (unslotted sc f w h lot i e x u p))).1;
     })
 
@@ -152,7 +159,8 @@ area_given_goes sc f w h o s rest next is =
     let k : IsOpNext sc f w h o full s rest = record { next = next; act = ap (λ (t : Step). t.act) is.step } in
     let u : IsUnder sc f w h lot = lends_under sc f w h o s rest lot true next is.hand (by_turn lot.id s rest (turns.Give lot.id) (ap (λ (t : Step). t.last) is.step) (same_id lot.id)) in
     let area = is.hand.area_is in
-    let done = done_so sc f w h o s rest _ next refl in
+    let done = done_so sc f w h o s rest _ next refl refl in
+    let first : s.first ≡ turns.Stay = ap (λ (t : Step). t.first) is.step in
     let turn : s.last ≡ turns.Give lot.id = ap (λ (t : Step). t.last) is.step in
     let lots : lots_after s.last d.lots ≡ set_side sides.Device lot.id d.lots = ap (λ (t : Turn). lots_after t d.lots) turn in
     let none = emptied w h (op_may sc f w h o full s rest k) in
@@ -164,15 +172,16 @@ area_given_goes sc f w h o s rest next is =
       under = u;
       area = area;
       over = is.over;
+      first = first;
       done = done;
-      shift = side_shift sc f w h went lot sides.Device u refl done.fixed (done.lots ∙ lots) (done.transfers ∙ ap {B = List (Span × Owner)} (λ (t : Turn). transfers_of d.fixed.me d.lots t) turn);
+      shift = side_shift sc f w h went lot sides.Device u refl done.fixed (stay_lots d s rest went done first ∙ lots) (stay_transfers d s rest went done first ∙ ap {B = List (Span × Owner)} (λ (t : Turn). transfers_of d.fixed.me d.lots t) turn);
       row = λ i e x p row.
           let n = its_id h lot i in
           let ahead = entries.Mark 15 15 ∷ token n ∷ [] in
-          let comes : to_come h lot i d.rest ≡ ahead = ap (λ (r : List Step). to_come h lot i r) (next.rest_is ∙ ap (λ (r : List Step). s ∷ r) is.over) ∙ given_comes n lot.id s is.step in
+          let comes : to_come h lot i d.rest ≡ ahead = ap (λ (r : List Step). to_come h lot i r) (next.rest_is ∙ ap (λ (r : List Step). s ∷ r) is.over) ∙ given_comes n lot.id s [] is.step in
           let pool = rows_plan.given m n (byte f x) x ahead none (free i e x p) (giving_as sc f w h m lot i e x (byte f x) ahead u area p is.hand.side_is settles comes row) in
-          subst (λ (l : Option Loan). DeviceRow n l (byte f x) m x) (sym (side_known sc f w h s rest went lot sides.Device i e x u refl done lots p)) (either_true (is_area lot.kind) _ _ area pool);
-      pooled = λ i e x p. area_is_pooled sc f w h m went lot i e x _ area p (side_known sc f w h s rest went lot sides.Device i e x u refl done lots p);
+          subst (λ (l : Option Loan). DeviceRow n l (byte f x) m x) (sym (side_known sc f w h s rest went lot sides.Device i e x u refl done first lots p)) (either_true (is_area lot.kind) _ _ area pool);
+      pooled = λ i e x p. area_is_pooled sc f w h m went lot i e x _ area p (side_known sc f w h s rest went lot sides.Device i e x u refl done first lots p);
       free = free;
     })
 
@@ -187,7 +196,8 @@ taken_goes sc f w h o s rest next is =
     let k : IsOpNext sc f w h o full s rest = record { next = next; act = ap (λ (t : Step). t.act) is.step } in
     let u : IsUnder sc f w h lot = back_under sc f w h o s rest lot true next is.hand in
     let area = is.hand.area_is in
-    let done = done_so sc f w h o s rest _ next refl in
+    let done = done_so sc f w h o s rest _ next refl refl in
+    let first : s.first ≡ turns.Stay = ap (λ (t : Step). t.first) is.step in
     let turn : s.last ≡ is.turn = ap (λ (t : Step). t.last) is.step in
     let none = emptied w h (op_may sc f w h o full s rest k) in
     let free : (i : ℕ) (e : Entry) (x : ℕ) → IsPlace lot i e x → NotHeld m x = λ i e x p. unheld_back sc f w h lot i e x u area p is.hand.side_is in
@@ -200,20 +210,22 @@ taken_goes sc f w h o s rest next is =
             under = u;
             area = area;
             over = is.over;
+            first = first;
             done = done;
-            shift = side_shift sc f w h went lot sides.Own u refl done.fixed (done.lots ∙ lots) (done.transfers ∙ ap {B = List (Span × Owner)} (λ (t : Turn). transfers_of d.fixed.me d.lots t) (turn ∙ settle));
+            shift = side_shift sc f w h went lot sides.Own u refl done.fixed (stay_lots d s rest went done first ∙ lots) (stay_transfers d s rest went done first ∙ ap {B = List (Span × Owner)} (λ (t : Turn). transfers_of d.fixed.me d.lots t) (turn ∙ settle));
             row = λ i e x p row. own_row w h went lot i x (byte f x) (thread i e x p row);
-            pooled = λ i e x p. area_is_pooled sc f w h m went lot i e x _ area p (side_known sc f w h s rest went lot sides.Own i e x u refl done lots p);
+            pooled = λ i e x p. area_is_pooled sc f w h m went lot i e x _ area p (side_known sc f w h s rest went lot sides.Own i e x u refl done first lots p);
             free = free;
           })
       | inr end ↦
-          let shift : IsShift w h went lot (λ n. last_owner h lot) = end_shift sc f w h went lot u done.fixed (done.lots ∙ ap (λ (t : Turn). lots_after t d.lots) (turn ∙ end))
-          (done.transfers ∙ ap {B = List (Span × Owner)} (λ (t : Turn). transfers_of d.fixed.me d.lots t) (turn ∙ end)) in
+          let shift : IsShift w h went lot (λ n. last_owner h lot) = end_shift sc f w h went lot u done.fixed (stay_lots d s rest went done first ∙ ap (λ (t : Turn). lots_after t d.lots) (turn ∙ end))
+          (stay_transfers d s rest went done first ∙ ap {B = List (Span × Owner)} (λ (t : Turn). transfers_of d.fixed.me d.lots t) (turn ∙ end)) in
           area_fenced sc f w h o s rest lot (λ n. Pool) (record {
             op = k;
             under = u;
             area = area;
             over = is.over;
+            first = first;
             done = done;
             shift = subst (λ (p : Owner). IsShift w h went lot (λ n. p)) (cond-true (is_area lot.kind) Pool (Thread h) area) shift;
             row = λ i e x p row. nobodys m (its_id h lot i) (byte f x) x none (free i e x p) (thread i e x p row);

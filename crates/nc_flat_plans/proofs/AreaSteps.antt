@@ -25,7 +25,6 @@ use Rattle.nc_rules.specs.declared.lots.Lot.{Lot}
 use Rattle.nc_rules.specs.declared.lots.LotId.{LotId}
 use Rattle.nc_rules.specs.declared.lots.Side.TheVariants as sides
 use Rattle.nc_rules.specs.declared.steps.Step.{Step}
-use Rattle.nc_rules.specs.declared.steps.Turn.TheVariants as turns
 use Rattle.nc_rules.specs.Lots.{owner_of_side}
 use Rattle.nc_rules.specs.Machine.{MachineState, hart_of}
 use Rattle.nc_rules.specs.Turns.{is_area}
@@ -56,9 +55,10 @@ use Rattle.nc_flat_plans.proofs.OwnRows.{same_full}
 use Rattle.nc_flat_plans.proofs.Passes.{IsPlain, IsClear, passes_by, op_plain, writes_whole}
 use Rattle.nc_flat_plans.proofs.Drivers.{IsNext, IsDone, done_so, coming_next, settling_next}
 use Rattle.nc_flat_plans.proofs.PoolPlaces.{slot_unpooled}
-use Rattle.nc_flat_plans.proofs.Places.{IsUnder, lends_under, its_id, its_loan, mapping_of, pooled}
+use Rattle.nc_flat_plans.proofs.Places.{IsUnder, lends_under, its_id, its_loan, mapping_of, pooled, area_alone}
 use Rattle.nc_flat_plans.proofs.Besides.{posted_beside}
-use Rattle.nc_flat_plans.proofs.Shifts.{sided, seen_mapped, held, stay_shift}
+use Rattle.nc_flat_plans.proofs.OwnCopies.{channels_entered}
+use Rattle.nc_flat_plans.proofs.Shifts.{sided, seen_mapped, held, IsStay, stay_shift}
 use Rattle.nc_flat_plans.proofs.StepTokens.{IsUntokened, same_entered, kept_tokens}
 use Rattle.nc_flat_plans.proofs.StepFrames.{driven, known_now, enters_by, behind_bytes}
 use Rattle.nc_flat_plans.proofs.StepQueues.{stays_dropped, stays_zeroed, queue_stays, queue_more}
@@ -75,7 +75,7 @@ pub record IsAreaPut (sc : Scenario) (f g : List ℕ) (w : WorldState) (h : Hart
   pub under : IsUnder sc f w h lot
   pub area : is_area lot.kind ≡ true
   pub side : lot.side ≡ sides.Lending
-  pub stay : s.last ≡ turns.Stay
+  pub stay : IsStay s
   pub ends_none : (id : LotId) → ends id s ≡ false
   pub entry : act_coming s.act ≡ bare e ∷ []
   pub settles : settling lot.id rest ≡ true
@@ -145,7 +145,11 @@ area_bytes sc f g w h o s rest k went e lot c done by queued =
     let full : (i : ℕ) → list_any is_full (to_come h lot i (s ∷ rest)) ≡ list_any is_full (to_come h lot i rest) =
     λ i. ap (list_any is_full) (area_comes sc f g w h o s rest e lot i c) ∙ same_full e (to_come h lot i rest) c.plain.full in
     behind_bytes sc f g w h o s rest k went lot (sided lot.side) c.next done u shift (rewrites sc f g w h o s rest e lot c) (enters_by sc f w h k e u.flat by c.plain.fence) (record {
-      passes = λ x b there off beyond row. rows_issue.passed (book_of w) (owner_of w x) b m k h.0 e x by (passes_by (book_of w) (owner_of w x) m h.0 e x c.plain (c.clear x there off beyond)) row;
+      passes = λ x b there off beyond still row.
+          rows_issue.passed (book_of w) (owner_of w x) b m k h.0 e x by (passes_by (book_of w) (owner_of w x) m h.0 e x c.plain (c.clear x there off beyond) (posted_beside sc f w h lot x u still)) row;
+      waits = λ x there off beyond at row. absurd (area_alone sc f w h lot x u c.area at);
+      channels = channels_entered m k h.0 e by c.plain.register;
+      same = λ plain. absurd (both_ways (is_area lot.kind) plain c.area);
       row = λ i d x p row. area_row sc f g w h o s rest k went e lot i d x c done by p row;
       queue = queue_more (book_of v) (owner_of v) m k h.0 e by queued
           (queue_stays sc f w h k went u.flat (λ b is. stays_dropped sc f w h k went lot s rest b u c.next.rest_is done.rest shift (λ i was. sym (full i) ∙ was) is)
@@ -153,7 +157,7 @@ area_bytes sc f g w h o s rest k went e lot c done by queued =
       lasting = last_none (book_of v) g h.0 (hart_of k h.0).last (rest_last went.driver.rest) (ap rest_last done.rest ∙ c.last);
       calm = λ z slot unseen. calm_pushed m k h.0 e z by (c.slots z slot) (u.flat.bytes.calm z slot (area_unseen sc f w h k went lot (sided lot.side) z u c.area shift slot unseen));
       pooled = λ i d x p over. area_is_pooled sc f w h k went lot i d x (owner_of_side (its_id h lot i) lot.side) c.area p (known_now sc f w h k went lot (sided lot.side) i d u shift (seen_mapped (its_id h lot i) lot.side (inl c.side)) p.entry);
-      tokens = kept_tokens sc f w h o s rest k went c.next done (λ id. (or_parts (turns_lot id s.last) (stores_io (tokens_lot id) s.act) (c.ends_none id)).1) (same_entered m k h e by c.token);
+      tokens = kept_tokens sc f w h o s rest k went c.next done c.stay.first (λ id. (or_parts (turns_lot id s.last) (stores_io (tokens_lot id) s.act) (c.ends_none id)).1) (same_entered m k h e by c.token);
       free = λ i d x p over. inr (may_hold sc f w h k went lot i d x rest u c.area p c.side shift done.rest c.settles);
     })
 
@@ -172,7 +176,7 @@ flushed_goes sc f w h o s rest next is =
       under = u;
       area = is.hand.area_is;
       side = is.hand.side_is;
-      stay = ap (λ (t : Step). t.last) is.step;
+      stay = record { first = ap (λ (t : Step). t.first) is.step; last = ap (λ (t : Step). t.last) is.step };
       ends_none = λ id. ap (ends id) is.step;
       entry = ap act_coming k.act;
       settles = is.settles;
@@ -186,14 +190,13 @@ flushed_goes sc f w h o s rest next is =
         block = λ n l lent known area back. refl;
         area = λ n l owner known area. writes_whole m is.block cbos.Flush x refl;
         token = λ n owner own. refl;
-        posted = λ n owner own. posted_beside sc f w h lot n x u there off owner own;
       };
       slots = λ z slot. refl;
       size = refl;
       bytes = λ x. refl;
     } in
     op_goes sc f w h o op s rest k (kept_silent w h (is_script (driver_of w h.0).phase) cbos.Flush is.block refl)
-    (area_bytes sc f f w h o s rest (issue_next m h.0 op) (went_by w h op) e lot put (done_so sc f w h o s rest _ next refl) (op_enters sc f w h o op s rest e k refl) tt)
+    (area_bytes sc f f w h o s rest (issue_next m h.0 op) (went_by w h op) e lot put (done_so sc f w h o s rest _ next refl refl) (op_enters sc f w h o op s rest e k refl) tt)
 
 -- ---- a block is zeroed
 
@@ -255,8 +258,8 @@ zeroed_goes sc f w h o s rest next is =
     let area = is.hand.area_is in
     let bytes = named (m.size * block.0) (replicate m.size 0) in
     let g = written f bytes in
-    let done = done_so sc f w h o s rest _ next refl in
-    let stay : s.last ≡ turns.Stay = ap (λ (t : Step). t.last) is.step in
+    let done = done_so sc f w h o s rest _ next refl refl in
+    let stay : IsStay s = record { first = ap (λ (t : Step). t.first) is.step; last = ap (λ (t : Step). t.last) is.step } in
     let shift = stay_shift sc f w h went lot s rest u done stay in
     let fits : m.size * block.0 + m.size ≤ length f = omega (arith, op_there sc f w h o op s rest k, u.flat.bytes.flat_size, u.flat.world.of_scenario.ram) in
     let put : IsAreaPut sc f g w h o s rest e lot = record {
@@ -281,7 +284,6 @@ zeroed_goes sc f w h o s rest next is =
             block = λ j l lent known plain back. zero_block m block _ (λ met. far (ap (λ (y : ℕ). y / m.size) (seen_lent w j l x known lent) ∙ met));
             area = λ j l owner known plain. (zero_block m block x beyond, refl);
             token = λ j owner own. refl;
-            posted = λ j owner own. posted_beside sc f w h lot j x u there off owner own;
           };
       slots = λ y slot. zero_byte m block y (λ met. both_ways (covers (pool_of sc) y) (slot_unpooled sc f w y u.flat slot) (pooled sc f w h lot is.i is.entry y u area (z.whole y met)));
       size = length-written f bytes;

@@ -2,7 +2,7 @@
 -- nothing of the plan is of it.
 use Rattle.std.specs.Prelude.{Some, true, false}
 use Rattle.std.specs.List.{list_any}
-use Rattle.std.proofs.Common.{◌≡◌, ℕ, ◌<◌, List, sym, ap, ◌∙◌, inl, inr, subst}
+use Rattle.std.proofs.Common.{◌≡◌, ℕ, List, sym, ap, ◌∙◌, inl, inr, subst}
 use Rattle.std.proofs.lemmas.Bool.{or_parts}
 use Rattle.nc_num.specs.declared.names.HartNo.{HartNo}
 use Rattle.nc_num.specs.declared.names.MapId.{MapId}
@@ -31,10 +31,10 @@ use Rattle.nc_flatness.specs.Plans.{IsStill, StillDevice, StillSynced, StillOwn,
 use Rattle.nc_flatness.proofs.Loans.{one_lot}
 use Rattle.nc_flatness.proofs.Rests.{lend_light, ends_others, at_plan}
 use Rattle.nc_flatness.proofs.Tokens.{lent_sent, unended_settling, sent_named}
-use Rattle.nc_flat_starts.proofs.Frames.{IsOff, IsRestful, SameRest, IsAside}
-use Rattle.nc_flat_plans.proofs.Passes.{IsPosted}
+use Rattle.nc_flat_starts.proofs.Frames.{IsRestful, SameRest, IsAside}
+use Rattle.nc_flat_plans.proofs.Passes.{ArePosted}
 use Rattle.nc_flat_plans.proofs.Drivers.{IsNext, IsDone}
-use Rattle.nc_flat_plans.proofs.Places.{IsUnder, far_lot, IsOther, beside}
+use Rattle.nc_flat_plans.proofs.Places.{IsUnder, far_lot, IsOther, StillAt}
 
 -- ---- the plan is of the lot in hand alone
 
@@ -52,13 +52,15 @@ still_lends f n lot owner (StillSynced is kind) = let both : Synced n ≡ Lendin
 still_lends f n lot owner (StillOwn is kind) = let both : Thread n.hart ≡ Lending n = sym (ap (owner_of_side n) is) ∙ owner in absurd (cc)
 still_lends f n lot owner (StillSent is light) = is
 
-pub posted_beside : (sc : Scenario) (f : List ℕ) (w : WorldState) (h : HartNo) (lot : Lot) (n : MapId) (x : ℕ) → IsUnder sc f w h lot → x < sc.ram → IsOff lot x → owner_of w x ≡ Lending n → n.hart.0 ≡ h.0 → IsPosted w.machine n
-posted_beside sc f w h lot n x u there off owner own =
+pub posted_beside : (sc : Scenario) (f : List ℕ) (w : WorldState) (h : HartNo) (lot : Lot) (x : ℕ) → IsUnder sc f w h lot → StillAt w h lot x → ArePosted (owner_of w x) w.machine h.0
+posted_beside sc f w h lot x u all n owner own =
     let d = driver_of w h.0 in
-    let o = beside sc f w h lot n x u there off (ap mapping_in owner) own in
+    let s = all n (ap mapping_in owner) own in
+    let o = s.0 in
+    let still = s.1 in
     let other = o.at.is.lot in
-    let side = still_lends d.fixed n other (sym o.at.owner ∙ owner) o.still in
-    let light = lend_light d.fixed other side o.still in
+    let side = still_lends d.fixed n other (sym o.at.owner ∙ owner) still in
+    let light = lend_light d.fixed other side still in
     let none = other_unended sc f w h lot other u light o.here o.off in
     any_bare (names n) (bare_names n) (queue_of w.machine n.hart.0)
     ∙ sent_named sc f w n o.at.loan u.flat o.at.is (subst (λ (g : ℕ). (driver_of w g).fixed.light ≡ true) (sym own) light)
@@ -77,12 +79,12 @@ aside_by w h went o n f lot (StillOwn is kind) owner sent = inl (subst IsRestful
 aside_by w h went o n f lot (StillSent is light) owner sent = inr (sent light)
 
 -- nor behind a step
-pub aside : (sc : Scenario) (f : List ℕ) (w : WorldState) (h : HartNo) (o : Op) (s : Step) (rest : List Step) (went : Went) (lot : Lot) (n : MapId) (x : ℕ) → IsNext sc f w h o s rest → IsDone (driver_of w h.0) s rest went → IsUnder sc f w h lot → IsOther w h lot n x → n.hart.0 ≡ h.0
+pub aside : (sc : Scenario) (f : List ℕ) (w : WorldState) (h : HartNo) (o : Op) (s : Step) (rest : List Step) (went : Went) (lot : Lot) (n : MapId) (x : ℕ) → IsNext sc f w h o s rest → IsDone (driver_of w h.0) s rest went → IsUnder sc f w h lot → (other : IsOther w h lot n x) → IsStill (driver_of w h.0).fixed other.at.is.lot → n.hart.0 ≡ h.0
     → IsAside w h went (owner_of w x) n
-aside sc f w h o s rest went lot n x next done u other own =
+aside sc f w h o s rest went lot n x next done u other still own =
     let d = driver_of w h.0 in
     let it = other.at.is.lot in
-    aside_by w h went (owner_of w x) n d.fixed it other.still other.at.owner (λ light l known.
+    aside_by w h went (owner_of w x) n d.fixed it still other.at.owner (λ light l known.
     let none : list_any (ends it.id) d.rest ≡ false = other_unended sc f w h lot it u light other.here other.off in
     let behind : list_any (ends it.id) rest ≡ false = (or_parts (ends it.id s) (list_any (ends it.id) rest) (sym (ap (list_any (ends it.id)) next.rest_is) ∙ none)).1 in
     let same : other.at.loan ≡ l = same_some other.at.loan l (sym other.at.known ∙ ap (λ (g : ℕ). loan_of (driver_of w g) n) own ∙ known) in

@@ -1,7 +1,7 @@
 -- A cache operation of a plan: a block is written back before its lot is lent, or dropped before the full fence.
 use Rattle.std.specs.Prelude.{None, ◌/◌, true, false}
 use Rattle.std.specs.List.{list_any}
-use Rattle.std.proofs.Common.{◌≡◌, ℕ, List, refl, sym, ap, ◌∙◌, inl, inr}
+use Rattle.std.proofs.Common.{◌≡◌, ◌⊎◌, ℕ, List, refl, sym, ap, ◌∙◌, inl, inr}
 use Rattle.nc_num.specs.Places.{covers}
 use Rattle.nc_num.specs.declared.names.HartNo.{HartNo}
 use Rattle.nc_num.specs.declared.places.Block.{Block}
@@ -15,6 +15,7 @@ use Rattle.nc_scen.specs.Regions.{pool_of}
 use Rattle.nc_scen.specs.declared.events.Event.TheVariants as events
 use Rattle.nc_scen.specs.declared.scenario.Scenario.{Scenario}
 use Rattle.nc_rules.specs.declared.lots.Lot.{Lot}
+use Rattle.nc_rules.specs.declared.lots.Side.TheVariants as sides
 use Rattle.nc_rules.specs.declared.steps.Step.{Step}
 use Rattle.nc_rules.specs.Lots.{owner_of_side}
 use Rattle.nc_rules.specs.Plans.{hart_step}
@@ -39,7 +40,6 @@ use Rattle.nc_flat_plans.proofs.Passes.{is_kept_op, writes_kept, drops_kept, op_
 use Rattle.nc_flat_plans.proofs.Drivers.{IsNext, done_so, returns_later}
 use Rattle.nc_flat_plans.proofs.PoolPlaces.{lent_pooled, pool_apart}
 use Rattle.nc_flat_plans.proofs.Places.{IsUnder, lends_under, back_under, its_id, its_loan, its_place, known, device_unpooled}
-use Rattle.nc_flat_plans.proofs.Besides.{posted_beside}
 use Rattle.nc_flat_plans.proofs.Shifts.{sided, seen_mapped, held, stay_shift}
 use Rattle.nc_flat_plans.proofs.StepFrames.{driven, known_now}
 use Rattle.nc_flat_plans.proofs.OwnPlaces.{to_come}
@@ -47,9 +47,9 @@ use Rattle.nc_flat_plans.proofs.Puts.{IsStaying, IsPut, put_bytes}
 use Rattle.nc_flat_plans.proofs.Issues.{IsOpNext, op_enters, kept_silent, went_by, op_goes}
 
 -- no row is changed by it
-op_put : (sc : Scenario) (f : List ℕ) (w : WorldState) (h : HartNo) (o : Op) (op : CboOp) (block : Block) (s : Step) (rest : List Step) (lot : Lot) → IsOpNext sc f w h o (hart_ops.Cbo op block) s rest → IsUnder sc f w h lot → is_kept_op op ≡ true
+op_put : (sc : Scenario) (f : List ℕ) (w : WorldState) (h : HartNo) (o : Op) (op : CboOp) (block : Block) (s : Step) (rest : List Step) (lot : Lot) → IsOpNext sc f w h o (hart_ops.Cbo op block) s rest → IsUnder sc f w h lot → (lot.side ≡ sides.Lending) ⊎ (lot.side ≡ sides.Returning) → is_kept_op op ≡ true
     → ((x : ℕ) → covers (pool_of sc) x ≡ true → NoWhole w.machine (entries.Cbo block op) x) → IsPut sc f w h (issue_next w.machine h.0 (hart_ops.Cbo op block)) (entries.Cbo block op) rest lot
-op_put sc f w h o op block s rest lot k u kept whole =
+op_put sc f w h o op block s rest lot k u moves kept whole =
     let m = w.machine in
     let n = issue_next m h.0 (hart_ops.Cbo op block) in
     let e = entries.Cbo block op in
@@ -63,26 +63,26 @@ op_put sc f w h o op block s rest lot k u kept whole =
         block = λ j l lent known area back. op_block m block op _ kept;
         area = λ j l owner known area. whole x (lent_pooled sc f w j l x u.flat there owner known area);
         token = λ j owner own. refl;
-        posted = λ j owner own. posted_beside sc f w h lot j x u there beyond owner own;
       };
+      moves = moves;
       lends = λ side i d x p. (op_byte m block op x kept, inr (inl (op_byte m block op _ kept)));
       backs = λ side i d x p row. back_op lot.list.dir m n e (its_id h lot i) _ x _ (to_come h lot i rest) by refl (λ z. op_byte m block op z kept) (λ z. op_block m block op z kept) row;
       unseen = λ z slot unseen. op_byte m block op z kept;
     }
 
 -- the event, with what is asked of the entry
-op_event : (sc : Scenario) (f : List ℕ) (w : WorldState) (h : HartNo) (o : Op) (op : CboOp) (block : Block) (s : Step) (rest : List Step) (lot : Lot) → IsOpNext sc f w h o (hart_ops.Cbo op block) s rest → IsUnder sc f w h lot → s ≡ hart_step (hart_ops.Cbo op block)
+op_event : (sc : Scenario) (f : List ℕ) (w : WorldState) (h : HartNo) (o : Op) (op : CboOp) (block : Block) (s : Step) (rest : List Step) (lot : Lot) → IsOpNext sc f w h o (hart_ops.Cbo op block) s rest → IsUnder sc f w h lot → (lot.side ≡ sides.Lending) ⊎ (lot.side ≡ sides.Returning) → s ≡ hart_step (hart_ops.Cbo op block)
     → is_kept_op op ≡ true → ((x : ℕ) → covers (pool_of sc) x ≡ true → NoWhole w.machine (entries.Cbo block op) x) → is_area lot.kind ≡ false → HasEnd lot.id rest → rest_last rest ≡ None
     → OpIsQueued (book_of (gone w h (issue_next w.machine h.0 (hart_ops.Cbo op block)) (went_by w h (hart_ops.Cbo op block)))) (owner_of (gone w h (issue_next w.machine h.0 (hart_ops.Cbo op block)) (went_by w h (hart_ops.Cbo op block)))) w.machine.pool w.machine.size h.0 op
     block.0
     → Goes sc f w (events.Issue h)
-op_event sc f w h o op block s rest lot k u step kept whole mapping later last queued =
+op_event sc f w h o op block s rest lot k u moves step kept whole mapping later last queued =
     let cbo = hart_ops.Cbo op block in
-    let done = done_so sc f w h o s rest _ k.next refl in
-    let stays : IsStaying sc f w h o s rest lot = record { next = k.next; under = u; stay = ap (λ (t : Step). t.last) step; plain = λ id. ap (ends id) step; mapping = mapping; later = later } in
+    let done = done_so sc f w h o s rest _ k.next refl refl in
+    let stays : IsStaying sc f w h o s rest lot = record { next = k.next; under = u; stay = record { first = ap (λ (t : Step). t.first) step; last = ap (λ (t : Step). t.last) step }; plain = λ id. ap (ends id) step; mapping = mapping; later = later } in
     op_goes sc f w h o cbo s rest k (kept_silent w h (is_script (driver_of w h.0).phase) op block kept)
     (put_bytes sc f w h o s rest (issue_next w.machine h.0 cbo) (went_by w h cbo) (entries.Cbo block op) lot stays done (op_enters sc f w h o cbo s rest (entries.Cbo block op) k refl) (ap act_coming k.act)
-    (op_put sc f w h o op block s rest lot k u kept whole) queued last)
+    (op_put sc f w h o op block s rest lot k u moves kept whole) queued last)
 
 -- ---- a block is written back
 
@@ -97,12 +97,12 @@ written_goes sc f w h o s rest next is =
     let cbo = hart_ops.Cbo is.op is.block in
     let k : IsOpNext sc f w h o cbo s rest = record { next = next; act = ap (λ (t : Step). t.act) is.step } in
     let u : IsUnder sc f w h is.lot = lends_under sc f w h o s rest is.lot false next is.hand (behind is.lot.id s rest is.later) in
-    op_event sc f w h o is.op is.block s rest is.lot k u is.step (writes_kept is.op is.writes) (λ x over. writes_whole w.machine is.block is.op x is.writes) is.hand.area_is is.later is.next
+    op_event sc f w h o is.op is.block s rest is.lot k u (inl is.hand.side_is) is.step (writes_kept is.op is.writes) (λ x over. writes_whole w.machine is.block is.op x is.writes) is.hand.area_is is.later is.next
     (written_queued w (gone w h (issue_next w.machine h.0 cbo) (went_by w h cbo)) h.0 is.op is.block.0 is.writes)
 
 -- ---- a block is dropped
 
-dropped_queued : (w v : WorldState) (h : ℕ) (op : CboOp) (b : ℕ) → drops_copies op ≡ true → IsDropped (book_of v) (owner_of v) w.machine.size h b → OpIsQueued (book_of v) (owner_of v) w.machine.pool w.machine.size h op b
+pub dropped_queued : (w v : WorldState) (h : ℕ) (op : CboOp) (b : ℕ) → drops_copies op ≡ true → IsDropped (book_of v) (owner_of v) w.machine.size h b → OpIsQueued (book_of v) (owner_of v) w.machine.pool w.machine.size h op b
 dropped_queued w v h cbos.Clean b is dropped = absurd cc
 dropped_queued w v h cbos.Flush b is dropped = tt
 dropped_queued w v h cbos.Inval b is dropped = dropped
@@ -119,8 +119,8 @@ dropped_goes sc f w h o s rest next is =
     let v = gone w h n went in
     let k : IsOpNext sc f w h o cbo s rest = record { next = next; act = ap (λ (t : Step). t.act) is.step } in
     let u : IsUnder sc f w h lot = back_under sc f w h o s rest lot false next is.hand in
-    let done = done_so sc f w h o s rest _ next refl in
-    let shift = stay_shift sc f w h went lot s rest u done (ap (λ (t : Step). t.last) is.step) in
+    let done = done_so sc f w h o s rest _ next refl refl in
+    let shift = stay_shift sc f w h went lot s rest u done (record { first = ap (λ (t : Step). t.first) is.step; last = ap (λ (t : Step). t.last) is.step }) in
     let id = its_id h lot is.i in
     let l = its_loan w h lot is.i is.entry in
     let at = device_place_of w id l is.place (loan_is sc f w id l u.flat (known sc f w h lot is.i is.entry u is.here.entry)) is.covered in
@@ -137,6 +137,6 @@ dropped_goes sc f w h o s rest next is =
       owned = shift.on is.i is.entry at.place p ∙ ap (owner_of_side id) is.hand.side_is;
       here = ap (λ (y : ℕ). y / m.size) at.here ∙ ap (λ (z : ℕ). is.place / z) (sym size) ∙ is.met;
     } in
-    op_event sc f w h o is.op is.block s rest lot k u is.step (drops_kept is.op is.drops)
+    op_event sc f w h o is.op is.block s rest lot k u (inr is.hand.side_is) is.step (drops_kept is.op is.drops)
     (λ x over. op_whole m is.block is.op x (drops_kept is.op is.drops) (λ met. pool_apart sc f w x (its_place w h lot is.i is.entry at.place) u.flat over (device_unpooled sc f w h lot is.i is.entry at.place u is.hand.area_is p) (dropped.here ∙ sym met))) is.hand.area_is
-    (returns_later sc f w h o s rest lot next u.here is.hand.side_is (ap (λ (t : Step). t.last) is.step)) is.next (dropped_queued w v h.0 is.op is.block.0 is.drops dropped)
+    (returns_later sc f w h o s rest lot next u.here is.hand.side_is (ap (ends lot.id) is.step)) is.next (dropped_queued w v h.0 is.op is.block.0 is.drops dropped)

@@ -26,8 +26,9 @@ use Rattle.nc_rules.specs.World.{WorldState}
 use Rattle.nc_rows.specs.Rows.{Loan, device_place}
 use Rattle.nc_rows.specs.Parts.{IsPiece, rest_last}
 use Rattle.nc_row_issues.specs.Laws.{NoByte, NoBlock}
-use Rattle.nc_flatness.specs.Books.{book_of, mapping_in}
+use Rattle.nc_flatness.specs.Books.{is_entry_of, book_of, mapping_in}
 use Rattle.nc_flatness.specs.Flatness.{Flatness}
+use Rattle.nc_flatness.proofs.Loans.{own_entry, get_below}
 use Rattle.nc_flatness.proofs.Owned.{mapped, owned_ram}
 use Rattle.nc_flatness.proofs.WholeBlocks.{mapped_block}
 use Rattle.nc_flatness.proofs.Seen.{seen, place_ways, mapped_unslotted, seen_lent, seen_ways, slotted_in, slot_block, seen_one, seen_whole}
@@ -35,8 +36,7 @@ use Rattle.nc_flatness.proofs.Lasts.{last_lent}
 use Rattle.nc_flat_starts.proofs.Frames.{IsPlace, IsOff}
 use Rattle.nc_flat_plans.proofs.Passes.{NoWhole, IsLentTo, IsClear}
 use Rattle.nc_flat_plans.proofs.PoolPlaces.{lent_pooled, slot_unpooled, pool_apart}
-use Rattle.nc_flat_plans.proofs.Places.{IsUnder, its_id, its_place, mapping_of, in_ram, unslotted, unpooled, seen_its, ways, beside, far_label}
-use Rattle.nc_flat_plans.proofs.Besides.{posted_beside}
+use Rattle.nc_flat_plans.proofs.Places.{IsUnder, lent_side, its_id, its_place, mapping_of, in_ram, unslotted, unpooled, seen_its, ways, beside, far_entry}
 
 -- the store of a piece
 abbrev pub piece_of : Span → List ℕ → QueueEntry
@@ -124,7 +124,7 @@ pub not_its : (sc : Scenario) (f : List ℕ) (w : WorldState) (h : HartNo) (lot 
 not_its sc f w h lot i e x y u there off p same =
     let n = its_id h lot i in
     let is : mapping_in (owner_of w x) ≡ Some n = sym (ap mapping_in same) ∙ mapping_of sc f w h lot i e y u p in
-    far_label sc f w h lot n x u (beside sc f w h lot n x u there off is refl) refl
+    both_ways (is_entry_of n lot) (far_entry sc f w h lot n x u (beside sc f w h lot n x u there off is refl)) (own_entry h.0 lot i (get_below lot.list.entries i e p.entry) (lent_side lot u.moves))
 
 lent_mapping : (n : MapId) (o : Owner) → IsLentTo n o → mapping_in o ≡ Some n
 lent_mapping n o (inl is) = ap mapping_in is
@@ -154,7 +154,6 @@ slot_clear sc f w h lot i e dst bytes x u d there off beyond =
           not_its sc f w h lot i e x p.0 u there beyond p.1 same);
       area = λ n l owner known area. piece_whole sc f w dst bytes x u.flat (lent_pooled sc f w n l x u.flat there owner known area) (slot_unpooled sc f w dst.at u.flat (in_slots sc f w h lot i e dst dst.at u d d.some));
       token = λ n owner own. refl;
-      posted = λ n owner own. posted_beside sc f w h lot n x u there beyond owner own;
     }
 
 pub buffer_clear : (sc : Scenario) (f : List ℕ) (w : WorldState) (h : HartNo) (lot : Lot) (i : ℕ) (e : Entry) (dst : Span) (bytes : List ℕ) (x : ℕ) → IsUnder sc f w h lot → is_area lot.kind ≡ false → IsInBuffer lot i e dst → x < sc.ram → covers (slots_of sc) x ≡ false → IsOff lot x
@@ -184,7 +183,6 @@ buffer_clear sc f w h lot i e dst bytes x u plain d there off beyond =
           ]);
       area = λ n l owner known area. piece_whole sc f w dst bytes x u.flat (lent_pooled sc f w n l x u.flat there owner known area) (unpooled sc f w h lot i e dst.at u plain (d.place dst.at d.some));
       token = λ n owner own. refl;
-      posted = λ n owner own. posted_beside sc f w h lot n x u there beyond owner own;
     }
 
 -- ---- at the places of the lot itself

@@ -24,12 +24,12 @@ use Rattle.nc_rules.specs.Turns.{lots_after, lots_after_both, transfers_of, turn
 use Rattle.nc_rules.specs.Driver.{DriverState, Went, in_hand, kept, busy, went_to, done, done_of, done_unless, done_in, worked}
 use Rattle.nc_rules.specs.World.{WorldState, driver_of}
 use Rattle.nc_holds.proofs.OwnerEnds.{left_all}
-use Rattle.nc_rows.specs.Ahead.{ends, posts, is_settling, settling, act_coming, coming, sending}
+use Rattle.nc_rows.specs.Ahead.{ends, posts, stores_io, sends, is_settling, settling, act_coming, coming, sending}
 use Rattle.nc_rows.proofs.Steps.{steps_ahead}
 use Rattle.nc_flatness.specs.Covered.{is_lending}
-use Rattle.nc_flatness.specs.Plans.{HasEnd, StepGoes, Loads, Stores, WritesBack, Drops, Gives, Fences, Ends, Zeroes, Flushes, Settles, GivesArea, TakesBack, Marks, Posts, PlanGoes, EndsOne}
+use Rattle.nc_flatness.specs.Plans.{HasEnd, StepGoes, Loads, Stores, WritesBack, Drops, Gives, Fences, Ends, Zeroes, Flushes, Settles, GivesArea, TakesBack, Marks, Posts, Claims, Registers, Polls, TakesTarget, TakesSource, IsStill, PlanGoes, EndsOne}
 use Rattle.nc_flatness.specs.Flatness.{IsMapping, PlanLeft, PlanIs, PlanOf, Drives}
-use Rattle.nc_flatness.specs.Steps.{IsNow}
+use Rattle.nc_flatness.specs.Steps.{IsNow, OfLots, kind_of_act}
 use Rattle.nc_flatness.proofs.Lents.{sides_mapping}
 use Rattle.nc_flatness.proofs.Rests.{ends_later, back_moves, ends_one_next}
 
@@ -42,9 +42,10 @@ pub record IsNext (sc : Scenario) (f : List ℕ) (w : WorldState) (h : HartNo) (
   pub lends : is_lending o ≡ true
   pub phase : (driver_of w h.0).phase ≡ Work
   pub rest_is : (driver_of w h.0).rest ≡ s ∷ rest
-  pub first : s.first ≡ turns.Stay
+  -- it is one of lots
+  pub kind : kind_of_act s.act ≡ OfLots
   pub goes : StepGoes (driver_of w h.0).fixed (driver_of w h.0).lots s rest
-  pub left : PlanGoes (driver_of w h.0).fixed (lots_after s.last (driver_of w h.0).lots) rest
+  pub left : PlanGoes (driver_of w h.0).fixed (lots_after_both s.first s.last (driver_of w h.0).lots) rest
   pub one : (driver_of w h.0).fixed.light ≡ true → EndsOne (s ∷ rest)
 
 pub plan_left : (d : DriverState) (o : Op) → is_lending o ≡ true → PlanIs d o → PlanLeft d
@@ -71,7 +72,7 @@ plan_left d (ops.Calloc label pages chan) is plan = plan
 plan_left d (ops.Cgive label) is plan = plan
 plan_left d (ops.Ctake label) is plan = plan
 plan_left d (ops.Cfree label) is plan = plan
-plan_left d (ops.Copy chan src src_off dst dst_off len cfg) is plan = absurd plan
+plan_left d (ops.Copy chan src src_off dst dst_off len cfg) is plan = plan
 
 plan_is : (d : DriverState) (o : Op) → is_lending o ≡ true → PlanLeft d → PlanIs d o
 plan_is d (ops.Map label buf off len dir chan) is plan = plan
@@ -97,33 +98,24 @@ plan_is d (ops.Calloc label pages chan) is plan = plan
 plan_is d (ops.Cgive label) is plan = plan
 plan_is d (ops.Ctake label) is plan = plan
 plan_is d (ops.Cfree label) is plan = plan
-plan_is d (ops.Copy chan src src_off dst dst_off len cfg) is plan = absurd cc
-
--- no step of a plan begins with a turn
-pub step_first : (f : Fixed) (lots : List Lot) (s : Step) (rest : List Step) → StepGoes f lots s rest → s.first ≡ turns.Stay
-step_first f lots s rest (Loads is) = ap (λ (t : Step). t.first) is.step
-step_first f lots s rest (Stores is) = is.first
-step_first f lots s rest (WritesBack is) = ap (λ (t : Step). t.first) is.step
-step_first f lots s rest (Drops is) = ap (λ (t : Step). t.first) is.step
-step_first f lots s rest (Gives is) = ap (λ (t : Step). t.first) is.step
-step_first f lots s rest (Fences is) = ap (λ (t : Step). t.first) is.step
-step_first f lots s rest (Ends is) = ap (λ (t : Step). t.first) is.step
-step_first f lots s rest (Zeroes is) = ap (λ (t : Step). t.first) is.step
-step_first f lots s rest (Flushes is) = ap (λ (t : Step). t.first) is.step
-step_first f lots s rest (Settles is) = ap (λ (t : Step). t.first) is.step
-step_first f lots s rest (GivesArea is) = ap (λ (t : Step). t.first) is.step
-step_first f lots s rest (TakesBack is) = ap (λ (t : Step). t.first) is.step
-step_first f lots s rest (Marks is) = ap (λ (t : Step). t.first) is.step
-step_first f lots s rest (Posts is) = ap (λ (t : Step). t.first) is.step
+plan_is d (ops.Copy chan src src_off dst dst_off len cfg) is plan = plan
 
 -- ---- the driver behind the step
 
 pub record IsDone (d : DriverState) (s : Step) (left : List Step) (went : Went) : Type 0 where
+  pub driver : went.driver ≡ went_to d (lots_after_both s.first s.last d.lots) d.saw left
   pub fixed : went.driver.fixed ≡ d.fixed
-  pub lots : went.driver.lots ≡ lots_after s.last d.lots
+  pub lots : went.driver.lots ≡ lots_after_both s.first s.last d.lots
   pub rest : went.driver.rest ≡ left
-  pub transfers : went.moves.transfers ≡ transfers_of d.fixed.me d.lots s.last
+  pub transfers : went.moves.transfers ≡ transfers_of d.fixed.me d.lots s.first ++ transfers_of d.fixed.me (lots_after s.first d.lots) s.last
   pub drives : Drives went.driver
+
+-- with no first turn
+pub stay_lots : (d : DriverState) (s : Step) (left : List Step) (went : Went) → IsDone d s left went → s.first ≡ turns.Stay → went.driver.lots ≡ lots_after s.last d.lots
+stay_lots d s left went done first = done.lots ∙ ap (λ (t : Turn). lots_after_both t s.last d.lots) first
+
+pub stay_transfers : (d : DriverState) (s : Step) (left : List Step) (went : Went) → IsDone d s left went → s.first ≡ turns.Stay → went.moves.transfers ≡ transfers_of d.fixed.me d.lots s.last
+stay_transfers d s left went done first = done.transfers ∙ ap (λ (t : Turn). transfers_of d.fixed.me d.lots t ++ transfers_of d.fixed.me (lots_after t d.lots) s.last) first
 
 -- each lot stays a mapping
 turn_mapping : (f : Fixed) (t : Turn) (lots : List Lot) → All IsMapping lots → All IsMapping (lots_after t lots)
@@ -157,29 +149,29 @@ went_rest : (d : DriverState) (lots : List Lot) (saw : Seen) (rest : List Step) 
 went_rest d lots saw [] = refl
 went_rest d lots saw (s ∷ rest) = refl
 
-worked_so : (d : DriverState) (o : Op) (saw : Seen) (s : Step) (rest : List Step) → in_hand d ≡ Some o → is_lending o ≡ true → All IsMapping d.lots → s.first ≡ turns.Stay → PlanGoes d.fixed (lots_after s.last d.lots) rest
+worked_so : (d : DriverState) (o : Op) (saw : Seen) (s : Step) (rest : List Step) → in_hand d ≡ Some o → is_lending o ≡ true → All IsMapping d.lots → saw ≡ d.saw → PlanGoes d.fixed (lots_after_both s.first s.last d.lots) rest
     → (d.fixed.light ≡ true → EndsOne rest) → IsDone d s rest (worked d o saw (s ∷ rest))
 unfolding turned_by
-worked_so d o saw s rest hand is all first left one =
-    let same : lots_after_both s.first s.last d.lots ≡ lots_after s.last d.lots = ap (λ (t : Turn). lots_after_both t s.last d.lots) first in
+worked_so d o saw s rest hand is all same left one =
     let lots = lots_after_both s.first s.last d.lots in
     record {
+      driver = ap (λ (k : Seen). went_to d lots k rest) same;
       fixed = went_fixed d lots saw rest;
-      lots = went_lots d lots saw rest ∙ same;
+      lots = went_lots d lots saw rest;
       rest = went_rest d lots saw rest;
-      transfers = ap (λ (t : Turn). transfers_of d.fixed.me d.lots t ++ transfers_of d.fixed.me (lots_after t d.lots) s.last) first;
-      drives =
-          subst (λ (ls : List Lot). Drives (went_to d ls saw rest)) (sym same) (went_drives d o (lots_after s.last d.lots) saw rest hand is (turn_mapping d.fixed s.last d.lots all) left one);
+      transfers = refl;
+      drives = went_drives d o lots saw rest hand is (turn_mapping d.fixed s.last (lots_after s.first d.lots) (turn_mapping d.fixed s.first d.lots all)) left one;
     }
 
-pub done_so : (sc : Scenario) (f : List ℕ) (w : WorldState) (h : HartNo) (o : Op) (s : Step) (rest : List Step) (saw : Seen) → IsNext sc f w h o s rest → busy saw ≡ None → IsDone (driver_of w h.0) s rest (done (driver_of w h.0) saw)
+pub done_so : (sc : Scenario) (f : List ℕ) (w : WorldState) (h : HartNo) (o : Op) (s : Step) (rest : List Step) (saw : Seen) → IsNext sc f w h o s rest → busy saw ≡ None → kept (driver_of w h.0).saw saw ≡ (driver_of w h.0).saw
+    → IsDone (driver_of w h.0) s rest (done (driver_of w h.0) saw)
 unfolding done
-done_so sc f w h o s rest saw k free =
+done_so sc f w h o s rest saw k free silent =
     let d = driver_of w h.0 in
     let same : done_of d saw (in_hand d) ≡ worked d o (kept d.saw saw) (s ∷ rest) =
     ap (done_of d saw) k.hand ∙ ap (done_unless d o saw) free ∙ ap (done_in d o (kept d.saw saw)) k.phase ∙ ap (worked d o (kept d.saw saw)) k.rest_is in
     let drives = k.now.flat.bytes.drives h.0 k.now.there in
-    subst (λ (went : Went). IsDone d s rest went) (sym same) (worked_so d o (kept d.saw saw) s rest k.hand k.lends drives.lots k.first k.left (λ light. ends_one_next s rest (k.one light)))
+    subst (λ (went : Went). IsDone d s rest went) (sym same) (worked_so d o (kept d.saw saw) s rest k.hand k.lends drives.lots silent k.left (λ light. ends_one_next s rest (k.one light)))
 
 -- ---- no message is to come
 
@@ -198,10 +190,19 @@ load_posts f lots s rest b (GivesArea is) = ap (posts b) is.step
 load_posts f lots s rest b (TakesBack is) = ap (posts b) is.step
 load_posts f lots s rest b (Marks is) = ap (posts b) is.step
 load_posts f lots s rest b (Posts is) = ap (posts b) is.step
+load_posts f lots s rest b (Claims is) = ap first_posts is.steps
+  where
+    first_posts : List Step → Bool
+    first_posts [] = false
+    first_posts (t ∷ ts) = posts b t
+load_posts f lots s rest b (Registers is) = ap (posts b) is.step
+load_posts f lots s rest b (Polls is) = ap (posts b) is.step
+load_posts f lots s rest b (TakesTarget is) = ap (λ (t : Step). stores_io (sends b) t.act) is.goes.step
+load_posts f lots s rest b (TakesSource is) = ap (λ (t : Step). stores_io (sends b) t.act) is.goes.step
 
 plan_posts : (f : Fixed) (lots : List Lot) (rest : List Step) (b : ℕ) → PlanGoes f lots rest → list_any (posts b) rest ≡ false
 plan_posts f lots [] b left = refl
-plan_posts f lots (s ∷ rest) b left = ap (λ (t : Bool). t || list_any (posts b) rest) (load_posts f lots s rest b left.0) ∙ plan_posts f (lots_after s.last lots) rest b left.1
+plan_posts f lots (s ∷ rest) b left = ap (λ (t : Bool). t || list_any (posts b) rest) (load_posts f lots s rest b left.0) ∙ plan_posts f (lots_after_both s.first s.last lots) rest b left.1
 
 pub plan_silent : (f : Fixed) (lots : List Lot) (rest : List Step) (b : ℕ) → PlanGoes f lots rest → sending b rest ≡ []
 plan_silent f lots rest b left = steps_ahead.send_none b rest (plan_posts f lots rest b left)
@@ -212,11 +213,14 @@ plan_silent f lots rest b left = steps_ahead.send_none b rest (plan_posts f lots
 pub coming_next : (lot : Lot) (n : MapId) (s : Step) (rest : List Step) → HasEnd lot.id rest → ends lot.id s ≡ false → coming n lot.id (s ∷ rest) ≡ act_coming s.act ++ coming n lot.id rest
 coming_next lot n s rest later plain = steps_ahead.next n lot.id s rest plain later
 
--- the end of a lot that is taken back is still to come, where the step makes no turn
-pub returns_later : (sc : Scenario) (f : List ℕ) (w : WorldState) (h : HartNo) (o : Op) (s : Step) (rest : List Step) (lot : Lot) → IsNext sc f w h o s rest → In lot (driver_of w h.0).lots → lot.side ≡ sides.Returning → s.last ≡ turns.Stay → HasEnd lot.id rest
-returns_later sc f w h o s rest lot next here side stay =
+-- the end of a lot that is not still is to come behind a step that does not end its stay
+pub moves_later : (sc : Scenario) (f : List ℕ) (w : WorldState) (h : HartNo) (o : Op) (s : Step) (rest : List Step) (lot : Lot) → IsNext sc f w h o s rest → In lot (driver_of w h.0).lots → (IsStill (driver_of w h.0).fixed lot → ⊥) → ends lot.id s ≡ false → HasEnd lot.id rest
+moves_later sc f w h o s rest lot next here moves plain =
     let d = driver_of w h.0 in
-    ends_later d.fixed d.lots rest lot (subst (λ (t : Turn). PlanGoes d.fixed (lots_after t d.lots) rest) stay next.left) here (λ still. back_moves d.fixed lot side still)
+    sym (ap (λ (b : Bool). b || list_any (ends lot.id) rest) plain) ∙ ends_later d.fixed d.lots (s ∷ rest) lot (next.goes, next.left) here moves
+
+pub returns_later : (sc : Scenario) (f : List ℕ) (w : WorldState) (h : HartNo) (o : Op) (s : Step) (rest : List Step) (lot : Lot) → IsNext sc f w h o s rest → In lot (driver_of w h.0).lots → lot.side ≡ sides.Returning → ends lot.id s ≡ false → HasEnd lot.id rest
+returns_later sc f w h o s rest lot next here side plain = moves_later sc f w h o s rest lot next here (back_moves (driver_of w h.0).fixed lot side) plain
 
 -- whether what is to come settles an area stays so
 pub settling_next : (id : LotId) (s : Step) (rest : List Step) → ends id s ≡ false → settling id (s ∷ rest) ≡ settling id rest

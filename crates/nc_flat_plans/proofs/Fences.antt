@@ -2,7 +2,7 @@
 use Rattle.std.specs.Prelude.{All, if◌then◌else◌, Bool, true, false}
 use Rattle.std.specs.List.{list_any}
 use Rattle.std.proofs.Common.{◌≡◌, ℕ, List, [], ◌∷◌, ◌++◌, refl, sym, ap, ◌∙◌, inl, inr, subst}
-use Rattle.std.proofs.lemmas.Bool.{or_left, both_ways}
+use Rattle.std.proofs.lemmas.Bool.{or_left, or_from, both_ways, false_from_ne_true}
 use Rattle.nc_num.specs.Memory.{byte}
 use Rattle.nc_num.specs.declared.names.HartNo.{HartNo}
 use Rattle.nc_num.specs.declared.names.MapId.{MapId}
@@ -28,7 +28,7 @@ use Rattle.nc_rules.specs.Driver.{is_script}
 use Rattle.nc_rules.specs.Watched.{owner_of}
 use Rattle.nc_rules.specs.World.{WorldState, driver_of}
 use Rattle.nc_holds.proofs.ListsA.{all_at, at_get}
-use Rattle.nc_rows.specs.Ahead.{stores_io, tokens_lot, ends, gives_lot, act_coming, token, coming}
+use Rattle.nc_rows.specs.Ahead.{same_lot, stores_io, tokens_lot, ends, gives_lot, act_coming, token, coming}
 use Rattle.nc_rows.specs.Parts.{rest_last}
 use Rattle.nc_rows.proofs.Steps.{steps_ahead}
 use Rattle.nc_flatness.specs.Books.{book_of}
@@ -37,11 +37,14 @@ use Rattle.nc_flatness.specs.Flatness.{BytesStand}
 use Rattle.nc_flatness.specs.Tokens.{TokenStands}
 use Rattle.nc_flatness.specs.Steps.{Goes}
 use Rattle.nc_flatness.proofs.Outcomes.{gone}
-use Rattle.nc_flatness.proofs.Rests.{by_turn}
+use Rattle.nc_flatness.proofs.Loans.{one_lot}
+use Rattle.nc_flatness.proofs.Rests.{turn_name, by_turn}
 use Rattle.nc_flat_starts.proofs.Frames.{goes_still, last_none}
 use Rattle.nc_flat_plans.proofs.OwnRows.{lent_full, back_full}
-use Rattle.nc_flat_plans.proofs.Drivers.{IsNext, IsDone, done_so, returns_later, same_id}
-use Rattle.nc_flat_plans.proofs.Places.{IsUnder, lends_under, back_under, its_id, its_place, ways}
+use Rattle.nc_flat_plans.proofs.Drivers.{IsNext, IsDone, stay_lots, stay_transfers, done_so, returns_later, same_id}
+use Rattle.nc_flat_plans.proofs.Places.{IsUnder, lends_under, back_under, its_id, its_place, ways, far_lot, back_alone}
+use Rattle.nc_flat_plans.proofs.OwnCopies.{channels_stay}
+use Rattle.nc_flat_plans.proofs.Waits.{waits_fence}
 use Rattle.nc_flat_plans.proofs.Shifts.{sided, held, stay_shift, side_shift}
 use Rattle.nc_flat_plans.proofs.StepTokens.{kept_tokens}
 use Rattle.nc_flat_plans.proofs.StepFrames.{step_bytes}
@@ -49,7 +52,7 @@ use Rattle.nc_flat_plans.proofs.StepQueues.{queue_clear}
 use Rattle.nc_flat_plans.proofs.StepSeen.{unseen_before, moved_seen}
 use Rattle.nc_flat_plans.proofs.OwnPlaces.{to_come, lent_as, back_as, as_given, as_back}
 use Rattle.nc_flat_plans.proofs.Puts.{IsStaying, stay_comes}
-use Rattle.nc_flat_plans.proofs.Backs.{last_comes, home_bytes}
+use Rattle.nc_flat_plans.proofs.Backs.{last_comes, home_shift, home_bytes}
 use Rattle.nc_flat_plans.proofs.Issues.{IsOpNext, op_may, emptied, fence_stays, fence_silent, went_by, op_goes}
 
 -- the machine stays
@@ -58,15 +61,15 @@ fence_event sc f w h o s rest k bytes =
     op_goes sc f w h o full s rest k (fence_silent w h (is_script (driver_of w h.0).phase)) (subst (λ (m : MachineState). BytesStand sc f (gone w h m (went_by w h full))) (sym (fence_stays w.machine h.0)) bytes)
 
 -- and so do its tokens
-pub fence_tokens : (sc : Scenario) (f : List ℕ) (w : WorldState) (h : HartNo) (o : Op) (s : Step) (rest : List Step) → IsOpNext sc f w h o full s rest → IsDone (driver_of w h.0) s rest (went_by w h full) → (went_by w h full).driver.fixed.light ≡ true
+pub fence_tokens : (sc : Scenario) (f : List ℕ) (w : WorldState) (h : HartNo) (o : Op) (s : Step) (rest : List Step) → IsOpNext sc f w h o full s rest → IsDone (driver_of w h.0) s rest (went_by w h full) → s.first ≡ turns.Stay → (went_by w h full).driver.fixed.light ≡ true
     → All (TokenStands (went_by w h full).driver.rest (queue_of w.machine h.0)) (went_by w h full).driver.lots
-fence_tokens sc f w h o s rest k done light = kept_tokens sc f w h o s rest w.machine (went_by w h full) k.next done (λ id. ap (stores_io (tokens_lot id)) k.act) (λ id. refl) light
+fence_tokens sc f w h o s rest k done first light = kept_tokens sc f w h o s rest w.machine (went_by w h full) k.next done first (λ id. ap (stores_io (tokens_lot id)) k.act) (λ id. refl) light
 
 -- ---- the lot is its channel's
 
-pub given_comes : (n : MapId) (id : LotId) (s : Step) → s ≡ turning (turns.Give id) (hart_step full) → coming n id (s ∷ []) ≡ entries.Mark 15 15 ∷ token n ∷ []
-given_comes n id s is =
-    ap (λ (t : Step). coming n id (t ∷ [])) is ∙ steps_ahead.last n id (turning (turns.Give id) (hart_step full)) [] (or_left (gives_lot id (turns.Give id)) _ (same_id id))
+pub given_comes : (n : MapId) (id : LotId) (s : Step) (rest : List Step) → s ≡ turning (turns.Give id) (hart_step full) → coming n id (s ∷ rest) ≡ entries.Mark 15 15 ∷ token n ∷ []
+given_comes n id s rest is =
+    ap (λ (t : Step). coming n id (t ∷ rest)) is ∙ steps_ahead.last n id (turning (turns.Give id) (hart_step full)) rest (or_left (gives_lot id (turns.Give id)) _ (same_id id))
     ∙ ap (λ (b : Bool). entries.Mark 15 15 ∷ (if b then token n ∷ [] else [])) (same_id id)
 
 pub given_goes : (sc : Scenario) (f : List ℕ) (w : WorldState) (h : HartNo) (o : Op) (s : Step) (rest : List Step) → IsNext sc f w h o s rest → IsGive (driver_of w h.0).fixed (driver_of w h.0).lots s rest → Goes sc f w (events.Issue h)
@@ -78,25 +81,31 @@ given_goes sc f w h o s rest next is =
     let v = gone w h m went in
     let k : IsOpNext sc f w h o full s rest = record { next = next; act = ap (λ (t : Step). t.act) is.step } in
     let u : IsUnder sc f w h lot = lends_under sc f w h o s rest lot false next is.hand (by_turn lot.id s rest (turns.Give lot.id) (ap (λ (t : Step). t.last) is.step) (same_id lot.id)) in
-    let done = done_so sc f w h o s rest _ next refl in
+    let done = done_so sc f w h o s rest _ next refl refl in
+    let first : s.first ≡ turns.Stay = ap (λ (t : Step). t.first) is.step in
     let turn : s.last ≡ turns.Give lot.id = ap (λ (t : Step). t.last) is.step in
     let none = emptied w h (op_may sc f w h o full s rest k) in
     let plain = is.hand.area_is in
-    let shift = side_shift sc f w h went lot sides.Device u refl done.fixed (done.lots ∙ ap (λ (t : Turn). lots_after t d.lots) turn)
-    (done.transfers ∙ ap {B = List (Span × Owner)} (λ (t : Turn). transfers_of d.fixed.me d.lots t) turn) in
+    let shift = side_shift sc f w h went lot sides.Device u refl done.fixed (stay_lots d s rest went done first ∙ ap (λ (t : Turn). lots_after t d.lots) turn)
+    (stay_transfers d s rest went done first ∙ ap {B = List (Span × Owner)} (λ (t : Turn). transfers_of d.fixed.me d.lots t) turn) in
     fence_event sc f w h o s rest k
     (step_bytes sc f w h o s rest m went lot (sided sides.Device) next done u plain shift (goes_still sc f w h u.flat.bytes) (record {
-      passes = λ x b there off beyond row. row;
+      passes = λ x b there off beyond still row. row;
+      waits = λ x there off beyond at row.
+          let it = at.other.at.is.lot in
+          let far : same_lot it.id lot.id ≡ false = false_from_ne_true (same_lot it.id lot.id) (λ same. far_lot lot it at.other.off (one_lot sc f w h.0 it lot u.flat at.other.here u.here (turn_name it.id lot.id same))) in
+          waits_fence sc f w h o s rest went lot (sided sides.Device) x (byte f x) next done u shift (ap act_coming k.act) none at (ap (ends it.id) is.step ∙ or_from (same_lot it.id lot.id) false far refl) row;
+      channels = channels_stay m h.0;
       row = λ i e x p row.
           let b = byte f x in
           let comes : to_come h lot i d.rest ≡ entries.Mark 15 15 ∷ token (its_id h lot i) ∷ [] =
-          ap (λ (r : List Step). to_come h lot i r) (next.rest_is ∙ ap (λ (r : List Step). s ∷ r) is.over) ∙ given_comes (its_id h lot i) lot.id s is.step in
+          ap (λ (r : List Step). to_come h lot i r) next.rest_is ∙ given_comes (its_id h lot i) lot.id s rest is.step in
           as_given sc f w h m went lot i e x b u plain p shift
           (lent_full lot.list.dir m (its_id h lot i) b x (its_place w h lot i e x) [] none (lent_as sc f w h m lot i e x b (entries.Mark 15 15 ∷ token (its_id h lot i) ∷ []) u plain p is.hand.side_is comes row));
       queue = queue_clear (book_of v) (owner_of v) m.pool m.size h.0 (queue_of m h.0) none;
-      lasting = last_none (book_of v) f h.0 (hart_of m h.0).last (rest_last went.driver.rest) (ap rest_last (done.rest ∙ is.over));
+      lasting = last_none (book_of v) f h.0 (hart_of m h.0).last (rest_last went.driver.rest) (ap rest_last done.rest ∙ is.next);
       calm = λ z slot unseen. u.flat.bytes.calm z slot (unseen_before sc f w h m went lot sides.Device z u shift (inr (inl refl)) unseen);
-      tokens = fence_tokens sc f w h o s rest k done;
+      tokens = fence_tokens sc f w h o s rest k done first;
     }))
 
 -- ---- what bounces may come out
@@ -111,17 +120,20 @@ fenced_goes sc f w h o s rest next is =
     let v = gone w h m went in
     let k : IsOpNext sc f w h o full s rest = record { next = next; act = ap (λ (t : Step). t.act) is.step } in
     let u : IsUnder sc f w h lot = back_under sc f w h o s rest lot false next is.hand in
-    let done = done_so sc f w h o s rest _ next refl in
+    let done = done_so sc f w h o s rest _ next refl refl in
+    let first : s.first ≡ turns.Stay = ap (λ (t : Step). t.first) is.step in
     let none = emptied w h (op_may sc f w h o full s rest k) in
     let stay : s.last ≡ turns.Stay = ap (λ (t : Step). t.last) is.step in
-    let later : HasEnd lot.id rest = returns_later sc f w h o s rest lot next u.here is.hand.side_is stay in
+    let later : HasEnd lot.id rest = returns_later sc f w h o s rest lot next u.here is.hand.side_is (ap (ends lot.id) is.step) in
     let plain = is.hand.area_is in
-    let stays : IsStaying sc f w h o s rest lot = record { next = next; under = u; stay = stay; plain = λ id. ap (ends id) is.step; mapping = plain; later = later } in
+    let stays : IsStaying sc f w h o s rest lot = record { next = next; under = u; stay = record { first = first; last = stay }; plain = λ id. ap (ends id) is.step; mapping = plain; later = later } in
     let shift = stay_shift sc f w h went lot s rest u done stays.stay in
     let size : d.fixed.size ≡ m.size = sym (held sc f w h lot u).setting.block in
     fence_event sc f w h o s rest k
     (step_bytes sc f w h o s rest m went lot (sided lot.side) next done u plain shift (goes_still sc f w h u.flat.bytes) (record {
-      passes = λ x b there off beyond row. row;
+      passes = λ x b there off beyond still row. row;
+      waits = λ x there off beyond at row. absurd (back_alone w h lot x (inl is.hand.side_is) at);
+      channels = channels_stay m h.0;
       row = λ i e x p row.
           let b = byte f x in
           let n = its_id h lot i in
@@ -140,7 +152,7 @@ fenced_goes sc f w h o s rest next is =
       queue = queue_clear (book_of v) (owner_of v) m.pool m.size h.0 (queue_of m h.0) none;
       lasting = last_none (book_of v) f h.0 (hart_of m h.0).last (rest_last went.driver.rest) (ap rest_last done.rest ∙ is.next);
       calm = λ z slot unseen. u.flat.bytes.calm z slot (unseen_before sc f w h m went lot lot.side z u shift (moved_seen lot u.moves) unseen);
-      tokens = fence_tokens sc f w h o s rest k done;
+      tokens = fence_tokens sc f w h o s rest k done first;
     }))
 
 -- ---- the lot is its hart's again
@@ -155,20 +167,23 @@ ended_goes sc f w h o s rest next is =
     let v = gone w h m went in
     let k : IsOpNext sc f w h o full s rest = record { next = next; act = ap (λ (t : Step). t.act) is.step } in
     let u : IsUnder sc f w h lot = back_under sc f w h o s rest lot false next is.hand in
-    let done = done_so sc f w h o s rest _ next refl in
+    let done = done_so sc f w h o s rest _ next refl refl in
+    let first : s.first ≡ turns.Stay = ap (λ (t : Step). t.first) is.step in
     let turn : s.last ≡ is.turn = ap (λ (t : Step). t.last) is.step in
     let plain = is.hand.area_is in
     let back : IsBack lot.id s.last = subst (λ (t : Turn). IsBack lot.id t) (sym turn) is.is_back in
     let none = emptied w h (op_may sc f w h o full s rest k) in
     fence_event sc f w h o s rest k
-    (home_bytes sc f w h o s rest m went lot next done u plain back is.over (goes_still sc f w h u.flat.bytes) (record {
-      passes = λ x b there off beyond row. row;
+    (home_bytes sc f w h o s rest m went lot next done u plain (home_shift sc f w h went lot s rest u plain done first back) is.next (goes_still sc f w h u.flat.bytes) (record {
+      alone = inl is.hand.side_is;
+      passes = λ x b there off beyond still row. row;
+      channels = channels_stay m h.0;
       back = λ i e x p row.
           let b = byte f x in
           let n = its_id h lot i in
           let y = its_place w h lot i e x in
           let comes : to_come h lot i d.rest ≡ entries.Mark 15 15 ∷ [] =
-          ap (λ (r : List Step). to_come h lot i r) (next.rest_is ∙ ap (λ (r : List Step). s ∷ r) is.over) ∙ last_comes n lot.id s back ∙ ap act_coming k.act in
+          ap (λ (r : List Step). to_come h lot i r) next.rest_is ∙ last_comes n lot.id s rest back ∙ ap act_coming k.act in
           back_full dir m n b x y [] u.flat.world.machine none refl
           (λ returns. elim (ways sc f w h lot i e x u p) [
             | inl direct ↦ inl (sym direct.0)
@@ -177,5 +192,5 @@ ended_goes sc f w h o s rest next is =
           (back_as sc f w h m lot i e x b (entries.Mark 15 15 ∷ []) u plain p is.hand.side_is comes row);
       queue = queue_clear (book_of v) (owner_of v) m.pool m.size h.0 (queue_of m h.0) none;
       stays = λ z slot calm. calm;
-      tokens = fence_tokens sc f w h o s rest k done;
+      tokens = fence_tokens sc f w h o s rest k done first;
     }))

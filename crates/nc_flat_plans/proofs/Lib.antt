@@ -6,9 +6,11 @@ pub mod Places
 pub mod Besides
 pub mod Shifts
 pub mod StepTokens
+pub mod OwnCopies
 pub mod StepFrames
 pub mod StepQueues
 pub mod StepSeen
+pub mod Waits
 pub mod OwnPlaces
 pub mod Copies
 pub mod Puts
@@ -23,4 +25,5 @@ pub mod AreaSteps
 pub mod AreaFences
 pub mod LightSteps
 pub mod LightEvents
+pub mod Takes
 pub mod PlanEvents

@@ -1,8 +1,8 @@
 -- The end of a plan that lends with light fences: its marker is issued, and then its token, with which the plan is over.
-use Rattle.std.specs.Prelude.{None, All, ◌==◌, ◌&&◌, nat_le, nat_lt, Bool, true, false, length}
+use Rattle.std.specs.Prelude.{None, All, not, Bool, true, false, length}
 use Rattle.std.specs.List.{list_any}
-use Rattle.std.proofs.Common.{◌≡◌, ℕ, ◌<◌, ◌+◌, List, [], ◌∷◌, ◌++◌, refl, sym, ap, ◌∙◌, inl, inr, subst}
-use Rattle.std.proofs.lemmas.Bool.{cases_Bool, and_parts, both_ways, or_left, cond-false, eqb-true, false_from_ne_true}
+use Rattle.std.proofs.Common.{◌≡◌, ℕ, ◌<◌, List, [], ◌∷◌, ◌++◌, refl, sym, ap, ◌∙◌, inl, inr, subst}
+use Rattle.std.proofs.lemmas.Bool.{cases_Bool, and_from, both_ways, or_left, cond-false, false_from_ne_true}
 use Rattle.nc_num.specs.declared.names.HartNo.{HartNo}
 use Rattle.nc_num.specs.declared.names.MapId.{MapId}
 use Rattle.nc_plan.specs.declared.ops.HartOp.{HartOp}
@@ -20,7 +20,7 @@ use Rattle.nc_rules.specs.declared.lots.LotId.{LotId}
 use Rattle.nc_rules.specs.declared.steps.Act.{Act}
 use Rattle.nc_rules.specs.declared.steps.Step.{Step}
 use Rattle.nc_rules.specs.declared.steps.Turn.{Turn}
-use Rattle.nc_rules.specs.declared.steps.Turn.TheVariants as turns
+use Rattle.nc_rules.specs.Lots.{is_wanted}
 use Rattle.nc_rules.specs.Machine.{MachineState, queue_of}
 use Rattle.nc_rules.specs.Turns.{is_area, lots_after}
 use Rattle.nc_rules.specs.Calls.{issue_next}
@@ -33,7 +33,7 @@ use Rattle.nc_rows.specs.Ahead.{ends, names, is_settling, settling, stores_io, t
 use Rattle.nc_rows.specs.Parts.{rest_last}
 use Rattle.nc_rows.proofs.Steps.{steps_ahead}
 use Rattle.nc_row_issues.specs.Laws.{Enters}
-use Rattle.nc_flatness.specs.Books.{mapping_in}
+use Rattle.nc_flatness.specs.Books.{is_entry_of, mapping_in}
 use Rattle.nc_flatness.specs.Plans.{HasEnd, token_step, IsMark, IsPost}
 use Rattle.nc_flatness.specs.Tokens.{lot_token, TokenStands}
 use Rattle.nc_flatness.specs.Steps.{Goes}
@@ -41,8 +41,9 @@ use Rattle.nc_flatness.proofs.Rests.{behind, by_token}
 use Rattle.nc_flatness.proofs.Stands.{post_stands}
 use Rattle.nc_flat_starts.proofs.Frames.{IsOff}
 use Rattle.nc_flat_plans.proofs.Passes.{IsBlank}
-use Rattle.nc_flat_plans.proofs.Drivers.{IsNext, IsDone, done_so, coming_next, settling_next}
-use Rattle.nc_flat_plans.proofs.Places.{IsUnder, lends_under, its_id, beside, far_label}
+use Rattle.nc_flat_plans.proofs.Drivers.{IsNext, IsDone, stay_lots, done_so, coming_next, settling_next}
+use Rattle.nc_flat_plans.proofs.Shifts.{IsStay}
+use Rattle.nc_flat_plans.proofs.Places.{IsUnder, lends_under, lent_side, its_id, beside, far_entry}
 use Rattle.nc_flat_plans.proofs.StepTokens.{same_entered, kept_tokens}
 use Rattle.nc_flat_plans.proofs.StepQueues.{stays_zeroed}
 use Rattle.nc_flat_plans.proofs.OwnPlaces.{to_come}
@@ -67,10 +68,10 @@ unfolding op_records
 token_silent w h b lot = refl
 
 mark_blank : (m : MachineState) → IsBlank m (entries.Mark 1 4)
-mark_blank m = record { plain = record { full = refl; fence = refl; mail = λ b. refl }; byte = λ x. refl; whole = λ x. (refl, refl) }
+mark_blank m = record { plain = record { full = refl; fence = refl; mail = λ b. refl; register = refl }; byte = λ x. refl; whole = λ x. (refl, refl) }
 
 token_blank : (m : MachineState) (lot : Lot) → IsBlank m (lot_token lot)
-token_blank m lot = record { plain = record { full = refl; fence = refl; mail = λ b. refl }; byte = λ x. refl; whole = λ x. (refl, refl) }
+token_blank m lot = record { plain = record { full = refl; fence = refl; mail = λ b. refl; register = refl }; byte = λ x. refl; whole = λ x. (refl, refl) }
 
 -- ---- the token as the last step
 
@@ -97,8 +98,8 @@ marked_goes sc f w h o s rest next is =
     let k : IsOpNext sc f w h o mark_op s rest = record { next = next; act = ap (λ (t : Step). t.act) is.step } in
     let later : HasEnd lot.id rest = ap (list_any (ends lot.id)) is.left ∙ or_left (ends lot.id (token_step lot)) false (by_token lot) in
     let u : IsUnder sc f w h lot = lends_under sc f w h o s rest lot (is_area lot.kind) next is.hand (behind lot.id s rest later) in
-    let done = done_so sc f w h o s rest _ next refl in
-    let stay : s.last ≡ turns.Stay = ap (λ (t : Step). t.last) is.step in
+    let done = done_so sc f w h o s rest _ next refl refl in
+    let stay : IsStay s = record { first = ap (λ (t : Step). t.first) is.step; last = ap (λ (t : Step). t.last) is.step } in
     let plain : (id : LotId) → ends id s ≡ false = λ id. ap (ends id) is.step in
     let by = op_enters sc f w h o mark_op s rest e k refl in
     let settles : settling lot.id rest ≡ false = ap (settling lot.id) is.left ∙ token_settles lot.id lot in
@@ -108,6 +109,7 @@ marked_goes sc f w h o s rest next is =
       under = u;
       done = done;
       side = is.hand.side_is;
+      light = is.light;
       stay = stay;
       enters = by;
       blank = mark_blank m;
@@ -118,7 +120,7 @@ marked_goes sc f w h o s rest next is =
       last = ap rest_last is.left;
       token = λ j x there off owner own. refl;
       zeroes = λ b was. stays_zeroed sc f w h n went lot s rest b u next.rest_is done stay plain was;
-      tokens = kept_tokens sc f w h o s rest n went next done (λ id. ap (stores_io (tokens_lot id)) k.act) (same_entered m n h e by (λ id. refl));
+      tokens = kept_tokens sc f w h o s rest n went next done stay.first (λ id. ap (stores_io (tokens_lot id)) k.act) (same_entered m n h e by (λ id. refl));
     }))
 
 -- ---- its token is issued
@@ -127,9 +129,7 @@ marked_goes sc f w h o s rest next is =
 other_token : (sc : Scenario) (f : List ℕ) (w : WorldState) (h : HartNo) (lot : Lot) (n : MapId) (x : ℕ) → IsUnder sc f w h lot → x < sc.ram → IsOff lot x → owner_of w x ≡ Lending n → n.hart.0 ≡ h.0 → names n (bare (lot_token lot)) ≡ false
 other_token sc f w h lot n x u there off owner own =
     false_from_ne_true (names n (lot_token lot))
-    (λ named.
-    let label = (and_parts (lot.id.label.0 == n.label.0) (nat_le lot.id.first n.entry && nat_lt n.entry (lot.id.first + length lot.list.entries)) named).0 in
-    far_label sc f w h lot n x u (beside sc f w h lot n x u there off (ap mapping_in owner) own) (sym (eqb-true lot.id.label.0 n.label.0 label)))
+    (λ named. both_ways (is_entry_of n lot) (far_entry sc f w h lot n x u (beside sc f w h lot n x u there off (ap mapping_in owner) own)) (and_from (not (is_wanted lot.side)) (names n (lot_token lot)) (ap not (lent_side lot u.moves)) named))
 
 -- behind it it stands in the queue
 post_tokens : (sc : Scenario) (f : List ℕ) (w : WorldState) (h : HartNo) (o : Op) (s : Step) (rest : List Step) (k : MachineState) (went : Went) → IsNext sc f w h o s rest → IsDone (driver_of w h.0) s rest went → (is : IsPost (driver_of w h.0).fixed (driver_of w h.0).lots s rest)
@@ -142,7 +142,7 @@ post_tokens sc f w h o s rest k went next done is lt by =
     let left : d.rest ≡ token_step lot ∷ [] = next.rest_is ∙ ap (λ (r : List Step). s ∷ r) is.over ∙ ap (λ (t : Step). t ∷ []) is.step in
     let was : All (TokenStands (token_step lot ∷ []) q) d.lots = subst (λ (r : List Step). All (TokenStands r q) d.lots) left (flat.bytes.tokens h.0 next.now.there is.light) in
     let now : All (TokenStands [] (q ++ lot_token lot ∷ [])) d.lots = post_stands d.lots lot q (flat.world.holds.each h.0 lt).driver.apart is.hand.here is.hand.side_is was in
-    let lots : went.driver.lots ≡ d.lots = done.lots ∙ ap (λ (t : Turn). lots_after t d.lots) (ap (λ (t : Step). t.last) is.step) in
+    let lots : went.driver.lots ≡ d.lots = stay_lots d s rest went done (ap (λ (t : Step). t.first) is.step) ∙ ap (λ (t : Turn). lots_after t d.lots) (ap (λ (t : Step). t.last) is.step) in
     subst (λ (r : List Step). All (TokenStands r (queue_of k h.0)) went.driver.lots) (sym (done.rest ∙ is.over))
     (subst (λ (ls : List Lot). All (TokenStands [] (queue_of k h.0)) ls) (sym lots) (subst (λ (es : List QueueEntry). All (TokenStands [] es) d.lots) (sym by.pushes.queues.own) now))
 
@@ -157,7 +157,7 @@ posted_goes sc f w h o s rest next is =
     let k : IsOpNext sc f w h o op s rest = record { next = next; act = ap (λ (t : Step). t.act) is.step } in
     let ended : HasEnd lot.id (s ∷ rest) = or_left (ends lot.id s) (list_any (ends lot.id) rest) (ap (ends lot.id) is.step ∙ by_token lot) in
     let u : IsUnder sc f w h lot = lends_under sc f w h o s rest lot (is_area lot.kind) next is.hand ended in
-    let done = done_so sc f w h o s rest _ next refl in
+    let done = done_so sc f w h o s rest _ next refl refl in
     let by = op_enters sc f w h o op s rest e k refl in
     let all : s ∷ rest ≡ token_step lot ∷ [] = ap (λ (r : List Step). s ∷ r) is.over ∙ ap (λ (t : Step). t ∷ []) is.step in
     let unsettled : (id : LotId) → settling id (s ∷ rest) ≡ false = λ id. ap (settling id) all ∙ token_settles id lot in
@@ -167,7 +167,8 @@ posted_goes sc f w h o s rest next is =
       under = u;
       done = done;
       side = is.hand.side_is;
-      stay = ap (λ (t : Step). t.last) is.step;
+      light = is.light;
+      stay = record { first = ap (λ (t : Step). t.first) is.step; last = ap (λ (t : Step). t.last) is.step };
       enters = by;
       blank = token_blank m lot;
       queued = tt;

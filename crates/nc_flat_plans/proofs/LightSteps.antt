@@ -1,7 +1,7 @@
 -- A step of a plan that lends with light fences: its marker or its token, which gives no byte, is issued.
 use Rattle.std.specs.Prelude.{None, All, true, false}
 use Rattle.std.specs.List.{list_any}
-use Rattle.std.proofs.Common.{◌≡◌, ℕ, ◌<◌, List, ◌∷◌, sym, ap, ◌∙◌, inl, inr}
+use Rattle.std.proofs.Common.{◌≡◌, ℕ, ◌<◌, List, ◌∷◌, refl, sym, ap, ◌∙◌, inl, inr}
 use Rattle.std.proofs.lemmas.Bool.{cases_Bool, both_ways}
 use Rattle.nc_num.specs.Memory.{byte}
 use Rattle.nc_num.specs.Places.{covers}
@@ -18,7 +18,6 @@ use Rattle.nc_sg.specs.declared.list.Entry.{Entry}
 use Rattle.nc_rules.specs.declared.lots.Lot.{Lot}
 use Rattle.nc_rules.specs.declared.lots.Side.TheVariants as sides
 use Rattle.nc_rules.specs.declared.steps.Step.{Step}
-use Rattle.nc_rules.specs.declared.steps.Turn.TheVariants as turns
 use Rattle.nc_rules.specs.Lots.{owner_of_side}
 use Rattle.nc_rules.specs.Machine.{MachineState, hart_of, queue_of}
 use Rattle.nc_rules.specs.Turns.{is_area}
@@ -42,7 +41,8 @@ use Rattle.nc_flat_plans.proofs.Passes.{IsBlank, IsClear, passes_by}
 use Rattle.nc_flat_plans.proofs.Drivers.{IsNext, IsDone}
 use Rattle.nc_flat_plans.proofs.Places.{IsUnder, its_id, its_place, unpooled}
 use Rattle.nc_flat_plans.proofs.Besides.{posted_beside}
-use Rattle.nc_flat_plans.proofs.Shifts.{sided, seen_mapped, stay_shift}
+use Rattle.nc_flat_plans.proofs.OwnCopies.{channels_entered}
+use Rattle.nc_flat_plans.proofs.Shifts.{sided, seen_mapped, IsStay, stay_shift}
 use Rattle.nc_flat_plans.proofs.StepFrames.{known_now, enters_by, behind_bytes}
 use Rattle.nc_flat_plans.proofs.StepQueues.{stays_dropped, queue_stays, queue_more}
 use Rattle.nc_flat_plans.proofs.StepSeen.{unseen_before, moved_seen}
@@ -55,7 +55,8 @@ pub record IsLightPut (sc : Scenario) (f : List ℕ) (w : WorldState) (h : HartN
   pub under : IsUnder sc f w h lot
   pub done : IsDone (driver_of w h.0) s rest went
   pub side : lot.side ≡ sides.Lending
-  pub stay : s.last ≡ turns.Stay
+  pub light : (driver_of w h.0).fixed.light ≡ true
+  pub stay : IsStay s
   pub enters : Enters w.machine k h.0 e
   pub blank : IsBlank w.machine e
   pub queued : IsQueued (book_of (gone w h k went)) (owner_of (gone w h k went)) w.machine.pool w.machine.size h.0 e
@@ -102,7 +103,6 @@ light_clear sc f w h o s rest k went e lot x c there off = record {
   block = λ j l lent known area back. (c.blank.whole _).0;
   area = λ j l owner known area. c.blank.whole x;
   token = λ j owner own. c.token j x there off owner own;
-  posted = λ j owner own. posted_beside sc f w h lot j x c.under there off owner own;
 }
 
 -- ---- the bytes behind it
@@ -116,7 +116,11 @@ light_bytes sc f w h o s rest k went e lot c =
     let by = enters_by sc f w h k e u.flat c.enters c.blank.plain.fence in
     let full : (i : ℕ) → list_any is_full (to_come h lot i (s ∷ rest)) ≡ list_any is_full (to_come h lot i rest) = λ i. ap (list_any is_full) (c.comes i) ∙ same_full e (to_come h lot i rest) c.blank.plain.full in
     behind_bytes sc f f w h o s rest k went lot (sided lot.side) c.next c.done u shift (rewrites_none sc f w h lot) by (record {
-      passes = λ x b there slot off row. rows_issue.passed (book_of w) (owner_of w x) b m k h.0 e x c.enters (passes_by (book_of w) (owner_of w x) m h.0 e x c.blank.plain (light_clear sc f w h o s rest k went e lot x c there off)) row;
+      passes = λ x b there slot off still row.
+          rows_issue.passed (book_of w) (owner_of w x) b m k h.0 e x c.enters (passes_by (book_of w) (owner_of w x) m h.0 e x c.blank.plain (light_clear sc f w h o s rest k went e lot x c there off) (posted_beside sc f w h lot x u still)) row;
+      waits = λ x there slot off at row. absurd (both_ways (driver_of w h.0).fixed.light at.full c.light);
+      channels = channels_entered m k h.0 e c.enters c.blank.plain.register;
+      same = λ plain. refl;
       row = λ i d x p row. light_row sc f w h o s rest k went e lot i d x c p row;
       queue = queue_more (book_of v) (owner_of v) m k h.0 e c.enters c.queued
           (queue_stays sc f w h k went u.flat (λ b is. stays_dropped sc f w h k went lot s rest b u c.next.rest_is c.done.rest shift (λ i was. sym (full i) ∙ was) is) c.zeroes);

@@ -24,7 +24,6 @@ use Rattle.nc_rules.specs.declared.lots.Lot.{Lot}
 use Rattle.nc_rules.specs.declared.lots.Side.TheVariants as sides
 use Rattle.nc_rules.specs.declared.steps.Act.{Act}
 use Rattle.nc_rules.specs.declared.steps.Step.{Step}
-use Rattle.nc_rules.specs.declared.steps.Turn.TheVariants as turns
 use Rattle.nc_rules.specs.Lots.{owner_of_side}
 use Rattle.nc_rules.specs.Plans.{hart_step}
 use Rattle.nc_rules.specs.Machine.{MachineState, hart_of, queue_of}
@@ -63,6 +62,8 @@ use Rattle.nc_flat_plans.proofs.StepFrames.{known_now, step_bytes, loads_by}
 use Rattle.nc_flat_plans.proofs.StepQueues.{stays_dropped, stays_zeroed, queue_stays}
 use Rattle.nc_flat_plans.proofs.StepSeen.{unseen_before, moved_seen, pool_calm}
 use Rattle.nc_flat_plans.proofs.OwnPlaces.{to_come, lent_as, back_as, lent_byte, as_lent, as_back}
+use Rattle.nc_flat_plans.proofs.OwnCopies.{channels_loaded}
+use Rattle.nc_flat_plans.proofs.Waits.{waits_none}
 use Rattle.nc_flat_plans.proofs.Puts.{IsStaying, stay_comes}
 use Rattle.nc_flat_plans.proofs.Stores.{range_of, piece_to, same_long, to_slot}
 use Rattle.nc_flat_plans.proofs.Copies.{IsInSlot, in_slots}
@@ -126,6 +127,7 @@ lent_shows sc f w h lot i e x u plain p side =
 pub record IsPieceLoad (sc : Scenario) (f : List ℕ) (w : WorldState) (h : HartNo) (o : Op) (s : Step) (rest : List Step) (span : Span) (lot : Lot) (i : ℕ) (e : Entry) : Type 0 where
   pub op : IsOpNext sc f w h o (hart_ops.Load span Pma) s rest
   pub under : IsUnder sc f w h lot
+  pub moves : (lot.side ≡ sides.Lending) ⊎ (lot.side ≡ sides.Returning)
   pub mapping : is_area lot.kind ≡ false
   pub later : HasEnd lot.id rest
   pub step : s ≡ hart_step (hart_ops.Load span Pma)
@@ -176,14 +178,14 @@ piece_last sc f w h o s rest span lot i e k went p shift loads =
       bytes_are = bytes ∙ ap (λ (l : ℕ). memory.span f p.start l) (sym p.len);
     }
 
-load_row : (sc : Scenario) (f : List ℕ) (w : WorldState) (h : HartNo) (o : Op) (s : Step) (rest : List Step) (span : Span) (lot : Lot) (k : MachineState) (went : Went) (i : ℕ) (e : Entry) (x v : ℕ) → IsStaying sc f w h o s rest lot → act_coming s.act ≡ []
+load_row : (sc : Scenario) (f : List ℕ) (w : WorldState) (h : HartNo) (o : Op) (s : Step) (rest : List Step) (span : Span) (lot : Lot) (k : MachineState) (went : Went) (i : ℕ) (e : Entry) (x v : ℕ) → IsStaying sc f w h o s rest lot → (lot.side ≡ sides.Lending) ⊎ (lot.side ≡ sides.Returning) → act_coming s.act ≡ []
     → IsDone (driver_of w h.0) s rest went → IsShift w h went lot (sided lot.side) → IsPlace lot i e x → Row (book_of w) (owner_of w x) v k x → Row (book_of (gone w h k went)) (owner_of_side (its_id h lot i) lot.side) v k x
-load_row sc f w h o s rest span lot k went i e x v c none done shift p row =
+load_row sc f w h o s rest span lot k went i e x v c moves none done shift p row =
     let u = c.under in
     let ahead = to_come h lot i rest in
     let comes : to_come h lot i (driver_of w h.0).rest ≡ ahead =
     ap (λ (r : List Step). to_come h lot i r) c.next.rest_is ∙ stay_comes sc f w h o s rest lot i c ∙ ap (λ (es : List QueueEntry). es ++ ahead) none in
-    elim u.moves [
+    elim moves [
       | inl side ↦ as_lent sc f w h k went lot i e x v rest u c.mapping p side shift done.rest (lent_as sc f w h k lot i e x v ahead u c.mapping p side comes row)
       | inr side ↦ as_back sc f w h k went lot i e x v rest u c.mapping p side shift done.rest (back_as sc f w h k lot i e x v ahead u c.mapping p side comes row)
     ]
@@ -196,8 +198,8 @@ load_goes sc f w h o s rest span lot i e p =
     let k = issue_next m h.0 op in
     let went = went_by w h op in
     let v = gone w h k went in
-    let done = done_so sc f w h o s rest _ p.op.next refl in
-    let stays : IsStaying sc f w h o s rest lot = record { next = p.op.next; under = u; stay = ap (λ (t : Step). t.last) p.step; plain = λ id. ap (ends id) p.step; mapping = p.mapping; later = p.later } in
+    let done = done_so sc f w h o s rest _ p.op.next refl refl in
+    let stays : IsStaying sc f w h o s rest lot = record { next = p.op.next; under = u; stay = record { first = ap (λ (t : Step). t.first) p.step; last = ap (λ (t : Step). t.last) p.step }; plain = λ id. ap (ends id) p.step; mapping = p.mapping; later = p.later } in
     let shift = stay_shift sc f w h went lot s rest u done stays.stay in
     let shape = op_shape sc f w h o op s rest p.op in
     let loads : Loads m k h.0 span Pma = issues_by_place.load m h.0 span Pma u.flat.world.machine (op_hart sc f w h o op s rest p.op) (op_there sc f w h o op s rest p.op) in
@@ -212,16 +214,20 @@ load_goes sc f w h o s rest span lot i e p =
     (λ b is. stays_zeroed sc f w h k went lot s rest b u p.op.next.rest_is done stays.stay stays.plain is) in
     op_goes sc f w h o op s rest p.op (load_silent w h (driver_of w h.0).phase span Pma p.op.next.phase)
     (step_bytes sc f w h o s rest k went lot (sided lot.side) p.op.next done u p.mapping shift (loads_by sc f w h k span Pma u.flat shape loads beside) (record {
-      passes = λ x b there off beyond row. loaded sc f w (owner_of w x) b k h.0 span x shape loads (λ area. far x (lent_area sc f w (owner_of w x) x u.flat there refl area)) row;
+      passes = λ x b there off beyond still row. loaded sc f w (owner_of w x) b k h.0 span x shape loads (λ area. far x (lent_area sc f w (owner_of w x) x u.flat there refl area)) row;
+      waits = λ x there off beyond at row.
+          waits_none sc f w h o s rest k went lot (sided lot.side) x (byte f x) p.op.next done u shift none at (stays.plain at.other.at.is.lot.id)
+          (loaded sc f w (owner_of w x) (byte f x) k h.0 span x shape loads (λ area. far x (lent_area sc f w (owner_of w x) x u.flat there refl area)) row);
+      channels = channels_loaded m k h.0 span Pma loads;
       row = λ j d x q row.
-          load_row sc f w h o s rest span lot k went j d x (byte f x) stays none done shift q
+          load_row sc f w h o s rest span lot k went j d x (byte f x) stays p.moves none done shift q
           (loaded sc f w (owner_of w x) (byte f x) k h.0 span x shape loads (λ area. far x (lent_area sc f w (owner_of w x) x u.flat (in_ram sc f w h lot j d x u q) refl area)) row);
       queue = rw (shape.pool, shape.size, loads.queues h.0) queued;
       lasting = subst (λ (r : Option Span). LastIs (book_of v) f h.0 (hart_of k h.0).last r) (sym (ap rest_last done.rest ∙ p.next)) (piece_last sc f w h o s rest span lot i e k went p shift loads);
       calm = λ z slot unseen.
           let before = u.flat.bytes.calm z slot (unseen_before sc f w h k went lot lot.side z u shift (moved_seen lot u.moves) unseen) in
           pool_calm k (byte m.cache.ram z) z (loaded sc f w Pool (byte m.cache.ram z) k h.0 span z shape loads (λ area. absurd cc) before);
-      tokens = kept_tokens sc f w h o s rest k went p.op.next done (λ id. ap (stores_io (tokens_lot id)) p.op.act) (λ id. ap (filter (is_lot_token id)) (loads.queues h.0));
+      tokens = kept_tokens sc f w h o s rest k went p.op.next done stays.stay.first (λ id. ap (stores_io (tokens_lot id)) p.op.act) (λ id. ap (filter (is_lot_token id)) (loads.queues h.0));
     }))
 
 -- ---- into a slot, and out of it
@@ -243,6 +249,7 @@ in_loads sc f w h o s rest next is goes =
     load_goes sc f w h o s rest span lot c.i e (record {
       op = k;
       under = u;
+      moves = inl goes.hand.side_is;
       mapping = goes.hand.area_is;
       later = goes.later;
       step = is.step;
@@ -276,9 +283,8 @@ out_loads sc f w h o s rest next is out =
     let first : IsPlace lot c.i e start = record { entry = c.here.entry; on = covers-from e.span start (omega arith) (omega (arith, within.0, within.1, some, long)) } in
     let seen_so : (j : ℕ) → its_place w h lot c.i e (start + j) ≡ span.at + j = λ j. omega (arith, within.0) in
     let plain = out.hand.area_is in
-    let stay : s.last ≡ turns.Stay = ap (λ (t : Step). t.last) is.step in
-    let later : HasEnd lot.id rest = returns_later sc f w h o s rest lot next u.here out.hand.side_is stay in
-    let stays : IsStaying sc f w h o s rest lot = record { next = next; under = u; stay = stay; plain = λ id. ap (ends id) is.step; mapping = plain; later = later } in
+    let later : HasEnd lot.id rest = returns_later sc f w h o s rest lot next u.here out.hand.side_is (ap (ends lot.id) is.step) in
+    let stays : IsStaying sc f w h o s rest lot = record { next = next; under = u; stay = record { first = ap (λ (t : Step). t.first) is.step; last = ap (λ (t : Step). t.last) is.step }; plain = λ id. ap (ends id) is.step; mapping = plain; later = later } in
     let fenced : list_any is_full (to_come h lot c.i (driver_of w h.0).rest) ≡ false =
     ap (λ (q : List Step). list_any is_full (to_come h lot c.i q)) next.rest_is
     ∙ ap (list_any is_full) (stay_comes sc f w h o s rest lot c.i stays ∙ ap (λ (a : Act). act_coming a ++ to_come h lot c.i rest) k.act) ∙ out.fenced (its_id h lot c.i) in
@@ -290,6 +296,7 @@ out_loads sc f w h o s rest next is out =
     load_goes sc f w h o s rest span lot c.i e (record {
       op = k;
       under = u;
+      moves = inr out.hand.side_is;
       mapping = plain;
       later = later;
       step = is.step;

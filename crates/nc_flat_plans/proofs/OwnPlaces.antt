@@ -8,7 +8,7 @@ use Rattle.nc_num.specs.declared.names.HartNo.{HartNo}
 use Rattle.nc_num.specs.declared.names.MapId.{MapId}
 use Rattle.nc_queue.specs.declared.entry.Entry.{Entry as QueueEntry}
 use Rattle.nc_model.specs.declared.owners.Owner.{Owner}
-use Rattle.nc_model.specs.declared.owners.Owner.TheVariants.{Thread, Lending, Returning, Synced}
+use Rattle.nc_model.specs.declared.owners.Owner.TheVariants.{Thread, Lending, Device, Returning, Synced}
 use Rattle.nc_scen.specs.declared.scenario.Scenario.{Scenario}
 use Rattle.nc_sg.specs.declared.list.Entry.{Entry}
 use Rattle.nc_rules.specs.declared.lots.Lot.{Lot}
@@ -85,6 +85,27 @@ as_lent sc f w h k went lot i e x v rest u plain p side shift left row =
     let by : LentAs lot.list.dir n v (to_come h lot i (c.rest h.0)) k x (its_place w h lot i e x) = subst (λ (es : List QueueEntry). LentAs lot.list.dir n v es k x (its_place w h lot i e x)) (sym (left_now sc f w h k went lot i rest u left)) row in
     let now : LentRow c n (Some (its_loan w h lot i e)) v k x = either_false (is_area lot.kind) _ _ plain by in
     subst (λ (s : Side). Row c (owner_of_side n s) v k x) (sym side) (subst (λ (o : Option Loan). LentRow c n o v k x) (sym loan) now)
+
+-- whatever it was before
+pub as_taken : (sc : Scenario) (f : List ℕ) (w : WorldState) (h : HartNo) (k : MachineState) (went : Went) (lot : Lot) (i : ℕ) (e : Entry) (x v : ℕ) (rest : List Step) → IsUnder sc f w h lot → is_area lot.kind ≡ false → IsPlace lot i e x → IsShift w h went lot (sided sides.Returning)
+    → went.driver.rest ≡ rest → BackAs lot.list.dir (its_id h lot i) v (to_come h lot i rest) k x (its_place w h lot i e x) → Row (book_of (gone w h k went)) (owner_of_side (its_id h lot i) sides.Returning) v k x
+as_taken sc f w h k went lot i e x v rest u plain p shift left row =
+    let c = book_of (gone w h k went) in
+    let n = its_id h lot i in
+    let loan = known_now sc f w h k went lot (sided sides.Returning) i e u shift (seen_mapped n sides.Returning (inr (inr refl))) p.entry in
+    let by : BackAs lot.list.dir n v (to_come h lot i (c.rest h.0)) k x (its_place w h lot i e x) = subst (λ (es : List QueueEntry). BackAs lot.list.dir n v es k x (its_place w h lot i e x)) (sym (left_now sc f w h k went lot i rest u left)) row in
+    let now : BackRow c n (Some (its_loan w h lot i e)) v k x = either_false (is_area lot.kind) _ _ plain by in
+    subst (λ (o : Option Loan). BackRow c n o v k x) (sym loan) now
+
+-- it is its channel's, before
+pub given_as : (sc : Scenario) (f : List ℕ) (w : WorldState) (h : HartNo) (m : MachineState) (lot : Lot) (i : ℕ) (e : Entry) (x v : ℕ) → IsUnder sc f w h lot → is_area lot.kind ≡ false → IsPlace lot i e x → lot.side ≡ sides.Device → Row (book_of w) (owner_of w x) v m x
+    → GivenAs lot.list.dir (its_id h lot i) v m x (its_place w h lot i e x)
+given_as sc f w h m lot i e x v u plain p side row =
+    let a = book_of w in
+    let n = its_id h lot i in
+    let owner : owner_of w x ≡ Device n = owned sc f w h lot i e x u p ∙ ap (owner_of_side n) side in
+    let has : DeviceRow n (a.loan n) v m x = subst (λ (o : Owner). Row a o v m x) owner row in
+    of_either_false (is_area lot.kind) _ _ plain (subst (λ (o : Option Loan). DeviceRow n o v m x) (known sc f w h lot i e u p.entry) has)
 
 pub as_back : (sc : Scenario) (f : List ℕ) (w : WorldState) (h : HartNo) (k : MachineState) (went : Went) (lot : Lot) (i : ℕ) (e : Entry) (x v : ℕ) (rest : List Step) → IsUnder sc f w h lot → is_area lot.kind ≡ false → IsPlace lot i e x → lot.side ≡ sides.Returning → IsShift w h went lot (sided lot.side)
     → went.driver.rest ≡ rest → BackAs lot.list.dir (its_id h lot i) v (to_come h lot i rest) k x (its_place w h lot i e x) → Row (book_of (gone w h k went)) (owner_of_side (its_id h lot i) lot.side) v k x

@@ -22,6 +22,7 @@ use Rattle.nc_rows.specs.Ahead.{names, is_full, is_mail, settling}
 use Rattle.nc_rows.specs.Laws.{place_of, seen_at}
 use Rattle.nc_rows.specs.Rows.{Loan, Book, device_place, ahead_of}
 use Rattle.nc_row_issues.specs.Laws.{NoByte, NoBlock, NoToken, PassesTo, PassesLent, PassesLoan, PassesBack, Passes}
+use Rattle.nc_flatness.specs.Copying.{is_register}
 use Rattle.nc_flat_plans.proofs.OwnRows.{either_make, either_both, dir_make}
 
 -- ---- the entries of plans
@@ -45,17 +46,18 @@ drops_kept cbos.Inval is = refl
 drops_kept cbos.Clean is = absurd cc
 drops_kept cbos.Zero is = absurd cc
 
--- no full fence or message
+-- no full fence, message or register
 pub record IsPlain (e : Entry) : Type 0 where
   pub full : is_full (bare e) ≡ false
   pub fence : is_full e ≡ false
   pub mail : (b : ℕ) → is_mail b (bare e) ≡ false
+  pub register : is_register e ≡ false
 
 pub store_plain : (span : Span) (bytes : List ℕ) (kind : MemType) → IsPlain (entries.Store span bytes kind)
-store_plain span bytes kind = record { full = refl; fence = refl; mail = λ b. refl }
+store_plain span bytes kind = record { full = refl; fence = refl; mail = λ b. refl; register = refl }
 
 pub op_plain : (block : Block) (op : CboOp) → IsPlain (entries.Cbo block op)
-op_plain block op = record { full = refl; fence = refl; mail = λ b. refl }
+op_plain block op = record { full = refl; fence = refl; mail = λ b. refl; register = refl }
 
 pub op_byte : (m : MachineState) (block : Block) (op : CboOp) (x : ℕ) → is_kept_op op ≡ true → NoByte m (entries.Cbo block op) x
 op_byte m block cbos.Clean x is = refl
@@ -108,9 +110,12 @@ pub record IsClear (a : Book) (o : Owner) (m : MachineState) (h : ℕ) (e : Entr
   pub block : (n : MapId) (l : Loan) → IsLentTo n o → a.loan n ≡ Some l → l.area ≡ false → comes_back l.grant.dir ≡ true → NoBlock m e (device_place l x)
   -- an area that is being lent
   pub area : (n : MapId) (l : Loan) → o ≡ Lending n → a.loan n ≡ Some l → l.area ≡ true → NoWhole m e x
-  -- a mapping that the hart itself lends: the entry is no token of it, and its token is queued
+  -- it is no token of a mapping that is being lent
   pub token : (n : MapId) → o ≡ Lending n → NoToken n h e
-  pub posted : (n : MapId) → o ≡ Lending n → n.hart.0 ≡ h → IsPosted m n
+
+-- of a mapping that the hart itself lends a token is queued
+abbrev pub ArePosted : Owner → MachineState → ℕ → Type 0
+ArePosted o m h = (n : MapId) → o ≡ Lending n → n.hart.0 ≡ h → IsPosted m n
 
 -- the same of the mapping that has the place
 pub record NoDevice (m : MachineState) (e : Entry) (o : Option Loan) (x : ℕ) : Type 0 where
@@ -144,12 +149,12 @@ back_passes a n (Some l) m h e x plain byte device =
     (record { opened = record { device = device.block l refl is d; buffer = inr byte }; fence = λ own. plain.full })
     (record { device = device.byte; buffer = inr byte })))
 
-pub passes_by : (a : Book) (o : Owner) (m : MachineState) (h : ℕ) (e : Entry) (x : ℕ) → IsPlain e → IsClear a o m h e x → Passes a o m h e x
-passes_by a (Thread j) m h e x plain clear = clear.byte
-passes_by a (Passing j g) m h e x plain clear = record { place = clear.byte; message = λ own. plain.mail (a.buffer x) }
-passes_by a (Lending n) m h e x plain clear =
-    lent_passes a n (a.loan n) m h e x clear.byte (record { byte = clear.device; block = λ l is area d. clear.block n l (inl refl) is area d }) (λ l is area. clear.area n l refl is area) (clear.token n refl) (clear.posted n refl)
-passes_by a (Device n) m h e x plain clear = loan_passes n (a.loan n) m h e x clear.byte (record { byte = clear.device; block = λ l is area d. clear.block n l (inr (inl refl)) is area d })
-passes_by a (Returning n) m h e x plain clear = back_passes a n (a.loan n) m h e x plain clear.byte (record { byte = clear.device; block = λ l is area d. clear.block n l (inr (inr refl)) is area d })
-passes_by a (Synced n) m h e x plain clear = clear.byte
-passes_by a Pool m h e x plain clear = clear.byte
+pub passes_by : (a : Book) (o : Owner) (m : MachineState) (h : ℕ) (e : Entry) (x : ℕ) → IsPlain e → IsClear a o m h e x → ArePosted o m h → Passes a o m h e x
+passes_by a (Thread j) m h e x plain clear posted = clear.byte
+passes_by a (Passing j g) m h e x plain clear posted = record { place = clear.byte; message = λ own. plain.mail (a.buffer x) }
+passes_by a (Lending n) m h e x plain clear posted =
+    lent_passes a n (a.loan n) m h e x clear.byte (record { byte = clear.device; block = λ l is area d. clear.block n l (inl refl) is area d }) (λ l is area. clear.area n l refl is area) (clear.token n refl) (posted n refl)
+passes_by a (Device n) m h e x plain clear posted = loan_passes n (a.loan n) m h e x clear.byte (record { byte = clear.device; block = λ l is area d. clear.block n l (inr (inl refl)) is area d })
+passes_by a (Returning n) m h e x plain clear posted = back_passes a n (a.loan n) m h e x plain clear.byte (record { byte = clear.device; block = λ l is area d. clear.block n l (inr (inr refl)) is area d })
+passes_by a (Synced n) m h e x plain clear posted = clear.byte
+passes_by a Pool m h e x plain clear posted = clear.byte

@@ -1,10 +1,12 @@
 -- The places of the lot in hand: what their mappings are, and where the channel sees them; and the places beside.
-use Rattle.std.specs.Prelude.{Some, All, Bool, true, false, slice_get}
-use Rattle.std.proofs.Common.{◌≡◌, ◌⊎◌, ℕ, ◌<◌, List, ◌∷◌, length, refl, sym, ap, ◌∙◌, inl, inr, subst, arith}
-use Rattle.std.proofs.lemmas.Bool.{cases_Bool, both_ways}
+use Rattle.std.specs.Prelude.{Some, All, ◌&&◌, not, Bool, true, false, slice_get}
+use Rattle.std.specs.List.{list_any}
+use Rattle.std.proofs.Common.{◌≡◌, ◌⊎◌, ℕ, ◌<◌, List, [], ◌∷◌, length, refl, sym, ap, ◌∙◌, inl, inr, subst, arith}
+use Rattle.std.proofs.lemmas.Bool.{cases_Bool, both_ways, and_parts, and_from, or_left, or_right}
 use Rattle.nc_num.specs.Places.{covers}
 use Rattle.nc_num.specs.declared.names.HartNo.{HartNo}
 use Rattle.nc_num.specs.declared.names.MapId.{MapId}
+use Rattle.nc_num.specs.declared.places.Span.{Span}
 use Rattle.nc_plan.specs.Plans.{In}
 use Rattle.nc_model.specs.declared.owners.Owner.{Owner}
 use Rattle.nc_model.specs.declared.owners.Owner.TheVariants.{Lending, Device, Returning}
@@ -12,6 +14,8 @@ use Rattle.nc_ops.specs.declared.ops.Op.{Op}
 use Rattle.nc_scen.specs.Regions.{pool_of, slots_of}
 use Rattle.nc_scen.specs.declared.scenario.Scenario.{Scenario}
 use Rattle.nc_sg.specs.declared.list.Entry.{Entry}
+use Rattle.nc_rules.specs.declared.lots.Kind.{Kind}
+use Rattle.nc_rules.specs.declared.lots.Kind.TheVariants as kinds
 use Rattle.nc_rules.specs.declared.lots.Lot.{Lot}
 use Rattle.nc_rules.specs.declared.lots.LotId.{LotId}
 use Rattle.nc_rules.specs.declared.lots.Side.{Side}
@@ -21,16 +25,19 @@ use Rattle.nc_rules.specs.Lots.{is_lot, is_wanted, map_id, grant_of, owner_of_si
 use Rattle.nc_rules.specs.Turns.{is_area}
 use Rattle.nc_rules.specs.Watched.{owner_of}
 use Rattle.nc_rules.specs.World.{WorldState, driver_of}
+use Rattle.nc_scripts.specs.Drivers.{FitsKind}
 use Rattle.nc_scripts.proofs.LotLaws.{named_so, its_name}
 use Rattle.nc_holds.specs.Held.{IsEntryOf}
 use Rattle.nc_holds.proofs.ListsA.{all_at}
 use Rattle.nc_rows.specs.Rows.{Loan, device_place}
-use Rattle.nc_flatness.specs.Books.{book_of, mapping_in}
-use Rattle.nc_flatness.specs.Plans.{IsStill, IsInHand, HasEnd}
+use Rattle.nc_flatness.specs.Books.{is_entry_of, book_of, mapping_in}
+use Rattle.nc_flatness.specs.Plans.{IsStill, StillSent, IsWaiting, IsBeside, IsInHand, HasEnd}
 use Rattle.nc_flatness.specs.Flatness.{Flatness}
 use Rattle.nc_flatness.proofs.Areas.{entry_pooled, entry_unpooled}
-use Rattle.nc_flatness.proofs.Loans.{IsLoan, entry_loan, one_lot, lot_first, area_direct}
-use Rattle.nc_flatness.proofs.Rests.{ends_later, back_moves}
+use Rattle.nc_flatness.specs.Tokens.{is_lending_side}
+use Rattle.nc_flatness.proofs.Loans.{IsLoan, lot_in, entry_loan, one_lot, one_of, apart_lots, own_entry, get_below, area_direct}
+use Rattle.nc_flatness.proofs.Rests.{ends_later, back_moves, lend_moves}
+use Rattle.nc_flatness.proofs.Tokens.{any_in}
 use Rattle.nc_flatness.proofs.Owned.{IsMapped, mapped, entry_owned, entry_ram, of_buffer}
 use Rattle.nc_flatness.proofs.Seen.{seen, place_ways, mapped_unslotted, seen_lent}
 use Rattle.nc_flat_starts.proofs.Frames.{IsPlace, IsOff}
@@ -39,13 +46,17 @@ use Rattle.nc_flat_plans.proofs.PoolPlaces.{slot_unpooled}
 
 -- ---- the lot in hand
 
--- hart h lends this lot, or takes it back, and each other lot of it is still
+-- it is being lent, or taken back, or it is its channel's and is taken back now
+abbrev pub IsMoving : Side → Type 0
+IsMoving side = (side ≡ sides.Lending) ⊎ ((side ≡ sides.Returning) ⊎ (side ≡ sides.Device))
+
+-- hart h lends this lot, or takes it back, and each other lot of it is still or waits for it
 pub record IsUnder (sc : Scenario) (f : List ℕ) (w : WorldState) (h : HartNo) (lot : Lot) : Type 0 where
   pub flat : Flatness sc f w
   pub lt : h.0 < length sc.harts
   pub here : In lot (driver_of w h.0).lots
-  pub others : All (λ other. is_lot lot.id other ≡ false → IsStill (driver_of w h.0).fixed other) (driver_of w h.0).lots
-  pub moves : (lot.side ≡ sides.Lending) ⊎ (lot.side ≡ sides.Returning)
+  pub others : All (λ other. is_lot lot.id other ≡ false → IsBeside (driver_of w h.0).fixed lot other) (driver_of w h.0).lots
+  pub moves : IsMoving lot.side
   -- the end of its stay is to come
   pub ended : HasEnd lot.id (driver_of w h.0).rest
 
@@ -69,13 +80,14 @@ back_under sc f w h o s rest lot area next hand =
       lt = next.now.there;
       here = hand.here;
       others = hand.others;
-      moves = inr hand.side_is;
+      moves = inr (inl hand.side_is);
       ended = subst (λ (r : List Step). HasEnd lot.id r) (sym next.rest_is) (ends_later d.fixed d.lots (s ∷ rest) lot (next.goes, next.left) hand.here (back_moves d.fixed lot hand.side_is));
     }
 
-pub lent_side : (lot : Lot) → (lot.side ≡ sides.Lending) ⊎ (lot.side ≡ sides.Returning) → is_wanted lot.side ≡ false
+pub lent_side : (lot : Lot) → IsMoving lot.side → is_wanted lot.side ≡ false
 lent_side lot (inl is) = ap is_wanted is
-lent_side lot (inr is) = ap is_wanted is
+lent_side lot (inr (inl is)) = ap is_wanted is
+lent_side lot (inr (inr is)) = ap is_wanted is
 
 -- ---- the mapping of an entry of it
 
@@ -98,9 +110,10 @@ known sc f w h lot i e u at = entry_loan sc f w h.0 lot i e u.flat (its_entry sc
 pub owned : (sc : Scenario) (f : List ℕ) (w : WorldState) (h : HartNo) (lot : Lot) (i : ℕ) (e : Entry) (x : ℕ) → IsUnder sc f w h lot → IsPlace lot i e x → owner_of w x ≡ owner_of_side (its_id h lot i) lot.side
 owned sc f w h lot i e x u p = entry_owned sc f w h.0 lot i e x u.flat (its_entry sc f w h lot i e u p.entry) p.on
 
-mapping_by : (n : MapId) (o : Owner) (side : Side) → o ≡ owner_of_side n side → (side ≡ sides.Lending) ⊎ (side ≡ sides.Returning) → mapping_in o ≡ Some n
+mapping_by : (n : MapId) (o : Owner) (side : Side) → o ≡ owner_of_side n side → IsMoving side → mapping_in o ≡ Some n
 mapping_by n o side owner (inl is) = ap mapping_in (owner ∙ ap (owner_of_side n) is)
-mapping_by n o side owner (inr is) = ap mapping_in (owner ∙ ap (owner_of_side n) is)
+mapping_by n o side owner (inr (inl is)) = ap mapping_in (owner ∙ ap (owner_of_side n) is)
+mapping_by n o side owner (inr (inr is)) = ap mapping_in (owner ∙ ap (owner_of_side n) is)
 
 pub mapping_of : (sc : Scenario) (f : List ℕ) (w : WorldState) (h : HartNo) (lot : Lot) (i : ℕ) (e : Entry) (x : ℕ) → IsUnder sc f w h lot → IsPlace lot i e x → mapping_in (owner_of w x) ≡ Some (its_id h lot i)
 mapping_of sc f w h lot i e x u p = mapping_by (its_id h lot i) (owner_of w x) lot.side (owned sc f w h lot i e x u p) u.moves
@@ -118,9 +131,10 @@ unpooled sc f w h lot i e x u plain p = entry_unpooled sc f w h.0 lot i e x u.fl
 pub pooled : (sc : Scenario) (f : List ℕ) (w : WorldState) (h : HartNo) (lot : Lot) (i : ℕ) (e : Entry) (x : ℕ) → IsUnder sc f w h lot → is_area lot.kind ≡ true → IsPlace lot i e x → covers (pool_of sc) x ≡ true
 pooled sc f w h lot i e x u area p = entry_pooled sc f w h.0 lot i e x u.flat (its_entry sc f w h lot i e u p.entry) area p.on
 
-lent_by : (n : MapId) (o : Owner) (side : Side) → o ≡ owner_of_side n side → (side ≡ sides.Lending) ⊎ (side ≡ sides.Returning) → (o ≡ Lending n) ⊎ ((o ≡ Device n) ⊎ (o ≡ Returning n))
+lent_by : (n : MapId) (o : Owner) (side : Side) → o ≡ owner_of_side n side → IsMoving side → (o ≡ Lending n) ⊎ ((o ≡ Device n) ⊎ (o ≡ Returning n))
 lent_by n o side owner (inl is) = inl (owner ∙ ap (owner_of_side n) is)
-lent_by n o side owner (inr is) = inr (inr (owner ∙ ap (owner_of_side n) is))
+lent_by n o side owner (inr (inl is)) = inr (inr (owner ∙ ap (owner_of_side n) is))
+lent_by n o side owner (inr (inr is)) = inr (inl (owner ∙ ap (owner_of_side n) is))
 
 pub seen_its : (sc : Scenario) (f : List ℕ) (w : WorldState) (h : HartNo) (lot : Lot) (i : ℕ) (e : Entry) (x : ℕ) → IsUnder sc f w h lot → IsPlace lot i e x → seen w x ≡ its_place w h lot i e x
 seen_its sc f w h lot i e x u p =
@@ -129,8 +143,9 @@ seen_its sc f w h lot i e x u p =
 -- the entry of the mapping is the lot's
 same_entry : (sc : Scenario) (f : List ℕ) (w : WorldState) (h : HartNo) (lot : Lot) (i : ℕ) (e : Entry) (l : Loan) → IsUnder sc f w h lot → slice_get lot.list.entries i ≡ Some e → (is : IsLoan w (its_id h lot i) l) → is.entry ≡ e
 same_entry sc f w h lot i e l u at is =
-    let same : is.lot ≡ lot = one_lot sc f w h.0 is.lot lot u.flat is.here.lot_in u.here is.label in
-    let first = lot_first sc f w h.0 lot u.flat u.here in
+    let mine : is_entry_of (its_id h lot i) lot ≡ true = own_entry h.0 lot i (get_below lot.list.entries i e at) (lent_side lot u.moves) in
+    let same : is.lot ≡ lot = one_of sc f w h.0 (its_id h lot i) is.lot lot u.flat is.here.lot_in u.here is.entry_of mine in
+    let first : is.lot.id.first ≡ lot.id.first = ap (λ (k : Lot). k.id.first) same in
     let number : is.i ≡ i = omega (arith, first, is.number) in
     let get : slice_get lot.list.entries i ≡ Some is.entry = subst (λ (j : ℕ). slice_get lot.list.entries j ≡ Some is.entry) number (subst (λ (k : Lot). slice_get k.list.entries is.i ≡ Some is.entry) same is.here.entry) in
     let both : Some is.entry ≡ Some e = sym get ∙ at in
@@ -174,7 +189,7 @@ pub record IsOther (w : WorldState) (h : HartNo) (lot : Lot) (k : MapId) (x : �
   pub at : IsMapped w k x
   pub here : In at.is.lot (driver_of w h.0).lots
   pub off : is_lot lot.id at.is.lot ≡ false
-  pub still : IsStill (driver_of w h.0).fixed at.is.lot
+  pub way : IsBeside (driver_of w h.0).fixed lot at.is.lot
 
 pub beside : (sc : Scenario) (f : List ℕ) (w : WorldState) (h : HartNo) (lot : Lot) (k : MapId) (x : ℕ) → IsUnder sc f w h lot → x < sc.ram → IsOff lot x → mapping_in (owner_of w x) ≡ Some k → k.hart.0 ≡ h.0 → IsOther w h lot k x
 beside sc f w h lot k x u there off is own =
@@ -183,13 +198,104 @@ beside sc f w h lot k x u there off is own =
     let here : In other (driver_of w h.0).lots = subst (λ (g : ℕ). In other (driver_of w g).lots) own at.is.here.lot_in in
     let far : is_lot lot.id other ≡ false = elim (cases_Bool (is_lot lot.id other)) [
       | inl named ↦
-          let same : other ≡ lot = one_lot sc f w h.0 other lot u.flat here u.here (ap (λ (id : LotId). id.label.0) (named_so other lot.id named)) in
+          let same : other ≡ lot = one_lot sc f w h.0 other lot u.flat here u.here (named_so other lot.id named) in
           let get : slice_get lot.list.entries at.is.i ≡ Some at.is.entry = subst (λ (l : Lot). slice_get l.list.entries at.is.i ≡ Some at.is.entry) same at.is.here.entry in
           absurd (off at.is.i at.is.entry (record { entry = get; on = of_buffer w k at.loan x at.is at.on }))
       | inr far ↦ far
     ] in
-    record { at = at; here = here; off = far; still = all_at (λ other. is_lot lot.id other ≡ false → IsStill (driver_of w h.0).fixed other) (driver_of w h.0).lots other u.others here far }
+    record { at = at; here = here; off = far; way = all_at (λ other. is_lot lot.id other ≡ false → IsBeside (driver_of w h.0).fixed lot other) (driver_of w h.0).lots other u.others here far }
 
--- its label is another
-pub far_label : (sc : Scenario) (f : List ℕ) (w : WorldState) (h : HartNo) (lot : Lot) (k : MapId) (x : ℕ) → IsUnder sc f w h lot → (o : IsOther w h lot k x) → k.label.0 ≡ lot.id.label.0 → ⊥
-far_label sc f w h lot k x u o same = far_lot lot o.at.is.lot o.off (one_lot sc f w h.0 o.at.is.lot lot u.flat o.here u.here (o.at.is.label ∙ same))
+-- its mapping is no entry of the lot
+pub far_entry : (sc : Scenario) (f : List ℕ) (w : WorldState) (h : HartNo) (lot : Lot) (k : MapId) (x : ℕ) → IsUnder sc f w h lot → IsOther w h lot k x → is_entry_of k lot ≡ false
+far_entry sc f w h lot k x u o = apart_lots sc f w h.0 k lot o.at.is.lot u.flat u.here o.here o.off o.at.is.entry_of
+
+-- ---- what waits beside it: the destination of a copy, while the source is being lent
+
+pub record WaitsAt (w : WorldState) (h : HartNo) (lot : Lot) (x : ℕ) : Type 0 where
+  pub id : MapId
+  pub mapped : mapping_in (owner_of w x) ≡ Some id
+  pub own : id.hart.0 ≡ h.0
+  pub other : IsOther w h lot id x
+  pub waits : IsWaiting lot other.at.is.lot
+  pub full : (driver_of w h.0).fixed.light ≡ false
+
+-- all else beside it is still
+abbrev pub StillAt : WorldState → HartNo → Lot → ℕ → Type 0
+StillAt w h lot x = (k : MapId) → mapping_in (owner_of w x) ≡ Some k → k.hart.0 ≡ h.0 → (o : IsOther w h lot k x) × IsStill (driver_of w h.0).fixed o.at.is.lot
+
+-- the mapping is of a lot that is being lent
+abbrev is_lent_of : MapId → Lot → Bool
+is_lent_of k lot = is_lending_side lot.side && is_entry_of k lot
+
+-- with full fences such a mapping waits
+abbrev pub along : WorldState → HartNo → MapId → Bool
+along w h k = not (driver_of w h.0).fixed.light && list_any (is_lent_of k) (driver_of w h.0).lots
+
+lending_so : (side : Side) → is_lending_side side ≡ true → side ≡ sides.Lending
+lending_so sides.Lending is = refl
+lending_so sides.Wanted is = absurd cc
+lending_so sides.Device is = absurd cc
+lending_so sides.Returning is = absurd cc
+lending_so sides.Synced is = absurd cc
+lending_so sides.Own is = absurd cc
+
+not_so : (b : Bool) → not b ≡ true → b ≡ false
+not_so true is = absurd cc
+not_so false is = refl
+
+any_here : (p : Lot → Bool) (lots : List Lot) (lot : Lot) → In lot lots → p lot ≡ true → list_any p lots ≡ true
+any_here p [] lot here is = absurd here
+any_here p (x ∷ lots) lot (inl same) is = or_left (p x) (list_any p lots) (ap p same ∙ is)
+any_here p (x ∷ lots) lot (inr here) is = or_right (p x) (list_any p lots) (any_here p lots lot here is)
+
+pub along_waits : (sc : Scenario) (f : List ℕ) (w : WorldState) (h : HartNo) (lot : Lot) (k : MapId) (x : ℕ) → IsUnder sc f w h lot → x < sc.ram → IsOff lot x → mapping_in (owner_of w x) ≡ Some k → k.hart.0 ≡ h.0 → along w h k ≡ true → WaitsAt w h lot x
+along_waits sc f w h lot k x u there off is own goes =
+    let d = driver_of w h.0 in
+    let parts = and_parts (not d.fixed.light) (list_any (is_lent_of k) d.lots) goes in
+    let full = not_so d.fixed.light parts.0 in
+    let some = any_in (is_lent_of k) d.lots parts.1 in
+    let lent = and_parts (is_lending_side some.0.side) (is_entry_of k some.0) some.2 in
+    let o = beside sc f w h lot k x u there off is own in
+    let same : some.0 ≡ o.at.is.lot = one_of sc f w h.0 k some.0 o.at.is.lot u.flat some.1 o.here lent.1 o.at.is.entry_of in
+    let side : o.at.is.lot.side ≡ sides.Lending = ap (λ (l : Lot). l.side) (sym same) ∙ lending_so some.0.side lent.0 in
+    elim o.way [
+      | inl still ↦ absurd (lend_moves d.fixed o.at.is.lot side full still)
+      | inr waits ↦ record { id = k; mapped = is; own = own; other = o; waits = waits; full = full }
+    ]
+
+pub still_other : (sc : Scenario) (f : List ℕ) (w : WorldState) (h : HartNo) (lot : Lot) (k : MapId) (x : ℕ) → (o : IsOther w h lot k x) → along w h k ≡ false → IsStill (driver_of w h.0).fixed o.at.is.lot
+still_other sc f w h lot k x o none =
+    let d = driver_of w h.0 in
+    let it = o.at.is.lot in
+    elim o.way [
+      | inl still ↦ still
+      | inr waits ↦ elim (cases_Bool d.fixed.light) [
+        | inl light ↦ StillSent waits.waits light
+        | inr full ↦
+            let some : list_any (is_lent_of k) d.lots ≡ true = any_here (is_lent_of k) d.lots it o.here (and_from (is_lending_side it.side) (is_entry_of k it) (ap is_lending_side waits.waits) o.at.is.entry_of) in
+            absurd (both_ways (along w h k) none (and_from (not d.fixed.light) (list_any (is_lent_of k) d.lots) (ap not full) some))
+      ]
+    ]
+
+pub along_still : (sc : Scenario) (f : List ℕ) (w : WorldState) (h : HartNo) (lot : Lot) (x : ℕ) → IsUnder sc f w h lot → x < sc.ram → IsOff lot x → ((k : MapId) → mapping_in (owner_of w x) ≡ Some k → k.hart.0 ≡ h.0 → along w h k ≡ false) → StillAt w h lot x
+along_still sc f w h lot x u there off none k is own =
+    let o = beside sc f w h lot k x u there off is own in
+    (o, still_other sc f w h lot k x o (none k is own))
+
+-- none waits for an area
+area_label : (pool : Span) (k : Kind) (id : LotId) (es : List Entry) → is_area k ≡ true → FitsKind pool k id es → id.label.0 ≡ 1000 → ⊥
+area_label pool kinds.Single id es area fits label = absurd cc
+area_label pool kinds.List id es area fits label = absurd cc
+area_label pool kinds.Area id es area fits label = omega (arith, fits.0.label, label)
+area_label pool kinds.Copy id es area fits label = absurd cc
+
+pub area_named : (sc : Scenario) (f : List ℕ) (w : WorldState) (h : HartNo) (lot : Lot) → IsUnder sc f w h lot → is_area lot.kind ≡ true → lot.id.label.0 ≡ 1000 → ⊥
+area_named sc f w h lot u area label = area_label (driver_of w h.0).fixed.pool lot.kind lot.id lot.list.entries area (lot_in sc f w h.0 lot u.flat u.here).kind label
+
+pub area_alone : (sc : Scenario) (f : List ℕ) (w : WorldState) (h : HartNo) (lot : Lot) (x : ℕ) → IsUnder sc f w h lot → is_area lot.kind ≡ true → WaitsAt w h lot x → ⊥
+area_alone sc f w h lot x u area at = area_named sc f w h lot u area (ap (λ (id : LotId). id.label.0) at.waits.source_is)
+
+-- nor for a lot that is taken back
+pub back_alone : (w : WorldState) (h : HartNo) (lot : Lot) (x : ℕ) → (lot.side ≡ sides.Returning) ⊎ (lot.side ≡ sides.Device) → WaitsAt w h lot x → ⊥
+back_alone w h lot x (inl is) at = let both : sides.Returning ≡ sides.Lending = sym is ∙ at.waits.lent in absurd (cc)
+back_alone w h lot x (inr is) at = let both : sides.Device ≡ sides.Lending = sym is ∙ at.waits.lent in absurd (cc)

@@ -1,7 +1,7 @@
 -- A step of a plan with no turn that puts an entry in its hart's queue.
 use Rattle.std.specs.Prelude.{None, true, false}
 use Rattle.std.specs.List.{list_any}
-use Rattle.std.proofs.Common.{◌≡◌, ℕ, ◌<◌, List, [], ◌∷◌, ◌++◌, sym, ap, ◌∙◌, inl, inr}
+use Rattle.std.proofs.Common.{◌≡◌, ◌⊎◌, ℕ, ◌<◌, List, [], ◌∷◌, ◌++◌, sym, ap, ◌∙◌, inl, inr, subst}
 use Rattle.std.proofs.lemmas.Bool.{or_parts}
 use Rattle.nc_num.specs.Memory.{byte}
 use Rattle.nc_num.specs.Places.{covers}
@@ -16,7 +16,6 @@ use Rattle.nc_rules.specs.declared.lots.Lot.{Lot}
 use Rattle.nc_rules.specs.declared.lots.LotId.{LotId}
 use Rattle.nc_rules.specs.declared.lots.Side.TheVariants as sides
 use Rattle.nc_rules.specs.declared.steps.Step.{Step}
-use Rattle.nc_rules.specs.declared.steps.Turn.TheVariants as turns
 use Rattle.nc_rules.specs.Lots.{owner_of_side}
 use Rattle.nc_rules.specs.Machine.{MachineState, hart_of}
 use Rattle.nc_rules.specs.Turns.{is_area}
@@ -39,7 +38,10 @@ use Rattle.nc_flat_plans.proofs.OwnRows.{BackAs, lent_put, same_full}
 use Rattle.nc_flat_plans.proofs.Passes.{IsPlain, IsClear, passes_by}
 use Rattle.nc_flat_plans.proofs.Drivers.{IsNext, IsDone, coming_next}
 use Rattle.nc_flat_plans.proofs.Places.{IsUnder, its_id, its_place}
-use Rattle.nc_flat_plans.proofs.Shifts.{sided, stay_shift}
+use Rattle.nc_flat_plans.proofs.Besides.{posted_beside}
+use Rattle.nc_flat_plans.proofs.OwnCopies.{channels_entered}
+use Rattle.nc_flat_plans.proofs.Waits.{waits_seen, waits_put}
+use Rattle.nc_flat_plans.proofs.Shifts.{sided, IsStay, stay_shift}
 use Rattle.nc_flat_plans.proofs.StepTokens.{IsUntokened, same_entered, kept_tokens}
 use Rattle.nc_flat_plans.proofs.StepFrames.{step_bytes, enters_by}
 use Rattle.nc_flat_plans.proofs.StepQueues.{stays_dropped, stays_zeroed, queue_stays, queue_more}
@@ -51,7 +53,7 @@ use Rattle.nc_flat_plans.proofs.OwnPlaces.{to_come, lent_as, back_as, as_lent, a
 pub record IsStaying (sc : Scenario) (f : List ℕ) (w : WorldState) (h : HartNo) (o : Op) (s : Step) (rest : List Step) (lot : Lot) : Type 0 where
   pub next : IsNext sc f w h o s rest
   pub under : IsUnder sc f w h lot
-  pub stay : s.last ≡ turns.Stay
+  pub stay : IsStay s
   pub plain : (id : LotId) → ends id s ≡ false
   pub mapping : is_area lot.kind ≡ false
   pub later : HasEnd lot.id rest
@@ -67,6 +69,7 @@ pub record IsPut (sc : Scenario) (f : List ℕ) (w : WorldState) (h : HartNo) (k
   pub plain : IsPlain e
   pub token : IsUntokened e
   pub clear : (x : ℕ) → x < sc.ram → covers (slots_of sc) x ≡ false → IsOff lot x → IsClear (book_of w) (owner_of w x) w.machine h.0 e x
+  pub moves : (lot.side ≡ sides.Lending) ⊎ (lot.side ≡ sides.Returning)
   pub lends : lot.side ≡ sides.Lending → (i : ℕ) (d : Entry) (x : ℕ) → IsPlace lot i d x → NoByte w.machine e x × PutsDevice w.machine e (byte f x) x (its_place w h lot i d x) (to_come h lot i rest)
   pub backs : lot.side ≡ sides.Returning → (i : ℕ) (d : Entry) (x : ℕ) → IsPlace lot i d x → BackAs lot.list.dir (its_id h lot i) (byte f x) (bare e ∷ to_come h lot i rest) w.machine x (its_place w h lot i d x)
       → BackAs lot.list.dir (its_id h lot i) (byte f x) (to_come h lot i rest) k x (its_place w h lot i d x)
@@ -83,7 +86,7 @@ put_row sc f w h o s rest k went e lot i d x c done by entry put p row =
     let shift = stay_shift sc f w h went lot s rest u done c.stay in
     let comes : to_come h lot i (driver_of w h.0).rest ≡ bare e ∷ to_come h lot i rest =
     ap (λ (r : List Step). to_come h lot i r) c.next.rest_is ∙ stay_comes sc f w h o s rest lot i c ∙ ap (λ (es : List QueueEntry). es ++ to_come h lot i rest) entry in
-    elim u.moves [
+    elim put.moves [
       | inl side ↦
           let puts = put.lends side i d x p in
           as_lent sc f w h k went lot i d x (byte f x) rest u c.mapping p side shift done.rest
@@ -105,7 +108,12 @@ put_bytes sc f w h o s rest k went e lot c done by entry put queued last =
     let full : (i : ℕ) → list_any is_full (to_come h lot i (s ∷ rest)) ≡ list_any is_full (to_come h lot i rest) =
     λ i. ap (list_any is_full) (stay_comes sc f w h o s rest lot i c ∙ ap (λ (es : List QueueEntry). es ++ to_come h lot i rest) entry) ∙ same_full e (to_come h lot i rest) put.plain.full in
     step_bytes sc f w h o s rest k went lot (sided lot.side) c.next done u c.mapping shift (enters_by sc f w h k e flat by put.plain.fence) (record {
-      passes = λ x b there off beyond row. rows_issue.passed (book_of w) (owner_of w x) b m k h.0 e x by (passes_by (book_of w) (owner_of w x) m h.0 e x put.plain (put.clear x there off beyond)) row;
+      passes = λ x b there off beyond still row.
+          rows_issue.passed (book_of w) (owner_of w x) b m k h.0 e x by (passes_by (book_of w) (owner_of w x) m h.0 e x put.plain (put.clear x there off beyond) (posted_beside sc f w h lot x u still)) row;
+      waits = λ x there off beyond at row.
+          let clear = put.clear x there off beyond in
+          waits_put sc f w h o s rest k went lot (sided lot.side) e x c.next done u shift by entry at (c.plain at.other.at.is.lot.id) clear.byte (subst (λ (z : ℕ). NoByte m e z) (waits_seen w h lot x at) clear.device) row;
+      channels = channels_entered m k h.0 e by put.plain.register;
       row = λ i d x p row. put_row sc f w h o s rest k went e lot i d x c done by entry put p row;
       queue = queue_more (book_of v) (owner_of v) m k h.0 e by queued
           (queue_stays sc f w h k went flat (λ b is. stays_dropped sc f w h k went lot s rest b u c.next.rest_is done.rest shift (λ i was. sym (full i) ∙ was) is)
@@ -114,5 +122,5 @@ put_bytes sc f w h o s rest k went e lot c done by entry put queued last =
       calm = λ z slot unseen.
           let before = unseen_before sc f w h k went lot lot.side z u shift (moved_seen lot u.moves) unseen in
           calm_pushed m k h.0 e z by (put.unseen z slot before) (flat.bytes.calm z slot before);
-      tokens = kept_tokens sc f w h o s rest k went c.next done (λ id. (or_parts (turns_lot id s.last) (stores_io (tokens_lot id) s.act) (c.plain id)).1) (same_entered m k h e by put.token);
+      tokens = kept_tokens sc f w h o s rest k went c.next done c.stay.first (λ id. (or_parts (turns_lot id s.last) (stores_io (tokens_lot id) s.act) (c.plain id)).1) (same_entered m k h e by put.token);
     })

@@ -1,12 +1,13 @@
 -- A step of a plan: what stands in its hart's queue is as its book wants it.
 use Rattle.std.specs.Prelude.{Some, All, ◌/◌, true, false}
 use Rattle.std.specs.List.{list_any}
-use Rattle.std.proofs.Common.{◌≡◌, ◌⊎◌, ℕ, List, [], ◌∷◌, refl, sym, ap, ◌∙◌, inl, inr, subst}
-use Rattle.std.proofs.lemmas.Bool.{or_parts}
+use Rattle.std.proofs.Common.{◌≡◌, ℕ, List, [], ◌∷◌, refl, sym, ap, ◌∙◌, inl, inr, subst}
+use Rattle.std.proofs.lemmas.Bool.{both_ways, or_parts, false_from_ne_true}
 use Rattle.std.proofs.lemmas.List.Elements.{All-nil, All-cons, All-append}
 use Rattle.nc_num.specs.declared.names.HartNo.{HartNo}
 use Rattle.nc_num.specs.declared.names.MapId.{MapId}
 use Rattle.nc_num.specs.declared.places.Span.{Span}
+use Rattle.nc_plan.specs.Plans.{In}
 use Rattle.nc_plan.specs.Parts.{comes_back}
 use Rattle.nc_queue.specs.Entries.{is_w}
 use Rattle.nc_queue.specs.declared.entry.Entry.{Entry as QueueEntry}
@@ -20,27 +21,29 @@ use Rattle.nc_rules.specs.declared.lots.LotId.{LotId}
 use Rattle.nc_rules.specs.declared.lots.Side.{Side}
 use Rattle.nc_rules.specs.declared.lots.Side.TheVariants as sides
 use Rattle.nc_rules.specs.declared.steps.Step.{Step}
-use Rattle.nc_rules.specs.declared.steps.Turn.TheVariants as turns
 use Rattle.nc_rules.specs.Lots.{Fixed, owner_of_side}
 use Rattle.nc_rules.specs.Machine.{MachineState, queue_of}
+use Rattle.nc_rules.specs.Turns.{is_area}
 use Rattle.nc_rules.specs.Driver.{Went}
 use Rattle.nc_rules.specs.Watched.{owner_of}
 use Rattle.nc_rules.specs.World.{WorldState, driver_of}
 use Rattle.nc_scripts.proofs.Lists.{all_to}
-use Rattle.nc_rows.specs.Ahead.{ends, is_full, settling, coming}
+use Rattle.nc_rows.specs.Ahead.{same_lot, ends, is_full, settling, coming}
 use Rattle.nc_rows.specs.Rows.{Loan, Book, device_place}
 use Rattle.nc_rows.specs.Parts.{IsDropped, IsZeroed, IsQueued}
 use Rattle.nc_row_issues.specs.Laws.{Enters}
-use Rattle.nc_flatness.specs.Books.{loan_of, book_of, mapping_in}
+use Rattle.nc_flatness.specs.Books.{is_entry_of, loan_of, book_of, mapping_in}
 use Rattle.nc_flatness.specs.Flatness.{Flatness}
-use Rattle.nc_flatness.specs.Plans.{IsStill, StillDevice, StillSynced, StillOwn, StillSent}
+use Rattle.nc_flatness.specs.Plans.{IsStill, StillDevice, StillSynced, StillOwn, StillSent, IsBeside}
 use Rattle.nc_flatness.proofs.Outcomes.{gone}
+use Rattle.nc_flatness.proofs.Loans.{one_lot, one_of, own_entry, get_below, loan_is}
+use Rattle.nc_flatness.proofs.Rests.{turn_name}
 use Rattle.nc_flatness.proofs.Owned.{owned_ram}
 use Rattle.nc_flatness.proofs.BookReads.{entry_to}
-use Rattle.nc_flat_starts.proofs.Frames.{IsPlace, On, Off, somewhere, loan_hart, rest_hart}
+use Rattle.nc_flat_starts.proofs.Frames.{IsPlace, IsOff, On, Off, somewhere, loan_hart, rest_hart}
 use Rattle.nc_flat_plans.proofs.Drivers.{IsDone, settling_next}
-use Rattle.nc_flat_plans.proofs.Places.{IsUnder, its_id, its_loan, its_place, known, owned, beside}
-use Rattle.nc_flat_plans.proofs.Shifts.{sided, seen_mapped, IsShift, stay_owner, stay_loans}
+use Rattle.nc_flat_plans.proofs.Places.{IsMoving, IsUnder, lent_side, its_id, its_loan, its_place, known, owned, mapping_of, beside}
+use Rattle.nc_flat_plans.proofs.Shifts.{sided, seen_mapped, IsShift, IsStay, stay_owner, stay_loans}
 use Rattle.nc_flat_plans.proofs.StepFrames.{driven, known_now}
 
 -- ---- the queue of the hart
@@ -56,19 +59,25 @@ pub record IsOwnDrop (w : WorldState) (h : HartNo) (lot : Lot) (s : Step) (rest 
   pub ahead : list_any is_full (coming (its_id h lot i) lot.id (s ∷ rest)) ≡ true
   pub here : its_place w h lot i entry place / w.machine.size ≡ b
 
-hart_by : (n k : MapId) (side : Side) → (side ≡ sides.Lending) ⊎ (side ≡ sides.Returning) → owner_of_side n side ≡ Returning k → n ≡ k
+hart_by : (n k : MapId) (side : Side) → IsMoving side → owner_of_side n side ≡ Returning k → n ≡ k
 hart_by n k side (inl is) owner = let both : Lending n ≡ Returning k = sym (ap (owner_of_side n) is) ∙ owner in absurd (cc)
-hart_by n k side (inr is) owner = let both : Returning n ≡ Returning k = sym (ap (owner_of_side n) is) ∙ owner in cc
+hart_by n k side (inr (inl is)) owner = let both : Returning n ≡ Returning k = sym (ap (owner_of_side n) is) ∙ owner in cc
+hart_by n k side (inr (inr is)) owner = let both : Device n ≡ Returning k = sym (ap (owner_of_side n) is) ∙ owner in absurd (cc)
 
-back_side : (n k : MapId) (side : Side) → (side ≡ sides.Lending) ⊎ (side ≡ sides.Returning) → owner_of_side n side ≡ Returning k → side ≡ sides.Returning
+back_side : (n k : MapId) (side : Side) → IsMoving side → owner_of_side n side ≡ Returning k → side ≡ sides.Returning
 back_side n k side (inl is) owner = let both : Lending n ≡ Returning k = sym (ap (owner_of_side n) is) ∙ owner in absurd (cc)
-back_side n k side (inr is) owner = is
+back_side n k side (inr (inl is)) owner = is
+back_side n k side (inr (inr is)) owner = let both : Device n ≡ Returning k = sym (ap (owner_of_side n) is) ∙ owner in absurd (cc)
 
 still_back : (f : Fixed) (n : MapId) (lot : Lot) → owner_of_side n lot.side ≡ Returning n → IsStill f lot → ⊥
 still_back f n lot owner (StillDevice is) = let both : Device n ≡ Returning n = sym (ap (owner_of_side n) is) ∙ owner in absurd (cc)
 still_back f n lot owner (StillSynced is kind) = let both : Synced n ≡ Returning n = sym (ap (owner_of_side n) is) ∙ owner in absurd (cc)
 still_back f n lot owner (StillOwn is kind) = let both : Thread n.hart ≡ Returning n = sym (ap (owner_of_side n) is) ∙ owner in absurd (cc)
 still_back f n lot owner (StillSent is light) = let both : Lending n ≡ Returning n = sym (ap (owner_of_side n) is) ∙ owner in absurd (cc)
+
+beside_back : (f : Fixed) (n : MapId) (lot other : Lot) → owner_of_side n other.side ≡ Returning n → IsBeside f lot other → ⊥
+beside_back f n lot other owner (inl still) = still_back f n other owner still
+beside_back f n lot other owner (inr waits) = let both : Lending n ≡ Returning n = sym (ap (owner_of_side n) waits.waits) ∙ owner in absurd (cc)
 
 pub own_drop : (sc : Scenario) (f : List ℕ) (w : WorldState) (h : HartNo) (lot : Lot) (s : Step) (rest : List Step) (b : ℕ) → IsUnder sc f w h lot → (driver_of w h.0).rest ≡ s ∷ rest → IsDropped (book_of w) (owner_of w) w.machine.size h.0 b
     → IsOwnDrop w h lot s rest b
@@ -96,7 +105,7 @@ own_drop sc f w h lot s rest b u rest_is is =
           }
       | Off off ↦
           let o = beside sc f w h lot is.id x u there off mapped is.own in
-          absurd (still_back (driver_of w h.0).fixed is.id o.at.is.lot (sym o.at.owner ∙ is.owned) o.still)
+          absurd (beside_back (driver_of w h.0).fixed is.id lot o.at.is.lot (sym o.at.owner ∙ is.owned) o.way)
     ]
 
 -- a step with no turn, of which no entry is a full fence
@@ -121,7 +130,7 @@ stays_dropped sc f w h k went lot s rest b u rest_is left shift ahead is =
 
 -- a block of an area that is zeroed stays one, where no step ends its stay
 pub stays_zeroed : (sc : Scenario) (f : List ℕ) (w : WorldState) (h : HartNo) (k : MachineState) (went : Went) (lot : Lot) (s : Step) (rest : List Step) (b : ℕ) → IsUnder sc f w h lot → (driver_of w h.0).rest ≡ s ∷ rest → IsDone (driver_of w h.0) s rest went
-    → s.last ≡ turns.Stay → ((id : LotId) → ends id s ≡ false) → IsZeroed (book_of w) (owner_of w) w.machine.size h.0 b → IsZeroed (book_of (gone w h k went)) (owner_of (gone w h k went)) w.machine.size h.0 b
+    → IsStay s → ((id : LotId) → ends id s ≡ false) → IsZeroed (book_of w) (owner_of w) w.machine.size h.0 b → IsZeroed (book_of (gone w h k went)) (owner_of (gone w h k went)) w.machine.size h.0 b
 stays_zeroed sc f w h k went lot s rest b u rest_is done stay plain is =
     let lt = driven sc f w h lot u in
     let own : is.id.hart.0 ≡ h.0 = is.own in
@@ -134,6 +143,32 @@ stays_zeroed sc f w h k went lot s rest b u rest_is done stay plain is =
       ahead = ap (λ (r : List Step). settling is.loan.lot r) (rest_hart w h k went is.id.hart.0 lt own ∙ done.rest) ∙ sym (settling_next is.loan.lot s rest (plain is.loan.lot))
           ∙ ap (λ (r : List Step). settling is.loan.lot r) (sym rest_is ∙ ap (λ (g : ℕ). (driver_of w g).rest) (sym own)) ∙ is.ahead;
       owned = λ x here. stay_owner (driver_of w h.0) w s rest went x done stay ∙ is.owned x here;
+    }
+
+-- one of another lot stays, whatever becomes of a mapping that is in hand
+pub other_zeroed : (sc : Scenario) (f : List ℕ) (w : WorldState) (h : HartNo) (k : MachineState) (went : Went) (lot : Lot) (to : MapId → Owner) (s : Step) (rest : List Step) (b : ℕ) → IsUnder sc f w h lot → is_area lot.kind ≡ false → (driver_of w h.0).rest ≡ s ∷ rest → went.driver.rest ≡ rest
+    → IsShift w h went lot to → ((id : LotId) → same_lot id lot.id ≡ false → ends id s ≡ false) → IsZeroed (book_of w) (owner_of w) w.machine.size h.0 b → IsZeroed (book_of (gone w h k went)) (owner_of (gone w h k went)) w.machine.size h.0 b
+other_zeroed sc f w h k went lot to s rest b u plain rest_is left shift ends_one is =
+    let lt = driven sc f w h lot u in
+    let own : is.id.hart.0 ≡ h.0 = is.own in
+    let loan = loan_is sc f w is.id is.loan u.flat is.lent in
+    let here : In loan.lot (driver_of w h.0).lots = subst (λ (g : ℕ). In loan.lot (driver_of w g).lots) own loan.here.lot_in in
+    let other : loan.lot ≡ lot → ⊥ = λ same. both_ways (is_area lot.kind) plain (ap (λ (l : Lot). is_area l.kind) (sym same) ∙ sym loan.area ∙ is.area) in
+    let far : is_entry_of is.id lot ≡ false = false_from_ne_true (is_entry_of is.id lot) (λ too. other (one_of sc f w h.0 is.id loan.lot lot u.flat here u.here loan.entry_of too)) in
+    let off : same_lot is.loan.lot lot.id ≡ false = ap (λ (id : LotId). same_lot id lot.id) loan.lot_is ∙ false_from_ne_true (same_lot loan.lot.id lot.id) (λ same. other (one_lot sc f w h.0 loan.lot lot u.flat here u.here (turn_name loan.lot.id lot.id same))) in
+    let beyond : (x : ℕ) → owner_of w x ≡ Lending is.id → IsOff lot x = λ x owner i e p.
+    let both : Some (its_id h lot i) ≡ Some is.id = sym (mapping_of sc f w h lot i e x u p) ∙ ap mapping_in owner in
+    let same : its_id h lot i ≡ is.id = cc in
+    both_ways (is_entry_of is.id lot) far (subst (λ (n : MapId). is_entry_of n lot ≡ true) same (own_entry h.0 lot i (get_below lot.list.entries i e p.entry) (lent_side lot u.moves))) in
+    record {
+      id = is.id;
+      loan = is.loan;
+      lent = loan_hart w h k went is.id lt own ∙ shift.others is.id far ∙ ap (λ (g : ℕ). loan_of (driver_of w g) is.id) (sym own) ∙ is.lent;
+      own = is.own;
+      area = is.area;
+      ahead = ap (λ (r : List Step). settling is.loan.lot r) (rest_hart w h k went is.id.hart.0 lt own ∙ left) ∙ sym (settling_next is.loan.lot s rest (ends_one is.loan.lot off))
+          ∙ ap (λ (r : List Step). settling is.loan.lot r) (sym rest_is ∙ ap (λ (g : ℕ). (driver_of w g).rest) (sym own)) ∙ is.ahead;
+      owned = λ x met. shift.off x (beyond x (is.owned x met)) ∙ is.owned x met;
     }
 
 -- the entries that are there

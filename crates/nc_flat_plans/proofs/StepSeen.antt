@@ -1,6 +1,6 @@
 -- A step of a plan: where the channels see places behind it, and so which bytes of slots nobody sees.
 use Rattle.std.specs.Prelude.{Option, Some, true, false, slice_get}
-use Rattle.std.proofs.Common.{◌≡◌, ◌⊎◌, ℕ, zero, suc, List, [], ◌∷◌, refl, sym, ap, ◌∙◌, inl, inr, subst}
+use Rattle.std.proofs.Common.{◌≡◌, ℕ, zero, suc, List, [], ◌∷◌, refl, sym, ap, ◌∙◌, inl, inr, subst}
 use Rattle.std.proofs.lemmas.Bool.{cases_Bool, cases_eq, both_ways}
 use Rattle.nc_num.specs.Memory.{byte}
 use Rattle.nc_num.specs.Places.{covers}
@@ -14,7 +14,6 @@ use Rattle.nc_sg.specs.Lists as sg
 use Rattle.nc_sg.specs.declared.list.Entry.{Entry}
 use Rattle.nc_rules.specs.declared.lots.Lot.{Lot}
 use Rattle.nc_rules.specs.declared.lots.Side.{Side}
-use Rattle.nc_rules.specs.declared.lots.Side.TheVariants as sides
 use Rattle.nc_rules.specs.Lots.{owner_of_side}
 use Rattle.nc_rules.specs.Machine.{MachineState}
 use Rattle.nc_rules.specs.Turns.{is_area}
@@ -31,7 +30,7 @@ use Rattle.nc_flatness.proofs.Loans.{loan_is}
 use Rattle.nc_flatness.proofs.Owned.{owned_ram}
 use Rattle.nc_flatness.proofs.Seen.{seen, device_covers, device_place_of}
 use Rattle.nc_flat_starts.proofs.Frames.{IsPlace, IsOff, On, Off, somewhere, loan_there, loan_hart}
-use Rattle.nc_flat_plans.proofs.Places.{IsUnder, its_id, its_loan, its_place, known, seen_its, area_place, beside, far_label}
+use Rattle.nc_flat_plans.proofs.Places.{IsMoving, IsUnder, its_id, its_loan, its_place, known, seen_its, area_place, beside, far_entry}
 use Rattle.nc_flat_plans.proofs.Shifts.{sided, IsSeenSide, seen_mapped, IsShift}
 use Rattle.nc_flat_plans.proofs.StepFrames.{driven, known_now}
 
@@ -56,7 +55,7 @@ loan_off : (sc : Scenario) (f : List ℕ) (w : WorldState) (h : HartNo) (k : Mac
     → (book_of (gone w h k went)).loan n ≡ (book_of w).loan n
 loan_off sc f w h k went lot to x n u shift off is = elim (cases_eq n.hart.0 h.0) [
   | inl own ↦
-      loan_hart w h k went n (driven sc f w h lot u) own ∙ shift.others n (far_label sc f w h lot n x u (beside sc f w h lot n x u (owned_ram sc f w x n u.flat is) off is own)) ∙ ap (λ (g : ℕ). loan_of (driver_of w g) n) (sym own)
+      loan_hart w h k went n (driven sc f w h lot u) own ∙ shift.others n (far_entry sc f w h lot n x u (beside sc f w h lot n x u (owned_ram sc f w x n u.flat is) off is own)) ∙ ap (λ (g : ℕ). loan_of (driver_of w g) n) (sym own)
   | inr ne ↦ loan_there w h k went n ne
 ]
 
@@ -84,9 +83,10 @@ unseen_before sc f w h k went lot to z u shift side unseen x off at = elim (some
   | Off beyond ↦ unseen x off (seen_off sc f w h k went lot (sided to) x u shift beyond ∙ at)
 ]
 
-pub moved_seen : (lot : Lot) → (lot.side ≡ sides.Lending) ⊎ (lot.side ≡ sides.Returning) → IsSeenSide lot.side
+pub moved_seen : (lot : Lot) → IsMoving lot.side → IsSeenSide lot.side
 moved_seen lot (inl is) = inl is
-moved_seen lot (inr is) = inr (inr is)
+moved_seen lot (inr (inl is)) = inr (inr is)
+moved_seen lot (inr (inr is)) = inr (inl is)
 
 -- ---- a lot that is its hart's again: what its channel saw is calm, where the row says so
 

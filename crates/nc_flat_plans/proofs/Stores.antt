@@ -1,5 +1,5 @@
 -- A piece of a copy is stored: into the slot of its entry, or out of it, and with the last piece the lot is its hart's again.
-use Rattle.std.specs.Prelude.{Option, Some, None, ◌||◌, ◌-◌, true, false, slice_get}
+use Rattle.std.specs.Prelude.{Option, Some, None, ◌||◌, ◌-◌, Bool, true, false, slice_get}
 use Rattle.std.specs.List.{list_any}
 use Rattle.std.proofs.Common.{◌≡◌, ◌⊎◌, ℕ, ◌<◌, List, [], ◌∷◌, refl, sym, ap, ◌∙◌, inl, inr, subst, arith}
 use Rattle.std.proofs.lemmas.Bool.{cases_Bool, both_ways}
@@ -36,14 +36,14 @@ use Rattle.nc_rules.specs.Turns.{is_area}
 use Rattle.nc_rules.specs.Watched.{owner_of}
 use Rattle.nc_rules.specs.World.{WorldState, driver_of}
 use Rattle.nc_calls.proofs.CallProofs.{issues_by_place}
-use Rattle.nc_rows.specs.Ahead.{ends, turns_lot, stores_io, tokens_lot, settling, is_full, act_coming}
+use Rattle.nc_rows.specs.Ahead.{ends, turns_lot, stores_io, tokens_lot, is_full, act_coming}
 use Rattle.nc_rows.specs.Parts.{StoreIsQueued, IsPiece, LastIs, act_last, rest_last}
 use Rattle.nc_rows.specs.Rows.{gives_here}
 use Rattle.nc_row_issues.proofs.PlacePushes.{calm_pushed}
 use Rattle.nc_row_issues.proofs.RowIssues.{rows_issue}
 use Rattle.nc_row_plans.specs.Laws.{Puts}
 use Rattle.nc_flatness.specs.Books.{book_of}
-use Rattle.nc_flatness.specs.Plans.{HasEnd, HasByte, IsWithin, GoesIn, ComesOut, IsBack, IsStore}
+use Rattle.nc_flatness.specs.Plans.{HasEnd, HasFull, HasByte, IsWithin, GoesIn, ComesOut, IsBack, IsStore}
 use Rattle.nc_flatness.specs.Steps.{Goes}
 use Rattle.nc_flatness.proofs.Outcomes.{gone}
 use Rattle.nc_flatness.proofs.Rests.{behind}
@@ -55,14 +55,16 @@ use Rattle.nc_flat_plans.proofs.Passes.{store_plain, passes_by}
 use Rattle.nc_flat_plans.proofs.Drivers.{IsNext, done_so, returns_later}
 use Rattle.nc_flat_plans.proofs.PoolPlaces.{slot_unpooled}
 use Rattle.nc_flat_plans.proofs.Places.{IsUnder, lends_under, back_under, its_id, its_loan, its_place, known, in_ram, unslotted, unpooled, seen_its}
-use Rattle.nc_flat_plans.proofs.Shifts.{held}
+use Rattle.nc_flat_plans.proofs.Shifts.{IsStay, held}
 use Rattle.nc_flat_plans.proofs.StepTokens.{same_entered, kept_tokens}
 use Rattle.nc_flat_plans.proofs.StepFrames.{enters_by}
-use Rattle.nc_flat_plans.proofs.StepQueues.{own_drop, queue_stays, queue_more}
+use Rattle.nc_flat_plans.proofs.StepQueues.{own_drop, other_zeroed, queue_stays, queue_more}
+use Rattle.nc_flat_plans.proofs.Besides.{posted_beside}
+use Rattle.nc_flat_plans.proofs.OwnCopies.{channels_entered}
 use Rattle.nc_flat_plans.proofs.Copies.{piece_of, no_byte, has_byte, piece_byte, IsInSlot, IsInBuffer, in_slots, slot_clear, buffer_clear, buffer_device, slot_buffer, none_there}
-use Rattle.nc_flat_plans.proofs.OwnPlaces.{to_come, back_as}
+use Rattle.nc_flat_plans.proofs.OwnPlaces.{to_come, back_as, home_to}
 use Rattle.nc_flat_plans.proofs.Puts.{IsStaying, IsPut, put_bytes}
-use Rattle.nc_flat_plans.proofs.Backs.{unsettled, last_comes, home_bytes}
+use Rattle.nc_flat_plans.proofs.Backs.{turns_one, last_comes, home_shift, home_bytes}
 use Rattle.nc_flat_plans.proofs.Issues.{IsOpNext, op_there, op_enters, store_silent, went_by, op_goes}
 
 -- ---- the piece
@@ -72,8 +74,10 @@ pub record IsPieceNext (sc : Scenario) (f : List ℕ) (w : WorldState) (h : Hart
   pub op : IsOpNext sc f w h o (hart_ops.Store dst Pma Last) s rest
   pub under : IsUnder sc f w h lot
   pub mapping : is_area lot.kind ≡ false
-  -- no later store gives its bytes
-  pub once : (y : ℕ) → covers dst y ≡ true → HasByte (driver_of w h.0).fixed lot.id rest y false
+
+-- no store of what comes then gives its bytes
+abbrev pub IsOnce : WorldState → HartNo → Span → Lot → List Step → Type 0
+IsOnce w h dst lot left = (y : ℕ) → covers dst y ≡ true → HasByte (driver_of w h.0).fixed lot.id left y false
 
 -- its entry
 abbrev pub piece_at : WorldState → HartNo → Span → QueueEntry
@@ -101,21 +105,21 @@ flat_byte sc f w h o s rest dst z x k on there off way =
 -- ---- what it gives at a place of the lot
 
 -- the byte that is to stand there, once
-puts_at : (sc : Scenario) (f : List ℕ) (w : WorldState) (h : HartNo) (o : Op) (s : Step) (rest : List Step) (dst : Span) (lot : Lot) (i : ℕ) (z x : ℕ) → IsPieceNext sc f w h o s rest dst lot → x < sc.ram → covers (slots_of sc) x ≡ false → (z ≡ x) ⊎ (z ≡ seen w x)
-    → Puts w.machine (piece_at w h dst) (byte f x) z (to_come h lot i rest)
-puts_at sc f w h o s rest dst lot i z x k there off way = elim (cases_Bool (covers dst z)) [
+puts_at : (sc : Scenario) (f : List ℕ) (w : WorldState) (h : HartNo) (o : Op) (s : Step) (rest left : List Step) (dst : Span) (lot : Lot) (i : ℕ) (z x : ℕ) → IsPieceNext sc f w h o s rest dst lot → IsOnce w h dst lot left → x < sc.ram → covers (slots_of sc) x ≡ false → (z ≡ x) ⊎ (z ≡ seen w x)
+    → Puts w.machine (piece_at w h dst) (byte f x) z (to_come h lot i left)
+puts_at sc f w h o s rest left dst lot i z x k once there off way = elim (cases_Bool (covers dst z)) [
   | inl on ↦
       let size : (driver_of w h.0).fixed.size ≡ w.machine.size = sym (held sc f w h lot k.under).setting.block in
-      let later : list_any (gives_here w.machine z) (to_come h lot i rest) ≡ false = ap (λ (y : ℕ). list_any (gives_at y z) (to_come h lot i rest)) (sym size) ∙ k.once z on (its_id h lot i) in
+      let later : list_any (gives_here w.machine z) (to_come h lot i left) ≡ false = ap (λ (y : ℕ). list_any (gives_at y z) (to_come h lot i left)) (sym size) ∙ once z on (its_id h lot i) in
       inr (has_byte w.machine dst (hart_of w.machine h.0).last z (byte f x) on (flat_byte sc f w h o s rest dst z x k.op on there off way), later)
   | inr beside ↦ inl (no_byte w.machine dst (hart_of w.machine h.0).last z beside)
 ]
 
 -- ---- into a slot
 
-slot_put : (sc : Scenario) (f : List ℕ) (w : WorldState) (h : HartNo) (o : Op) (s : Step) (rest : List Step) (dst : Span) (lot : Lot) (i : ℕ) (e : Entry) → IsPieceNext sc f w h o s rest dst lot → lot.side ≡ sides.Lending → IsInSlot w h lot i e dst
+slot_put : (sc : Scenario) (f : List ℕ) (w : WorldState) (h : HartNo) (o : Op) (s : Step) (rest : List Step) (dst : Span) (lot : Lot) (i : ℕ) (e : Entry) → IsPieceNext sc f w h o s rest dst lot → IsOnce w h dst lot rest → lot.side ≡ sides.Lending → IsInSlot w h lot i e dst
     → IsPut sc f w h (issue_next w.machine h.0 (stored_op dst)) (piece_at w h dst) rest lot
-slot_put sc f w h o s rest dst lot i e k lends at =
+slot_put sc f w h o s rest dst lot i e k once lends at =
     let m = w.machine in
     let u = k.under in
     let last = (hart_of m h.0).last in
@@ -123,9 +127,10 @@ slot_put sc f w h o s rest dst lot i e k lends at =
       plain = store_plain dst last Pma;
       token = λ id. refl;
       clear = λ x there off beyond. slot_clear sc f w h lot i e dst last x u at there off beyond;
+      moves = inl lends;
       lends = λ side j d x p. (
         slot_buffer sc f w h lot i j e d dst last x u at p,
-        inr (puts_at sc f w h o s rest dst lot j (its_place w h lot j d x) x k (in_ram sc f w h lot j d x u p) (unslotted sc f w h lot j d x u p) (inr (sym (seen_its sc f w h lot j d x u p)))),
+        inr (puts_at sc f w h o s rest rest dst lot j (its_place w h lot j d x) x k once (in_ram sc f w h lot j d x u p) (unslotted sc f w h lot j d x u p) (inr (sym (seen_its sc f w h lot j d x u p)))),
       );
       backs = λ side j d x p row. let both : sides.Lending ≡ sides.Returning = sym lends ∙ side in absurd (cc);
       unseen = λ z slot none. no_byte m dst last z (none_there (covers dst z) (λ on.
@@ -135,9 +140,9 @@ slot_put sc f w h o s rest dst lot i e k lends at =
 
 -- ---- out of it
 
-buffer_put : (sc : Scenario) (f : List ℕ) (w : WorldState) (h : HartNo) (o : Op) (s : Step) (rest : List Step) (dst from to : Span) (lot : Lot) (i : ℕ) (e : Entry) → IsPieceNext sc f w h o s rest dst lot → ComesOut (driver_of w h.0).fixed (driver_of w h.0).lots lot e rest from to
-    → IsInBuffer lot i e dst → IsPut sc f w h (issue_next w.machine h.0 (stored_op dst)) (piece_at w h dst) rest lot
-buffer_put sc f w h o s rest dst from to lot i e k out at =
+buffer_put : (sc : Scenario) (f : List ℕ) (w : WorldState) (h : HartNo) (o : Op) (s : Step) (rest left : List Step) (dst from to : Span) (lot : Lot) (i : ℕ) (e : Entry) → IsPieceNext sc f w h o s rest dst lot → IsOnce w h dst lot left → HasFull lot.id left false
+    → ComesOut (driver_of w h.0).fixed (driver_of w h.0).lots lot e rest from to → IsInBuffer lot i e dst → IsPut sc f w h (issue_next w.machine h.0 (stored_op dst)) (piece_at w h dst) left lot
+buffer_put sc f w h o s rest left dst from to lot i e k once fenced out at =
     let m = w.machine in
     let n = issue_next m h.0 (stored_op dst) in
     let u = k.under in
@@ -147,10 +152,11 @@ buffer_put sc f w h o s rest dst from to lot i e k out at =
       plain = store_plain dst last Pma;
       token = λ id. refl;
       clear = λ x there off beyond. buffer_clear sc f w h lot i e dst last x u k.mapping at there off beyond;
+      moves = inr out.hand.side_is;
       lends = λ side j d x p. let both : sides.Returning ≡ sides.Lending = sym out.hand.side_is ∙ side in absurd (cc);
       backs = λ side j d x p row.
-          back_put lot.list.dir m n (piece_at w h dst) (its_id h lot j) (byte f x) x (its_place w h lot j d x) (to_come h lot j rest) out.back by refl (out.fenced (its_id h lot j)) (buffer_device sc f w h lot i j e d dst last x u at p)
-          (inr (puts_at sc f w h o s rest dst lot j x x k (in_ram sc f w h lot j d x u p) (unslotted sc f w h lot j d x u p) (inl refl))) row;
+          back_put lot.list.dir m n (piece_at w h dst) (its_id h lot j) (byte f x) x (its_place w h lot j d x) (to_come h lot j left) out.back by refl (fenced (its_id h lot j)) (buffer_device sc f w h lot i j e d dst last x u at p)
+          (inr (puts_at sc f w h o s rest left dst lot j x x k once (in_ram sc f w h lot j d x u p) (unslotted sc f w h lot j d x u p) (inl refl))) row;
       unseen = λ z slot none. no_byte m dst last z (none_there (covers dst z) (λ on. both_ways (covers (slots_of sc) z) (unslotted sc f w h lot i e z u (at.place z on)) slot));
     }
 
@@ -212,20 +218,20 @@ ends_not : (id : LotId) (s : Step) (dst : Span) → s.act ≡ acts.Op (stored_op
 ends_not id s dst act stay = ap (λ (t : Turn). turns_lot id t || stores_io (tokens_lot id) s.act) stay ∙ ap (λ (a : Act). false || stores_io (tokens_lot id) a) act
 
 -- another piece or a cache operation comes
-piece_goes : (sc : Scenario) (f : List ℕ) (w : WorldState) (h : HartNo) (o : Op) (s : Step) (rest : List Step) (dst : Span) (lot : Lot) → IsPieceNext sc f w h o s rest dst lot → s.last ≡ turns.Stay → HasEnd lot.id rest → rest_last rest ≡ None
+piece_goes : (sc : Scenario) (f : List ℕ) (w : WorldState) (h : HartNo) (o : Op) (s : Step) (rest : List Step) (dst : Span) (lot : Lot) → IsPieceNext sc f w h o s rest dst lot → IsStay s → HasEnd lot.id rest → rest_last rest ≡ None
     → IsPut sc f w h (issue_next w.machine h.0 (stored_op dst)) (piece_at w h dst) rest lot → StoreIsQueued w.machine.pool Pma dst → Goes sc f w (events.Issue h)
 piece_goes sc f w h o s rest dst lot k stay later last put queued =
     let op = stored_op dst in
     let e = piece_at w h dst in
-    let done = done_so sc f w h o s rest _ k.op.next refl in
-    let stays : IsStaying sc f w h o s rest lot = record { next = k.op.next; under = k.under; stay = stay; plain = λ id. ends_not id s dst k.op.act stay; mapping = k.mapping; later = later } in
+    let done = done_so sc f w h o s rest _ k.op.next refl refl in
+    let stays : IsStaying sc f w h o s rest lot = record { next = k.op.next; under = k.under; stay = stay; plain = λ id. ends_not id s dst k.op.act stay.last; mapping = k.mapping; later = later } in
     op_goes sc f w h o op s rest k.op (store_silent w h (driver_of w h.0).phase dst Pma Last k.op.next.phase)
     (put_bytes sc f w h o s rest (issue_next w.machine h.0 op) (went_by w h op) e lot stays done (op_enters sc f w h o op s rest e k.op refl) (ap act_coming k.op.act) put queued last)
 
 -- or it is the last that comes out
 last_goes : (sc : Scenario) (f : List ℕ) (w : WorldState) (h : HartNo) (o : Op) (s : Step) (rest : List Step) (dst from to : Span) (lot : Lot) (i : ℕ) (e : Entry) → IsPieceNext sc f w h o s rest dst lot → ComesOut (driver_of w h.0).fixed (driver_of w h.0).lots lot e rest from to
-    → IsInBuffer lot i e dst → IsBack lot.id s.last → rest ≡ [] → Goes sc f w (events.Issue h)
-last_goes sc f w h o s rest dst from to lot i e k out at back over =
+    → IsInBuffer lot i e dst → s.first ≡ turns.Stay → IsBack lot.id s.last → rest_last rest ≡ None → Goes sc f w (events.Issue h)
+last_goes sc f w h o s rest dst from to lot i e k out at first back last =
     let m = w.machine in
     let u = k.under in
     let op = stored_op dst in
@@ -234,32 +240,32 @@ last_goes sc f w h o s rest dst from to lot i e k out at back over =
     let went = went_by w h op in
     let v = gone w h n went in
     let by = op_enters sc f w h o op s rest entry k.op refl in
-    let done = done_so sc f w h o s rest _ k.op.next refl in
-    let put = buffer_put sc f w h o s rest dst from to lot i e k out at in
-    let all : (j : ℕ) → to_come h lot j (s ∷ rest) ≡ bare entry ∷ [] =
-    λ j. ap (λ (r : List Step). to_come h lot j (s ∷ r)) over ∙ last_comes (its_id h lot j) lot.id s back ∙ ap act_coming k.op.act in
-    let none : (j : ℕ) → to_come h lot j rest ≡ [] = λ j. ap (λ (r : List Step). to_come h lot j r) over in
+    let done = done_so sc f w h o s rest _ k.op.next refl refl in
+    let put = buffer_put sc f w h o s rest [] dst from to lot i e k (λ y on n. refl) (λ n. refl) out at in
+    let all : (j : ℕ) → to_come h lot j (s ∷ rest) ≡ bare entry ∷ [] = λ j. last_comes (its_id h lot j) lot.id s rest back ∙ ap act_coming k.op.act in
+    let home = home_shift sc f w h went lot s rest u k.mapping done first back in
     op_goes sc f w h o op s rest k.op (store_silent w h (driver_of w h.0).phase dst Pma Last k.op.next.phase)
-    (home_bytes sc f w h o s rest n went lot k.op.next done u k.mapping back over (enters_by sc f w h n entry u.flat by refl) (record {
-      passes = λ x b there off beyond row. rows_issue.passed (book_of w) (owner_of w x) b m n h.0 entry x by (passes_by (book_of w) (owner_of w x) m h.0 entry x put.plain (put.clear x there off beyond)) row;
+    (home_bytes sc f w h o s rest n went lot k.op.next done u k.mapping home last (enters_by sc f w h n entry u.flat by refl) (record {
+      alone = inl out.hand.side_is;
+      passes = λ x b there off beyond still row.
+          rows_issue.passed (book_of w) (owner_of w x) b m n h.0 entry x by (passes_by (book_of w) (owner_of w x) m h.0 entry x put.plain (put.clear x there off beyond) (posted_beside sc f w h lot x u still)) row;
+      channels = channels_entered m n h.0 entry by refl;
       back = λ j d x p row.
           let id = its_id h lot j in
           let y = its_place w h lot j d x in
-          let comes : to_come h lot j (driver_of w h.0).rest ≡ bare entry ∷ to_come h lot j rest =
-          ap (λ (r : List Step). to_come h lot j r) k.op.next.rest_is ∙ all j ∙ ap (λ (es : List QueueEntry). bare entry ∷ es) (sym (none j)) in
-          let was : BackAs lot.list.dir id (byte f x) (bare entry ∷ to_come h lot j rest) m x y =
-          back_as sc f w h m lot j d x (byte f x) (bare entry ∷ to_come h lot j rest) u k.mapping p out.hand.side_is comes row in
-          subst (λ (es : List QueueEntry). BackAs lot.list.dir id (byte f x) es n x y) (none j) (put.backs out.hand.side_is j d x p was);
+          let comes : to_come h lot j (driver_of w h.0).rest ≡ bare entry ∷ [] = ap (λ (r : List Step). to_come h lot j r) k.op.next.rest_is ∙ all j in
+          let was : BackAs lot.list.dir id (byte f x) (bare entry ∷ []) m x y = back_as sc f w h m lot j d x (byte f x) (bare entry ∷ []) u k.mapping p out.hand.side_is comes row in
+          put.backs out.hand.side_is j d x p was;
       queue = queue_more (book_of v) (owner_of v) m n h.0 entry by (buffer_queued sc f w h lot i e dst u k.mapping at)
           (queue_stays sc f w h n went u.flat (λ b is.
           let drop = own_drop sc f w h lot s rest b u k.op.next.rest_is is in
           let plain : list_any is_full (to_come h lot drop.i (s ∷ rest)) ≡ false = ap (list_any is_full) (all drop.i) in
           absurd (both_ways (list_any is_full (to_come h lot drop.i (s ∷ rest))) plain drop.ahead))
           (λ b is.
-          let ahead : settling is.loan.lot (s ∷ []) ≡ true = ap (λ (r : List Step). settling is.loan.lot r) (sym (ap (λ (g : ℕ). (driver_of w g).rest) is.own ∙ k.op.next.rest_is ∙ ap (λ (r : List Step). s ∷ r) over)) ∙ is.ahead in
-          absurd (both_ways (settling is.loan.lot (s ∷ [])) (unsettled lot.id is.loan.lot s back) ahead)));
+          other_zeroed sc f w h n went lot (home_to h home.synced) s rest b u k.mapping k.op.next.rest_is done.rest home.shift
+          (λ id off. ap (λ (t : Bool). t || stores_io (tokens_lot id) s.act) (turns_one id lot.id s.last back off) ∙ ap (stores_io (tokens_lot id)) k.op.act) is));
       stays = λ z slot calm. calm_pushed m n h.0 entry z by (no_byte m dst (hart_of m h.0).last z (none_there (covers dst z) (λ on. both_ways (covers (slots_of sc) z) (unslotted sc f w h lot i e z u (at.place z on)) slot))) calm;
-      tokens = kept_tokens sc f w h o s rest n went k.op.next done (λ id. ap (stores_io (tokens_lot id)) k.op.act) (same_entered m n h entry by put.token);
+      tokens = kept_tokens sc f w h o s rest n went k.op.next done first (λ id. ap (stores_io (tokens_lot id)) k.op.act) (same_entered m n h entry by put.token);
     }))
 
 -- a piece that goes into a slot
@@ -270,11 +276,11 @@ in_goes sc f w h o s rest next is goes =
     let lot = c.lot in
     let dst = piece_to is.from is.to is.span in
     let u : IsUnder sc f w h lot = lends_under sc f w h o s rest lot false next goes.hand (behind lot.id s rest goes.later) in
-    let k : IsPieceNext sc f w h o s rest dst lot = record { op = record { next = next; act = is.act }; under = u; mapping = goes.hand.area_is; once = is.once } in
+    let k : IsPieceNext sc f w h o s rest dst lot = record { op = record { next = next; act = is.act }; under = u; mapping = goes.hand.area_is } in
     let some = piece_some sc f w h o s rest dst k.op in
     let there = to_slot sc f w h lot c.i c.entry is.from is.to is.span u c.here.entry c.bounced (goes.from_is, goes.to_is) is.within some in
     elim is.last [
-      | inl stay ↦ piece_goes sc f w h o s rest dst lot k stay goes.later is.next (slot_put sc f w h o s rest dst lot c.i c.entry k goes.hand.side_is there) (slot_queued sc f w h lot c.i c.entry dst u there)
+      | inl stay ↦ piece_goes sc f w h o s rest dst lot k (record { first = is.first; last = stay }) goes.later is.next (slot_put sc f w h o s rest dst lot c.i c.entry k is.once goes.hand.side_is there) (slot_queued sc f w h lot c.i c.entry dst u there)
       | inr back ↦ let both : sides.Lending ≡ sides.Returning = sym goes.hand.side_is ∙ back.1 in absurd (cc)
     ]
 
@@ -286,14 +292,15 @@ out_goes sc f w h o s rest next is out =
     let lot = c.lot in
     let dst = piece_to is.from is.to is.span in
     let u : IsUnder sc f w h lot = back_under sc f w h o s rest lot false next out.hand in
-    let k : IsPieceNext sc f w h o s rest dst lot = record { op = record { next = next; act = is.act }; under = u; mapping = out.hand.area_is; once = is.once } in
+    let k : IsPieceNext sc f w h o s rest dst lot = record { op = record { next = next; act = is.act }; under = u; mapping = out.hand.area_is } in
     let some = piece_some sc f w h o s rest dst k.op in
     let there = to_buffer sc f w h lot c.i c.entry is.from is.to is.span u c.here.entry c.bounced (out.to_is, out.from_is) is.within some in
     elim is.last [
       | inl stay ↦
-          piece_goes sc f w h o s rest dst lot k stay (returns_later sc f w h o s rest lot next u.here out.hand.side_is stay) is.next (buffer_put sc f w h o s rest dst is.from is.to lot c.i c.entry k out there)
+          piece_goes sc f w h o s rest dst lot k (record { first = is.first; last = stay }) (returns_later sc f w h o s rest lot next u.here out.hand.side_is (ends_not lot.id s dst is.act stay)) is.next
+          (buffer_put sc f w h o s rest rest dst is.from is.to lot c.i c.entry k is.once out.fenced out there)
           (buffer_queued sc f w h lot c.i c.entry dst u out.hand.area_is there)
-      | inr back ↦ last_goes sc f w h o s rest dst is.from is.to lot c.i c.entry k out there back.0 back.2
+      | inr back ↦ last_goes sc f w h o s rest dst is.from is.to lot c.i c.entry k out there is.first back.0 is.next
     ]
 
 pub stored_goes : (sc : Scenario) (f : List ℕ) (w : WorldState) (h : HartNo) (o : Op) (s : Step) (rest : List Step) → IsNext sc f w h o s rest → IsStore (driver_of w h.0).fixed (driver_of w h.0).lots s rest → Goes sc f w (events.Issue h)

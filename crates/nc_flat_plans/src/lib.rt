@@ -1,12 +1,13 @@
 //! Flat memory through the plans of mappings and scatter lists, direct and bounced: map, unmap, their lists, and the
-//! syncs; and through those of coherent areas.
+//! syncs; through those of coherent areas; and through the lending and the taking back of both ends of a copy.
 //!
 //! The crate has no code. A plan that lends copies the ranges that bounce into their slots, writes each block back and
 //! ends with a full fence, with whose turn the lot is its channel's, or, where fences are light, with a marker and a token,
 //! with whose drain it is; a plan that takes back drops each block that the channel may have written, fences, and copies
 //! what bounced out of its slots. An area is allocated with each of its blocks zeroed and then flushed, given as a mapping
-//! is, and taken back and freed with a full fence alone. The contract for the layers above: `plans_go`, that flat memory's
-//! bytes stand behind each step of such a plan.
+//! is, and taken back and freed with a full fence alone. Both ends of a copy are lent with its claim: the destination
+//! waits while the source's blocks are written back. Each end is taken back with the first step of its way back. The
+//! contract for the layers above: `plans_go`, that flat memory's bytes stand behind each step of such a plan.
 #![tactic(auto)]
 
 mod laws;

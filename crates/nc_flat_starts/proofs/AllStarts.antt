@@ -9,12 +9,13 @@ use Rattle.nc_scen.specs.declared.scenario.Scenario.{Scenario}
 use Rattle.nc_rules.specs.Operations.{has_start, begin, step_at}
 use Rattle.nc_rules.specs.Driver.{Went, begun, started, started_of, refused_step, steps_done}
 use Rattle.nc_rules.specs.World.{WorldState, driver_of}
+use Rattle.nc_flatness.specs.Copying.{CopyOp, copy_op}
 use Rattle.nc_flatness.specs.Covered.{is_lending}
 use Rattle.nc_flatness.specs.Flatness.{BytesStand}
 use Rattle.nc_flatness.proofs.Outcomes.{gone}
 use Rattle.nc_flat_starts.proofs.AllocStarts.{calloc_bytes}
 use Rattle.nc_flat_starts.proofs.AreaStarts.{give_bytes, take_bytes, free_bytes}
-use Rattle.nc_flat_starts.proofs.Calls.{OneMap, ListMap}
+use Rattle.nc_flat_starts.proofs.Calls.{OneMap, ListMap, TwoEnds}
 use Rattle.nc_flat_starts.proofs.Lendings.{lending_starts}
 use Rattle.nc_flat_starts.proofs.MakeStarts.{map_bytes}
 use Rattle.nc_flat_starts.proofs.Starts.{IsStart}
@@ -44,7 +45,9 @@ begun_bytes sc f w h (ops.Run chan) s is = absurd cc
 begun_bytes sc f w h (ops.Poll chan) s is = absurd cc
 begun_bytes sc f w h (ops.Regr chan off width) s is = absurd cc
 begun_bytes sc f w h (ops.Regw chan off width value) s is = absurd cc
-begun_bytes sc f w h (ops.Copy chan src src_off dst dst_off len cfg) s is = absurd cc
+begun_bytes sc f w h (ops.Copy chan src src_off dst dst_off len cfg) s is =
+    let k : CopyOp = record { chan = chan; src = src; src_off = src_off; dst = dst; dst_off = dst_off; len = len; config = cfg } in
+    map_bytes sc f w h (copy_op k) (begin (driver_of w h.0).fixed (driver_of w h.0).lots w.owners w.pages (copy_op k)) s (TwoEnds k refl) refl
 
 pub start_bytes : (sc : Scenario) (f : List ℕ) (w : WorldState) (h : HartNo) (o : Op) → IsStart sc f w h o → BytesStand sc f (gone w h w.machine (started (driver_of w h.0) w.owners w.pages))
 unfolding started

@@ -1,7 +1,7 @@
 -- The start of an allocation: a new area is lent with its plan in hand, over free pages.
 use Rattle.std.specs.Prelude.{Option, Some, Result, Ok, Err, ◌==◌, not, true, false, option_map}
 use Rattle.std.proofs.Common.{◌≡◌, ℕ, List, [], ◌∷◌, ◌++◌, length, refl, sym, ap, ◌∙◌, inl, inr, subst}
-use Rattle.std.proofs.lemmas.Bool.{cases_Bool, both_ways, and_from, eq-eqb, eqb-true, and_parts, cond-true, cond-false}
+use Rattle.std.proofs.lemmas.Bool.{cases_Bool, both_ways, and_from, eq-eqb, cond-true, cond-false}
 use Rattle.std.proofs.lemmas.List.Folds.{list_any_none}
 use Rattle.std.proofs.lemmas.List.Elements.{All-nil, All-cons, All-append, All-head}
 use Rattle.nc_num.specs.Places.{covers}
@@ -44,7 +44,7 @@ use Rattle.nc_scripts.specs.Drivers.{IsSettled}
 use Rattle.nc_scripts.proofs.DriverSteps.{passed}
 use Rattle.nc_scripts.proofs.EveryDriver.{in_hand_is}
 use Rattle.nc_scripts.proofs.Lists.{all_in, all_to}
-use Rattle.nc_scripts.proofs.LotLaws.{its_name, named_so}
+use Rattle.nc_scripts.proofs.LotLaws.{its_name}
 use Rattle.nc_scripts.proofs.NewLots.{area_is, AreNew, new_is}
 use Rattle.nc_holds.specs.Held.{EntriesAreApart}
 use Rattle.nc_holds.specs.Holds.{held_of}
@@ -61,20 +61,21 @@ use Rattle.nc_flatness.specs.Books.{loan_by}
 use Rattle.nc_flatness.specs.Flatness.{is_mapping, IsMapping, BytesStand}
 use Rattle.nc_flatness.specs.Plans.{IsStill}
 use Rattle.nc_flatness.specs.Tokens.{is_lending_side}
+use Rattle.nc_flatness.proofs.Copies.{is_copy}
 use Rattle.nc_flatness.proofs.Outcomes.{gone}
 use Rattle.nc_flat_starts.proofs.AreaPlans.{IsZeroing, Allocates, allocate_so}
 use Rattle.nc_flat_starts.proofs.AreaRows.{area_unslotted}
-use Rattle.nc_flat_starts.proofs.Bases.{me_of, fixed_is}
-use Rattle.nc_flat_starts.proofs.Befores.{IsBefore, its_only}
+use Rattle.nc_flat_starts.proofs.Bases.{label_one, me_of, fixed_is}
+use Rattle.nc_flat_starts.proofs.Befores.{IsBefore, its_entry}
 use Rattle.nc_flat_starts.proofs.Calls.{wanted_side, gives_bytes, opened_so}
 use Rattle.nc_flat_starts.proofs.Effects.{zeroing}
 use Rattle.nc_flat_starts.proofs.Frames.{IsPlace}
 use Rattle.nc_flat_starts.proofs.FreshAreas.{IsFresh, area_block, fresh_pool, fresh_free, fresh_block, fresh_parts}
-use Rattle.nc_flat_starts.proofs.Lots.{find_only, loan_for, more_wanted}
+use Rattle.nc_flat_starts.proofs.Lots.{find_only, own_entry, loan_for, more_wanted}
 use Rattle.nc_flat_starts.proofs.OpenRows.{sizes, went_work}
 use Rattle.nc_flat_starts.proofs.BackRows.{either_true}
 use Rattle.nc_flat_starts.proofs.Opens.{Opens, opens_bytes}
-use Rattle.nc_flat_starts.proofs.Sides.{NamesArea, turned_lot, hand_set, set_one}
+use Rattle.nc_flat_starts.proofs.Sides.{NamesArea, turned_lot, hand_set, set_others, set_its}
 use Rattle.nc_flat_starts.proofs.Starts.{IsStart, short, holds_here, as_wanted}
 use Rattle.nc_flat_starts.proofs.MakeStarts.{new_lent}
 use Rattle.nc_flat_starts.proofs.Tokens.{none_named, lots_stand}
@@ -105,6 +106,7 @@ pub record IsAdded (sc : Scenario) (f : List ℕ) (w : WorldState) (h : HartNo) 
   pub start : IsStart sc f w h o
   pub begins : begin (driver_of w h.0).fixed (driver_of w h.0).lots w.owners w.pages o ≡ Ok (lot ∷ [])
   pub kind : lot.kind ≡ kinds.Area
+  pub no_copy : is_copy o ≡ false
 
 added_new : (sc : Scenario) (f : List ℕ) (w : WorldState) (h : HartNo) (o : Op) (lot : Lot) → IsAdded sc f w h o lot → AreNew (length w.machine.cache.ram) (driver_of w h.0).fixed o (driver_of w h.0).lots (lot ∷ [])
 added_new sc f w h o lot a =
@@ -169,7 +171,7 @@ added_before sc f w h o lot a =
       theirs = λ other i e x off here on. every.mine.owners other i e x (record { lot_in = old other here.lot_in off; entry = here.entry }) on;
       mappings = All-append IsMapping d.lots (lot ∷ []) (s.flat.bytes.drives h.0 s.lt).lots (All-cons IsMapping lot [] (record { kind = ap is_mapping a.kind }) (All-nil IsMapping));
       here = in_right lot d.lots (lot ∷ []) (inl refl);
-      loans = λ k far. ap (option_map (loan_by fx k)) (more_wanted k d.lots (lot ∷ []) (added_new sc f w h o lot a).wanted);
+      loans = λ k. ap (option_map (loan_by fx k)) (more_wanted k d.lots (lot ∷ []) (added_new sc f w h o lot a).wanted);
       kept = λ other there lent. in_left other d.lots (lot ∷ []) there;
       tokens = λ light. lots_stand sc f w h lots s.flat s.lt s.idle new.knows.names (λ other there lent. in_left other d.lots (lot ∷ []) there) (new_lent w h (lot ∷ []) (added_new sc f w h o lot a).wanted) light;
       others = all_in (λ other. is_lot lot.id other ≡ false → IsStill fx other) lots (λ other there off. all_at (IsStill fx) d.lots other s.still (old other there off));
@@ -179,7 +181,7 @@ added_before sc f w h o lot a =
 -- the lots of its name are it
 added_names : (sc : Scenario) (f : List ℕ) (w : WorldState) (h : HartNo) (lots : List Lot) (lot : Lot) → IsBefore sc f w h lots lot → lot.kind ≡ kinds.Area → NamesArea lot.id (set_side sides.Lending lot.id lots)
 added_names sc f w h lots lot b kind other there named =
-    ap (λ (l : Lot). l.kind) (set_one sides.Lending lots lot (λ l k same. its_only sc f w h lots lot l b k same) other there (ap (λ (q : LotId). q.label.0) (named_so other lot.id named))) ∙ kind
+    ap (λ (l : Lot). l.kind) (set_its sides.Lending lots lot other b.names b.here there named) ∙ kind
 
 -- ---- it opens
 
@@ -204,13 +206,14 @@ alloc_opens sc f w h o went lot a driver transfers =
     let size = sizes sc f w h s.flat s.lt in
     let unsent : is_lending_side lot.side ≡ false = ap is_lending_side (wanted_side lot.side (All-head (λ (l : Lot). is_wanted l.side ≡ true) lot [] (added_new sc f w h o lot a).wanted)) in
     let k : Allocates fx now (turned_lot sides.Lending lot) plan =
-    allocate_so fx now (turned_lot sides.Lending lot) (hand_set fx sides.Lending true lots lot b.here area b.others) (added_names sc f w h lots lot b a.kind) (zeroing_here sc f w h o s) new.knows.fixed.sized (area_entry ram fx lot new.is area)
+    allocate_so fx now (turned_lot sides.Lending lot) (hand_set fx sides.Lending true lots lot b.here area b.others) (set_others (IsStill fx) sides.Lending lot.id lots b.others) (added_names sc f w h lots lot b a.kind) (zeroing_here sc f w h o s) new.knows.fixed.sized (area_entry ram fx lot new.is area)
     (λ x y same on. area_block ram harts fx lot fx.size x y new.knows.fixed new.is area new.knows.fixed.sized same on) in
     let on_area : (i : ℕ) (e : Entry) (x : ℕ) → IsPlace lot i e x → covers (only_entry lot).span x ≡ true = λ i e x place. subst (λ (c : Entry). covers c.span x ≡ true) (sym (area_only ram fx lot i e new.is area place.entry).1) place.on in
     record {
       before = b;
       hand = s.hand;
       lends = s.lends;
+      no_copy = a.no_copy;
       driver = driver ∙ went_work (with_lots d lots) now d.saw lot.id plan k.plan.ended;
       transfers = transfers;
       lent = refl;
@@ -220,6 +223,7 @@ alloc_opens sc f w h o went lot a driver transfers =
       was = λ i. Pool;
       owned = λ i e x place. fresh_pool sc f w h lot x fresh (on_area i e x place);
       mine = λ i n is. absurd cc;
+      threads = λ i k is. absurd cc;
       unslotted = λ i e x place. area_unslotted sc f w h lot i e x s.flat s.lt new.is area place;
       area = λ i e x place over. area;
       row = λ i e x v there place c known rest row.
@@ -231,7 +235,7 @@ alloc_opens sc f w h o went lot a driver transfers =
           let allocating : AllocatingRow n v (ahead_of c n l) m x =
           subst (λ (es : List QueueEntry). AllocatingRow n v es m x) (sym ahead)
           (rows_begin.allocate m n v x (coming n lot.id plan) (k.behind n m x size on) (k.flushed n m x size on) (fresh_free sc f w h lot x fresh on) (λ g. fresh_block sc f w h lot x g fresh on) (λ g. fresh_parts sc f w h lot x g fresh on)
-          (none_named sc f w h lots lot n s.flat s.lt b.kept (λ other there same. its_only sc f w h lots lot other b there same) unsent refl) row) in
+          (none_named sc f w h lots lot n s.flat s.lt b.kept (λ other there named. its_entry sc f w h lots lot other n b there named (own_entry h lot i e place.entry)) unsent) row) in
           subst (λ (q : Option Loan). LentRow c n q v m x) (sym known)
           (either_true (is_area lot.kind) _ _ area (either_true (settling lot.id (c.rest h.0)) (AllocatingRow n v (ahead_of c n l) m x) (GivingRow n v (ahead_of c n l) m x) settles allocating));
       shown = λ i e x place c known. inl refl;
@@ -258,9 +262,9 @@ made_bytes sc f w h label count chan span a =
     let b = added_before sc f w h o lot a in
     let went = opened (with_lots d lots) o in
     let plan = calloc_steps fx lot in
-    let its_label : (l : Lot) → is_named label kinds.Area l ≡ true → l.id.label.0 ≡ label.0 = λ l is. eqb-true l.id.label.0 label.0 (and_parts (is_labelled label l) (same_kind kinds.Area l.kind) is).0 in
+    let its : is_named label kinds.Area lot ≡ true = and_from (is_labelled label lot) (same_kind kinds.Area lot.kind) (eq-eqb lot.id.label.0 label.0 refl) refl in
     let named : lot_named lots label kinds.Area ≡ Some lot =
-    find_only (is_named label kinds.Area) lots lot b.here (and_from (is_labelled label lot) (same_kind kinds.Area lot.kind) (eq-eqb lot.id.label.0 label.0 refl) refl) (λ other there is. its_only sc f w h lots lot other b there (its_label other is)) in
+    find_only (is_named label kinds.Area) lots lot b.here its (λ other there is. label_one (length w.machine.cache.ram) fx lots other lot label kinds.Area b.there b.names refl there b.here is its) in
     let so = opened_so d o lots (turns.Lend lot.id) plan (calloc_opening fx lots label count chan) (calloc_plan fx lots label count chan ∙ ap (with_lot [] (calloc_steps fx)) named) in
     let none : some_lot_waits lots ≡ false =
     list_any_none lot_waits lots
@@ -277,4 +281,4 @@ calloc_bytes sc f w h label count chan (Ok new) s e =
     let made = calloc_made d.fixed d.lots new w.owners w.pages label count chan e in
     let lot = area_lot (lot_id label 0) chan made.0 in
     subst (λ (ls : List Lot). BytesStand sc f (gone w h w.machine (placed (with_lots d (d.lots ++ ls)) o))) made.1
-    (made_bytes sc f w h label count chan made.0 (record { start = s; begins = subst (λ (ls : List Lot). begin d.fixed d.lots w.owners w.pages o ≡ Ok ls) (sym made.1) e; kind = refl }))
+    (made_bytes sc f w h label count chan made.0 (record { start = s; begins = subst (λ (ls : List Lot). begin d.fixed d.lots w.owners w.pages o ≡ Ok ls) (sym made.1) e; kind = refl; no_copy = refl }))

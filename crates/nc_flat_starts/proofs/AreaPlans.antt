@@ -41,11 +41,11 @@ use Rattle.nc_rows.specs.Rows.{is_flush, flushes, gives_block}
 use Rattle.nc_rows.proofs.Steps.{next}
 use Rattle.nc_row_plans.proofs.LendingPlans.{is_plain, Are, cbos_are, stands_some}
 use Rattle.nc_row_plans.proofs.PlanBegins.{stands_behind, covered_behind}
-use Rattle.nc_flatness.specs.Plans.{IsInHand, HasZero, LoadsFirst, IsAreaBack, Zeroes, Flushes, Settles, TakesBack, PlanGoes}
+use Rattle.nc_flatness.specs.Plans.{IsStill, IsInHand, HasZero, LoadsFirst, IsAreaBack, Zeroes, Flushes, Settles, TakesBack, PlanGoes}
 use Rattle.nc_flat_starts.proofs.PlanComes.{plain_ends, only_ops, ends_behind, silent_ops, comes_ops, ending_last, steps_append, append_steps}
 use Rattle.nc_flat_starts.proofs.PlanEnds.{EndsIn, alone_ends, alone_settles, alone_comes, only_turn}
 use Rattle.nc_flat_starts.proofs.PlanOps.{IsPlan, same_id}
-use Rattle.nc_flat_starts.proofs.Sides.{NamesArea, settled_still, area_still}
+use Rattle.nc_flat_starts.proofs.Sides.{Others, NamesArea, settled_still, area_still}
 
 -- ---- the blocks of a span rise
 
@@ -190,9 +190,9 @@ pub record Allocates (f : Fixed) (lots : List Lot) (lot : Lot) (steps : List Ste
   pub behind : (n : MapId) (m : MachineState) (x : ℕ) → f.size ≡ m.size → covers (only_entry lot).span x ≡ true → Covered (gives_block m x) (flushes m x) (names n) (coming n lot.id steps)
   pub flushed : (n : MapId) (m : MachineState) (x : ℕ) → f.size ≡ m.size → covers (only_entry lot).span x ≡ true → Stands (flushes m x) (names n) (coming n lot.id steps)
 
-pub allocate_so : (f : Fixed) (lots : List Lot) (lot : Lot) → IsInHand f lots lot true sides.Lending → NamesArea lot.id lots → IsZeroing f.effects → IsBlockSize f.size → slice_get lot.list.entries 0 ≡ Some (only_entry lot)
+pub allocate_so : (f : Fixed) (lots : List Lot) (lot : Lot) → IsInHand f lots lot true sides.Lending → Others (IsStill f) lot.id lots → NamesArea lot.id lots → IsZeroing f.effects → IsBlockSize f.size → slice_get lot.list.entries 0 ≡ Some (only_entry lot)
     → ((x y : ℕ) → y / f.size ≡ x / f.size → covers (only_entry lot).span x ≡ true → covers (only_entry lot).span y ≡ true) → Allocates f lots lot (calloc_steps f lot)
-allocate_so f lots lot hand area is size there whole =
+allocate_so f lots lot hand others area is size there whole =
     let id = lot.id in
     let span = (only_entry lot).span in
     let bs = blocks f.size span in
@@ -222,7 +222,7 @@ allocate_so f lots lot hand area is size there whole =
     subst (λ (ss : List Step). Allocates f lots lot ss) (sym (calloc_is f lot bs refl is)) (record {
       goes = zeros_go f lots lot 0 (only_entry lot) bs tail hand (record { lot_in = hand.here; entry = there })
           (λ b here x same. let p = met.only b here in whole p.0 x (same ∙ sym p.3) (covers-from span p.0 p.1 p.2)) (blocks_rise f.size span) ended settles unzeroed (cbos_first Flush bs end refl)
-          (flushings_go f lots lot bs end hand end_settles refl (Settles (record { lot = lot; hand = hand; step = refl; over = refl }), settled_still f id lots area hand.others));
+          (flushings_go f lots lot bs end hand end_settles refl (Settles (record { lot = lot; hand = hand; step = refl; over = refl }), settled_still f id lots area others));
       plan = record {
         ended = ends_behind id (zeros bs) tail ended;
         only = only_ops id (zeros bs) tail (cbos_plain Zero bs) (only_ops id (flushings bs) end (cbos_plain Flush bs) (only_turn id turn full (λ b. refl) (λ b. refl)));
@@ -249,8 +249,8 @@ pub record TakesAway (f : Fixed) (lots : List Lot) (lot : Lot) (steps : List Ste
   pub goes : PlanGoes f lots steps
   pub plan : IsPlan lot.id steps
 
-pub take_so : (f : Fixed) (lots : List Lot) (lot : Lot) (turn : Turn) → IsInHand f lots lot true sides.Returning → IsAreaBack lot.id turn → NamesArea lot.id lots → TakesAway f lots lot (fenced turn)
-take_so f lots lot turn hand back area = record {
-  goes = (TakesBack (record { lot = lot; hand = hand; turn = turn; is_back = back; step = refl; over = refl }), area_still f lot.id turn lots back area hand.others);
+pub take_so : (f : Fixed) (lots : List Lot) (lot : Lot) (turn : Turn) → IsInHand f lots lot true sides.Returning → Others (IsStill f) lot.id lots → IsAreaBack lot.id turn → NamesArea lot.id lots → TakesAway f lots lot (fenced turn)
+take_so f lots lot turn hand others back area = record {
+  goes = (TakesBack (record { lot = lot; hand = hand; turn = turn; is_back = back; step = refl; over = refl }), area_still f lot.id turn lots back area others);
   plan = record { ended = alone_ends lot.id turn (area_turns lot.id turn back); only = only_turn lot.id turn full (area_same lot.id turn back) (λ b. refl); silent = λ b. refl; first = refl };
 }

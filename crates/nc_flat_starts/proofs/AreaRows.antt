@@ -15,7 +15,6 @@ use Rattle.nc_ops.specs.declared.ops.Op.{Op}
 use Rattle.nc_rules.specs.declared.lots.Kind.{Kind}
 use Rattle.nc_rules.specs.declared.lots.Kind.TheVariants as kinds
 use Rattle.nc_rules.specs.declared.lots.Lot.{Lot}
-use Rattle.nc_rules.specs.declared.lots.LotId.{LotId}
 use Rattle.nc_rules.specs.declared.lots.Side.{Side}
 use Rattle.nc_rules.specs.declared.lots.Side.TheVariants as sides
 use Rattle.nc_rules.specs.declared.steps.Step.{Step}
@@ -27,7 +26,6 @@ use Rattle.nc_rules.specs.Turns.{is_area, set_side, of_those, to_side}
 use Rattle.nc_rules.specs.Driver.{Went, in_hand, with_lots, went_to}
 use Rattle.nc_rules.specs.World.{WorldState, driver_of}
 use Rattle.nc_scripts.specs.Drivers.{IsLotIn}
-use Rattle.nc_scripts.proofs.LotLaws.{named_so}
 use Rattle.nc_holds.specs.Held.{slots_span}
 use Rattle.nc_holds.proofs.OwnerLots.{area_covers}
 use Rattle.nc_rows.specs.Ahead.{names, settling, coming}
@@ -37,19 +35,20 @@ use Rattle.nc_rows.specs.Rows.{Loan, Book, gives_here, ahead_of, Either, Allocat
 use Rattle.nc_row_plans.proofs.PlanBegins.{rows_begin}
 use Rattle.nc_flatness.specs.Books.{book_of}
 use Rattle.nc_flatness.specs.Covered.{is_lending}
+use Rattle.nc_flatness.proofs.Copies.{is_copy}
 use Rattle.nc_flatness.specs.Flatness.{Flatness}
-use Rattle.nc_flatness.specs.Plans.{IsAreaBack}
+use Rattle.nc_flatness.specs.Plans.{IsStill, IsAreaBack}
 use Rattle.nc_flatness.specs.Tokens.{is_lending_side}
 use Rattle.nc_flat_starts.proofs.AreaPlans.{TakesAway, take_so}
-use Rattle.nc_flat_starts.proofs.Bases.{IsBase, fixed_is, base_lot, base_one}
+use Rattle.nc_flat_starts.proofs.Bases.{IsBase, fixed_is, base_lot, base_entry}
 use Rattle.nc_flat_starts.proofs.Befores.{base_before}
 use Rattle.nc_flat_starts.proofs.Frames.{IsPlace}
-use Rattle.nc_flat_starts.proofs.Lots.{loan_for}
+use Rattle.nc_flat_starts.proofs.Lots.{loan_for, own_entry}
 use Rattle.nc_flat_starts.proofs.OpenRows.{either_false, went_work}
 use Rattle.nc_flat_starts.proofs.PlanEnds.{LendingEnd, lending_end_so}
 use Rattle.nc_flat_starts.proofs.BackRows.{AreKnown, either_true}
-use Rattle.nc_flat_starts.proofs.Opens.{Opens, base_owner, side_mine}
-use Rattle.nc_flat_starts.proofs.Sides.{NamesArea, turned_lot, hand_set, set_one, set_named}
+use Rattle.nc_flat_starts.proofs.Opens.{Opens, base_owner, side_thread, side_mine}
+use Rattle.nc_flat_starts.proofs.Sides.{NamesArea, turned_lot, hand_set, set_others, set_its, set_named}
 use Rattle.nc_flat_starts.proofs.Tokens.{none_named}
 
 -- ---- where an area lies
@@ -73,7 +72,7 @@ area_unslotted sc f w h lot i e x flat lt is area place =
 -- the lots of its name are it
 names_set : (sc : Scenario) (f : List ℕ) (w : WorldState) (h : HartNo) (lots : List Lot) (lot : Lot) (side : Side) → IsBase sc f w h lots lot → is_area lot.kind ≡ true → NamesArea lot.id (set_side side lot.id lots)
 names_set sc f w h lots lot side b area other there named =
-    ap (λ (l : Lot). l.kind) (set_one side lots lot (λ l k same. base_one sc f w h lots lot l b k same) other there (ap (λ (q : LotId). q.label.0) (named_so other lot.id named))) ∙ area_kind lot.kind area
+    ap (λ (l : Lot). l.kind) (set_its side lots lot other b.each.knows.names b.here there named) ∙ area_kind lot.kind area
 
 -- ---- it is given
 
@@ -83,21 +82,22 @@ own_thread w h lot i x v own row = subst (λ (s : Side). Row (book_of w) (owner_
 own_seen : (w : WorldState) (h : HartNo) (lot : Lot) (i x : ℕ) → lot.side ≡ sides.Own → seen_at (book_of w) (owner_of_side (map_id h lot.id i) lot.side) x ≡ x
 own_seen w h lot i x own = ap (λ (s : Side). seen_at (book_of w) (owner_of_side (map_id h lot.id i) s) x) own
 
-pub give_opens : (sc : Scenario) (f : List ℕ) (w : WorldState) (h : HartNo) (o : Op) (went : Went) (lots : List Lot) (lot : Lot) → IsBase sc f w h lots lot → is_area lot.kind ≡ true → in_hand (driver_of w h.0) ≡ Some o → is_lending o ≡ true → lot.side ≡ sides.Own
+pub give_opens : (sc : Scenario) (f : List ℕ) (w : WorldState) (h : HartNo) (o : Op) (went : Went) (lots : List Lot) (lot : Lot) → IsBase sc f w h lots lot → is_area lot.kind ≡ true → in_hand (driver_of w h.0) ≡ Some o → is_lending o ≡ true → is_copy o ≡ false → lot.side ≡ sides.Own
     → went.driver ≡ went_to (with_lots (driver_of w h.0) lots) (set_side sides.Lending lot.id lots) (driver_of w h.0).saw (lending_end (driver_of w h.0).fixed lot) → went.moves.transfers ≡ of_those (to_side (driver_of w h.0).fixed.me sides.Lending) lot.id lots
     → Opens sc f w h o went lots lot sides.Lending (lending_end (driver_of w h.0).fixed lot)
-give_opens sc f w h o went lots lot b area hand lends own driver transfers =
+give_opens sc f w h o went lots lot b area hand lends no_copy own driver transfers =
     let m = w.machine in
     let d = driver_of w h.0 in
     let fx = d.fixed in
     let now = set_side sides.Lending lot.id lots in
     let plan = lending_end fx lot in
     let is = base_lot sc f w h lots lot b in
-    let k : LendingEnd fx now (turned_lot sides.Lending lot) plan = lending_end_so fx now (turned_lot sides.Lending lot) true (hand_set fx sides.Lending true lots lot b.here area b.others) (set_named sides.Lending lot.id lots) in
+    let k : LendingEnd fx now (turned_lot sides.Lending lot) plan = lending_end_so fx now (turned_lot sides.Lending lot) true (hand_set fx sides.Lending true lots lot b.here area b.others) (set_others (IsStill fx) sides.Lending lot.id lots b.others) (set_named sides.Lending lot.id lots) in
     record {
       before = base_before sc f w h lots lot b;
       hand = hand;
       lends = lends;
+      no_copy = no_copy;
       driver = driver ∙ went_work (with_lots d lots) now d.saw lot.id plan k.plan.ended;
       transfers = transfers;
       lent = refl;
@@ -107,6 +107,7 @@ give_opens sc f w h o went lots lot b area hand lends own driver transfers =
       was = λ i. owner_of_side (map_id h lot.id i) lot.side;
       owned = λ i e x place. base_owner sc f w h lots lot i e x b place;
       mine = λ i n same. side_mine h lot i n same;
+      threads = λ i k is. side_thread h lot i k is;
       unslotted = λ i e x place. area_unslotted sc f w h lot i e x b.flat b.lt is area place;
       area = λ i e x place over. area;
       row = λ i e x v there place c known rest row.
@@ -116,7 +117,7 @@ give_opens sc f w h o went lots lot b area hand lends own driver transfers =
           let settles : settling lot.id (c.rest h.0) ≡ false = ap (settling lot.id) rest ∙ k.settles in
           let giving : GivingRow n v (ahead_of c n l) m x =
           subst (λ (es : List QueueEntry). GivingRow n v es m x) (sym ahead)
-          (rows_begin.give m n v x (coming n lot.id plan) (none_named sc f w h lots lot n b.flat b.lt b.kept (λ other there same. base_one sc f w h lots lot other b there same) (ap is_lending_side own) refl)
+          (rows_begin.give m n v x (coming n lot.id plan) (none_named sc f w h lots lot n b.flat b.lt b.kept (λ other there named. base_entry sc f w h lots lot other n b there named (own_entry h lot i e place.entry)) (ap is_lending_side own))
           (covered-none (gives_here m x) is_wo (names n) (coming n lot.id plan) (k.byte m.size x n)) (k.stands n) (own_thread w h lot i x v own row)) in
           subst (λ (q : Option Loan). LentRow c n q v m x) (sym known)
           (either_true (is_area lot.kind) _ _ area (either_false (settling lot.id (c.rest h.0)) (AllocatingRow n v (ahead_of c n l) m x) (GivingRow n v (ahead_of c n l) m x) settles giving));
@@ -146,21 +147,22 @@ taken_row w h lot i e x v (inl device) area known place row =
     rows_begin.take_area w.machine h.0 v x (either_first (is_area lot.kind) (PoolRow v w.machine x) _ area was)
 taken_row w h lot i e x v (inr own) area known place row = own_thread w h lot i x v own row
 
-pub take_opens : (sc : Scenario) (f : List ℕ) (w : WorldState) (h : HartNo) (o : Op) (went : Went) (lots : List Lot) (lot : Lot) (turn : Turn) → IsBase sc f w h lots lot → is_area lot.kind ≡ true → in_hand (driver_of w h.0) ≡ Some o → is_lending o ≡ true → IsTakenSide lot → AreKnown w h lot → IsAreaBack lot.id turn
+pub take_opens : (sc : Scenario) (f : List ℕ) (w : WorldState) (h : HartNo) (o : Op) (went : Went) (lots : List Lot) (lot : Lot) (turn : Turn) → IsBase sc f w h lots lot → is_area lot.kind ≡ true → in_hand (driver_of w h.0) ≡ Some o → is_lending o ≡ true → is_copy o ≡ false → IsTakenSide lot → AreKnown w h lot → IsAreaBack lot.id turn
     → went.driver ≡ went_to (with_lots (driver_of w h.0) lots) (set_side sides.Returning lot.id lots) (driver_of w h.0).saw (fenced turn) → went.moves.transfers ≡ of_those (to_side (driver_of w h.0).fixed.me sides.Returning) lot.id lots
     → Opens sc f w h o went lots lot sides.Returning (fenced turn)
-take_opens sc f w h o went lots lot turn b area hand lends side before back driver transfers =
+take_opens sc f w h o went lots lot turn b area hand lends no_copy side before back driver transfers =
     let m = w.machine in
     let d = driver_of w h.0 in
     let fx = d.fixed in
     let now = set_side sides.Returning lot.id lots in
     let plan = fenced turn in
     let is = base_lot sc f w h lots lot b in
-    let k : TakesAway fx now (turned_lot sides.Returning lot) plan = take_so fx now (turned_lot sides.Returning lot) turn (hand_set fx sides.Returning true lots lot b.here area b.others) back (names_set sc f w h lots lot sides.Returning b area) in
+    let k : TakesAway fx now (turned_lot sides.Returning lot) plan = take_so fx now (turned_lot sides.Returning lot) turn (hand_set fx sides.Returning true lots lot b.here area b.others) (set_others (IsStill fx) sides.Returning lot.id lots b.others) back (names_set sc f w h lots lot sides.Returning b area) in
     record {
       before = base_before sc f w h lots lot b;
       hand = hand;
       lends = lends;
+      no_copy = no_copy;
       driver = driver ∙ went_work (with_lots d lots) now d.saw lot.id plan k.plan.ended;
       transfers = transfers;
       lent = refl;
@@ -170,6 +172,7 @@ take_opens sc f w h o went lots lot turn b area hand lends side before back driv
       was = λ i. owner_of_side (map_id h lot.id i) lot.side;
       owned = λ i e x place. base_owner sc f w h lots lot i e x b place;
       mine = λ i n same. side_mine h lot i n same;
+      threads = λ i k is. side_thread h lot i k is;
       unslotted = λ i e x place. area_unslotted sc f w h lot i e x b.flat b.lt is area place;
       area = λ i e x place over. area;
       row = λ i e x v there place c known rest row.

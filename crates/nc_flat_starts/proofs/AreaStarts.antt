@@ -40,6 +40,7 @@ use Rattle.nc_holds.proofs.OwnerLots.{entry_in}
 use Rattle.nc_holds.proofs.OwnerPages.{area_entry}
 use Rattle.nc_flatness.specs.Flatness.{BytesStand}
 use Rattle.nc_flatness.specs.Plans.{IsStill, StillDevice, StillSynced, StillOwn, StillSent, IsAreaBack}
+use Rattle.nc_flatness.proofs.Copies.{is_copy}
 use Rattle.nc_flatness.proofs.Outcomes.{gone}
 use Rattle.nc_flat_starts.proofs.AreaRows.{IsTakenSide, give_opens, take_opens}
 use Rattle.nc_flat_starts.proofs.Bases.{base_lot}
@@ -73,24 +74,24 @@ if_channel lot x y is = cond-false (is_own lot.side) x y (ap is_own is)
 
 -- ---- the ways in which its operation opens
 
-gives_area : (sc : Scenario) (f : List ℕ) (w : WorldState) (h : HartNo) (o : Op) (lot : Lot) (label : Label) → IsStart sc f w h o → IsThere sc f w h lot label kinds.Area → lot.side ≡ sides.Own → opening (driver_of w h.0).fixed (driver_of w h.0).lots o ≡ turns.Lend lot.id
+gives_area : (sc : Scenario) (f : List ℕ) (w : WorldState) (h : HartNo) (o : Op) (lot : Lot) (label : Label) → IsStart sc f w h o → is_copy o ≡ false → IsThere sc f w h lot label kinds.Area → lot.side ≡ sides.Own → opening (driver_of w h.0).fixed (driver_of w h.0).lots o ≡ turns.Lend lot.id
     → plan_of (driver_of w h.0).fixed (driver_of w h.0).lots o ≡ lending_end (driver_of w h.0).fixed lot → BytesStand sc f (gone w h w.machine (opened (with_lots (driver_of w h.0) (driver_of w h.0).lots) o))
-gives_area sc f w h o lot label s t own first steps =
+gives_area sc f w h o lot label s no_copy t own first steps =
     let d = driver_of w h.0 in
     let went = opened (with_lots d d.lots) o in
     let plan = lending_end d.fixed lot in
     let so = opened_so d o d.lots (turns.Lend lot.id) plan first steps in
-    opens_bytes sc f w h o went d.lots lot sides.Lending plan (give_opens sc f w h o went d.lots lot t.base (ap is_area t.its_kind) s.hand s.lends own so.driver so.transfers)
+    opens_bytes sc f w h o went d.lots lot sides.Lending plan (give_opens sc f w h o went d.lots lot t.base (ap is_area t.its_kind) s.hand s.lends no_copy own so.driver so.transfers)
 
-takes_area : (sc : Scenario) (f : List ℕ) (w : WorldState) (h : HartNo) (o : Op) (lot : Lot) (label : Label) (turn : Turn) → IsStart sc f w h o → IsThere sc f w h lot label kinds.Area → IsTakenSide lot → IsAreaBack lot.id turn
+takes_area : (sc : Scenario) (f : List ℕ) (w : WorldState) (h : HartNo) (o : Op) (lot : Lot) (label : Label) (turn : Turn) → IsStart sc f w h o → is_copy o ≡ false → IsThere sc f w h lot label kinds.Area → IsTakenSide lot → IsAreaBack lot.id turn
     → opening (driver_of w h.0).fixed (driver_of w h.0).lots o ≡ turns.Return lot.id → plan_of (driver_of w h.0).fixed (driver_of w h.0).lots o ≡ fenced turn → BytesStand sc f (gone w h w.machine (opened (with_lots (driver_of w h.0) (driver_of w h.0).lots) o))
-takes_area sc f w h o lot label turn s t side back first steps =
+takes_area sc f w h o lot label turn s no_copy t side back first steps =
     let d = driver_of w h.0 in
     let went = opened (with_lots d d.lots) o in
     let plan = fenced turn in
     let so = opened_so d o d.lots (turns.Return lot.id) plan first steps in
     opens_bytes sc f w h o went d.lots lot sides.Returning plan
-    (take_opens sc f w h o went d.lots lot turn t.base (ap is_area t.its_kind) s.hand s.lends side (known_now sc f w h lot t.base (taken_lent lot side)) back so.driver so.transfers)
+    (take_opens sc f w h o went d.lots lot turn t.base (ap is_area t.its_kind) s.hand s.lends no_copy side (known_now sc f w h lot t.base (taken_lent lot side)) back so.driver so.transfers)
 
 -- ---- each of them
 
@@ -102,13 +103,13 @@ give_bytes sc f w h label (Ok new) s e =
     let d = driver_of w h.0 in
     let o = ops.Cgive label in
     let b = area_begins d.lots new label e in
-    let t = there_so sc f w h o b.0 label kinds.Area s refl b.1 in
+    let t = there_so sc f w h o b.0 label kinds.Area s refl refl b.1 in
     let first : (turn : Turn) → give_turn b.0 ≡ turn → with_lot turns.Stay give_turn (lot_named d.lots label kinds.Area) ≡ turn = λ turn is. ap (with_lot turns.Stay give_turn) b.1 ∙ is in
     let steps : (plan : List Step) → give_steps d.fixed b.0 ≡ plan → with_lot [] (give_steps d.fixed) (lot_named d.lots label kinds.Area) ≡ plan = λ plan is. ap (with_lot [] (give_steps d.fixed)) b.1 ∙ is in
     as_made sc f w h o new s b.2
     (elim (area_still d.fixed b.0 t.its_kind t.unsent t.still) [
       | inl device ↦ stays_bytes sc f w h o s (first turns.Stay (if_channel b.0 (turns.Lend b.0.id) turns.Stay device)) (steps [] (if_channel b.0 (lending_end d.fixed b.0) [] device))
-      | inr own ↦ gives_area sc f w h o b.0 label s t own (first (turns.Lend b.0.id) (if_own b.0 (turns.Lend b.0.id) turns.Stay own)) (steps (lending_end d.fixed b.0) (if_own b.0 (lending_end d.fixed b.0) [] own))
+      | inr own ↦ gives_area sc f w h o b.0 label s refl t own (first (turns.Lend b.0.id) (if_own b.0 (turns.Lend b.0.id) turns.Stay own)) (steps (lending_end d.fixed b.0) (if_own b.0 (lending_end d.fixed b.0) [] own))
     ])
 
 pub take_bytes : (sc : Scenario) (f : List ℕ) (w : WorldState) (h : HartNo) (label : Label) (r : Result (List Lot) Refusal) → IsStart sc f w h (ops.Ctake label) → begin (driver_of w h.0).fixed (driver_of w h.0).lots w.owners w.pages (ops.Ctake label) ≡ r
@@ -119,13 +120,13 @@ take_bytes sc f w h label (Ok new) s e =
     let d = driver_of w h.0 in
     let o = ops.Ctake label in
     let b = area_begins d.lots new label e in
-    let t = there_so sc f w h o b.0 label kinds.Area s refl b.1 in
+    let t = there_so sc f w h o b.0 label kinds.Area s refl refl b.1 in
     let turn = turns.Settle b.0.id in
     let first : (k : Turn) → take_turn b.0 ≡ k → with_lot turns.Stay take_turn (lot_named d.lots label kinds.Area) ≡ k = λ k is. ap (with_lot turns.Stay take_turn) b.1 ∙ is in
     let steps : (plan : List Step) → take_steps b.0 ≡ plan → with_lot [] take_steps (lot_named d.lots label kinds.Area) ≡ plan = λ plan is. ap (with_lot [] take_steps) b.1 ∙ is in
     as_made sc f w h o new s b.2
     (elim (area_still d.fixed b.0 t.its_kind t.unsent t.still) [
-      | inl device ↦ takes_area sc f w h o b.0 label turn s t (inl device) (inl refl) (first (turns.Return b.0.id) (if_channel b.0 turns.Stay (turns.Return b.0.id) device)) (steps (fenced turn) (if_channel b.0 [] (fenced turn) device))
+      | inl device ↦ takes_area sc f w h o b.0 label turn s refl t (inl device) (inl refl) (first (turns.Return b.0.id) (if_channel b.0 turns.Stay (turns.Return b.0.id) device)) (steps (fenced turn) (if_channel b.0 [] (fenced turn) device))
       | inr own ↦ stays_bytes sc f w h o s (first turns.Stay (if_own b.0 turns.Stay (turns.Return b.0.id) own)) (steps [] (if_own b.0 [] (fenced turn) own))
     ])
 
@@ -165,7 +166,7 @@ free_bytes sc f w h label (Ok new) s e =
     let d = driver_of w h.0 in
     let o = ops.Cfree label in
     let b = free_begins d.fixed d.lots new label w.owners e in
-    let t = there_so sc f w h o b.0 label kinds.Area s refl b.1 in
+    let t = there_so sc f w h o b.0 label kinds.Area s refl refl b.1 in
     let own = owned_side sc f w h b.0 label t b.3 (area_still d.fixed b.0 t.its_kind t.unsent t.still) in
     as_made sc f w h o new s b.2
-    (takes_area sc f w h o b.0 label (turns.End b.0.id) s t (inr own) (inr refl) (ap (with_lot turns.Stay free_turn) b.1) (ap (with_lot [] free_steps) b.1))
+    (takes_area sc f w h o b.0 label (turns.End b.0.id) s refl t (inr own) (inr refl) (ap (with_lot turns.Stay free_turn) b.1) (ap (with_lot [] free_steps) b.1))

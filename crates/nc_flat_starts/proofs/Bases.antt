@@ -2,10 +2,11 @@
 -- that they got.
 use Rattle.std.specs.Prelude.{Option, Some, None, All, ◌&&◌, ◌==◌, ◌+◌, ◌*◌, ◌%◌, not, is_none, unwrap_or, Bool, true, false, slice_get}
 use Rattle.std.proofs.Common.{◌≡◌, ◌⊎◌, ℕ, ◌<◌, ◌≤◌, List, [], length, refl, sym, ap, ◌∙◌, inl, inr, subst, arith}
-use Rattle.std.proofs.lemmas.Bool.{cases_Bool, cases_eq, both_ways, cond-true, cond-false, eq-eqb, eqb-true, false_from_ne_true}
+use Rattle.std.proofs.lemmas.Bool.{and_parts, cases_Bool, cases_eq, both_ways, cond-true, cond-false, eq-eqb, eqb-true, false_from_ne_true}
 use Rattle.nc_num.specs.Places.{covers}
 use Rattle.nc_num.specs.Sizes.{IsBlockSize}
 use Rattle.nc_num.specs.declared.names.HartNo.{HartNo}
+use Rattle.nc_num.specs.declared.names.Label.{Label}
 use Rattle.nc_num.specs.declared.names.MapId.{MapId}
 use Rattle.nc_num.specs.declared.places.Span.{Span}
 use Rattle.nc_model.proofs.Faults.{covers-from, covers-low, covers-high}
@@ -21,7 +22,7 @@ use Rattle.nc_rules.specs.declared.lots.Kind.TheVariants as kinds
 use Rattle.nc_rules.specs.declared.lots.Lot.{Lot}
 use Rattle.nc_rules.specs.declared.lots.LotId.{LotId}
 use Rattle.nc_rules.specs.declared.lots.Side.TheVariants as sides
-use Rattle.nc_rules.specs.Lots.{Fixed, is_wanted, owner_of_side, lot_waits}
+use Rattle.nc_rules.specs.Lots.{Fixed, is_named, is_labelled, is_wanted, map_id, owner_of_side, same_kind, lot_waits}
 use Rattle.nc_rules.specs.Turns.{is_area}
 use Rattle.nc_rules.specs.Start.{fixed_of, hart_spec}
 use Rattle.nc_rules.specs.World.{WorldState, driver_of, hart}
@@ -38,10 +39,10 @@ use Rattle.nc_model.specs.declared.owners.Owner.{Owner}
 use Rattle.nc_rows.specs.Laws.{seen_at}
 use Rattle.nc_rows.specs.Rows.{device_place}
 use Rattle.nc_flatness.specs.Books.{loan_of, book_of}
-use Rattle.nc_flatness.specs.Flatness.{is_mapping, IsMapping, IsUnseen, Flatness}
+use Rattle.nc_flatness.specs.Flatness.{IsMapping, IsUnseen, Flatness}
 use Rattle.nc_flatness.proofs.Seen.{slot_at, seen, seen_ways, slot_slots, has_slot, of_device}
 use Rattle.nc_flatness.specs.Plans.{IsStill}
-use Rattle.nc_flat_starts.proofs.Lots.{loan_in}
+use Rattle.nc_flat_starts.proofs.Lots.{loan_in, names_entry, entry_one}
 use Rattle.nc_flat_starts.proofs.PlanOps.{IsPlanned}
 use Rattle.nc_flat_starts.proofs.Sides.{Others}
 use Rattle.nc_flat_starts.proofs.Tokens.{AreKept, WereLent}
@@ -58,8 +59,8 @@ pub record IsBase (sc : Scenario) (f : List ℕ) (w : WorldState) (h : HartNo) (
   pub mappings : All IsMapping lots
   pub here : In lot lots
   pub placed : lot_waits lot ≡ false
-  -- mappings of other labels are as they are
-  pub loans : (k : MapId) → (k.label.0 ≡ lot.id.label.0 → ⊥) → loan_in (driver_of w h.0).fixed lots k ≡ loan_of (driver_of w h.0) k
+  -- mappings are as they are
+  pub loans : (k : MapId) → loan_in (driver_of w h.0).fixed lots k ≡ loan_of (driver_of w h.0) k
   -- a lot that is lent, or was, is one of them
   pub kept : AreKept w h lots
   -- and one that is being lent was there
@@ -70,20 +71,42 @@ pub record IsBase (sc : Scenario) (f : List ℕ) (w : WorldState) (h : HartNo) (
 
 -- ---- kinds
 
-pub mapping_first : (pool : Span) (kind : Kind) (id : LotId) (es : List Entry) → is_mapping kind ≡ true → FitsKind pool kind id es → id.first ≡ 0
-mapping_first pool kinds.Single id es is fits = fits.0.first
-mapping_first pool kinds.List id es is fits = fits.0.first
-mapping_first pool kinds.Area id es is fits = fits.0.first
-mapping_first pool kinds.Copy id es is fits = absurd cc
+pub kind_is : (a b : Kind) → same_kind a b ≡ true → b ≡ a
+kind_is kinds.Single kinds.Single e = refl
+kind_is kinds.List kinds.List e = refl
+kind_is kinds.Area kinds.Area e = refl
+kind_is kinds.Copy kinds.Copy e = refl
+kind_is kinds.Single kinds.List e = absurd cc
+kind_is kinds.Single kinds.Area e = absurd cc
+kind_is kinds.Single kinds.Copy e = absurd cc
+kind_is kinds.List kinds.Single e = absurd cc
+kind_is kinds.List kinds.Area e = absurd cc
+kind_is kinds.List kinds.Copy e = absurd cc
+kind_is kinds.Area kinds.Single e = absurd cc
+kind_is kinds.Area kinds.List e = absurd cc
+kind_is kinds.Area kinds.Copy e = absurd cc
+kind_is kinds.Copy kinds.Single e = absurd cc
+kind_is kinds.Copy kinds.List e = absurd cc
+kind_is kinds.Copy kinds.Area e = absurd cc
+
+-- what a script names begins with entry 0
+named_first : (pool : Span) (kind : Kind) (id : LotId) (es : List Entry) → same_kind kinds.Copy kind ≡ false → FitsKind pool kind id es → id.first ≡ 0
+named_first pool kinds.Single id es plain fits = fits.0.first
+named_first pool kinds.List id es plain fits = fits.0.first
+named_first pool kinds.Area id es plain fits = fits.0.first
+named_first pool kinds.Copy id es plain fits = absurd cc
 
 name_is : (a b : LotId) → a.label.0 ≡ b.label.0 → a.first ≡ b.first → a ≡ b
 name_is a b label first i = record { label = record { 0 = label i }; first = first i }
 
--- lots of a hart that are mappings: those of one label are one
-pub label_one : (ram : ℕ) (f : Fixed) (lots : List Lot) (a b : Lot) → All (IsLotIn ram f) lots → All IsMapping lots → AreApart lots → In a lots → In b lots → a.id.label.0 ≡ b.id.label.0 → a ≡ b
-label_one ram f lots a b all mappings apart here there same =
-    let first : (l : Lot) → In l lots → l.id.first ≡ 0 = λ l k. mapping_first f.pool l.kind l.id l.list.entries (all_at IsMapping lots l mappings k).kind (all_at (IsLotIn ram f) lots l all k).kind in
-    same_lot lots a b apart here there (name_is a.id b.id same (first a here ∙ sym (first b there)))
+-- those of one label and one kind, which is no end of a copy, are one
+pub label_one : (ram : ℕ) (f : Fixed) (lots : List Lot) (a b : Lot) (label : Label) (kind : Kind) → All (IsLotIn ram f) lots → AreApart lots → same_kind kinds.Copy kind ≡ false → In a lots → In b lots → is_named label kind a ≡ true → is_named label kind b ≡ true → a ≡ b
+label_one ram f lots a b label kind all apart plain here there is too =
+    let its : (l : Lot) → is_named label kind l ≡ true → (l.id.label.0 ≡ label.0) × (l.kind ≡ kind) =
+    λ l k. let both = and_parts (is_labelled label l) (same_kind kind l.kind) k in (eqb-true l.id.label.0 label.0 both.0, kind_is kind l.kind both.1) in
+    let first : (l : Lot) → In l lots → is_named label kind l ≡ true → l.id.first ≡ 0 =
+    λ l k named. named_first f.pool l.kind l.id l.list.entries (ap (same_kind kinds.Copy) (its l named).1 ∙ plain) (all_at (IsLotIn ram f) lots l all k).kind in
+    same_lot lots a b apart here there (name_is a.id b.id ((its a is).0 ∙ sym (its b too).0) (first a here is ∙ sym (first b there too)))
 
 -- ---- the base
 
@@ -93,26 +116,52 @@ fixed_is sc f w h flat lt = flat.world.fixed h.0 lt
 pub me_of : (w : WorldState) (h : HartNo) → (driver_of w h.0).fixed.me.0 ≡ h.0 → (driver_of w h.0).fixed.me ≡ h
 me_of w h e i = record { 0 = e i }
 
+-- a lot of these, each entry of which that bounces has its slot
+pub record IsMember (sc : Scenario) (f : List ℕ) (w : WorldState) (h : HartNo) (lots : List Lot) (lot : Lot) : Type 0 where
+  pub flat : Flatness sc f w
+  pub lt : h.0 < length sc.harts
+  pub slots : List (Option HartNo)
+  pub each : EveryoneIn w h.0 (with_these w h.0 lots slots)
+  pub here : In lot lots
+  pub placed : lot_waits lot ≡ false
+
+pub member_of : (sc : Scenario) (f : List ℕ) (w : WorldState) (h : HartNo) (lots : List Lot) (lot : Lot) → IsBase sc f w h lots lot → IsMember sc f w h lots lot
+member_of sc f w h lots lot b = record { flat = b.flat; lt = b.lt; slots = b.slots; each = b.each; here = b.here; placed = b.placed }
+
+pub member_lot : (sc : Scenario) (f : List ℕ) (w : WorldState) (h : HartNo) (lots : List Lot) (lot : Lot) → IsMember sc f w h lots lot → IsLotIn (length w.machine.cache.ram) (driver_of w h.0).fixed lot
+member_lot sc f w h lots lot b = all_at (IsLotIn (length w.machine.cache.ram) (driver_of w h.0).fixed) lots lot b.each.knows.lots b.here
+
+pub member_lies : (sc : Scenario) (f : List ℕ) (w : WorldState) (h : HartNo) (lots : List Lot) (lot : Lot) (i : ℕ) (e : Entry) → IsMember sc f w h lots lot → is_area lot.kind ≡ false → slice_get lot.list.entries i ≡ Some e → LiesInBuffer (driver_of w h.0).fixed e.span
+member_lies sc f w h lots lot i e b plain there =
+    all_at (λ (d : Entry). LiesInBuffer (driver_of w h.0).fixed d.span) lot.list.entries e ((all_at (FitsSide (driver_of w h.0).fixed) lots lot b.each.mine.sides b.here).in_buffer plain) (at_get lot.list.entries i e there)
+
 pub base_lot : (sc : Scenario) (f : List ℕ) (w : WorldState) (h : HartNo) (lots : List Lot) (lot : Lot) → IsBase sc f w h lots lot → IsLotIn (length w.machine.cache.ram) (driver_of w h.0).fixed lot
-base_lot sc f w h lots lot b = all_at (IsLotIn (length w.machine.cache.ram) (driver_of w h.0).fixed) lots lot b.each.knows.lots b.here
+base_lot sc f w h lots lot b = member_lot sc f w h lots lot (member_of sc f w h lots lot b)
 
 -- an entry lies in a buffer, but of an area
 pub base_lies : (sc : Scenario) (f : List ℕ) (w : WorldState) (h : HartNo) (lots : List Lot) (lot : Lot) (i : ℕ) (e : Entry) → IsBase sc f w h lots lot → is_area lot.kind ≡ false → slice_get lot.list.entries i ≡ Some e → LiesInBuffer (driver_of w h.0).fixed e.span
-base_lies sc f w h lots lot i e b plain there =
-    all_at (λ (d : Entry). LiesInBuffer (driver_of w h.0).fixed d.span) lot.list.entries e ((all_at (FitsSide (driver_of w h.0).fixed) lots lot b.each.mine.sides b.here).in_buffer plain) (at_get lot.list.entries i e there)
+base_lies sc f w h lots lot i e b plain there = member_lies sc f w h lots lot i e (member_of sc f w h lots lot b) plain there
 
 -- none of its bytes is the pool's or a slot's
-pub base_beside : (sc : Scenario) (f : List ℕ) (w : WorldState) (h : HartNo) (lots : List Lot) (lot : Lot) (i : ℕ) (e : Entry) (x : ℕ) → IsBase sc f w h lots lot → is_area lot.kind ≡ false → slice_get lot.list.entries i ≡ Some e → covers e.span x ≡ true
+pub member_beside : (sc : Scenario) (f : List ℕ) (w : WorldState) (h : HartNo) (lots : List Lot) (lot : Lot) (i : ℕ) (e : Entry) (x : ℕ) → IsMember sc f w h lots lot → is_area lot.kind ≡ false → slice_get lot.list.entries i ≡ Some e → covers e.span x ≡ true
     → (covers (pool_of sc) x ≡ false) × (covers (slots_of sc) x ≡ false)
-base_beside sc f w h lots lot i e x b plain there on =
+member_beside sc f w h lots lot i e x b plain there on =
     let fx = (driver_of w h.0).fixed in
-    let lies = base_lies sc f w h lots lot i e b plain there in
+    let lies = member_lies sc f w h lots lot i e b plain there in
     let same = fixed_is sc f w h b.flat b.lt in
     let pool : fx.pool ≡ pool_of sc = ap (λ (k : Fixed). k.pool) same in
     let slots : slots_span fx ≡ slots_of sc = ap (λ (k : Fixed). slots_span k) same in (
       false_from_ne_true (covers (pool_of sc) x) (λ over. b.each.knows.regions.buffers_off_pool lies.0 x (lies.1 x on) (subst (λ (s : Span). covers s x ≡ true) (sym pool) over)),
       false_from_ne_true (covers (slots_of sc) x) (λ over. b.each.knows.regions.buffers_off_slots lies.0 x (lies.1 x on) (subst (λ (s : Span). covers s x ≡ true) (sym slots) over)),
     )
+
+pub base_beside : (sc : Scenario) (f : List ℕ) (w : WorldState) (h : HartNo) (lots : List Lot) (lot : Lot) (i : ℕ) (e : Entry) (x : ℕ) → IsBase sc f w h lots lot → is_area lot.kind ≡ false → slice_get lot.list.entries i ≡ Some e → covers e.span x ≡ true
+    → (covers (pool_of sc) x ≡ false) × (covers (slots_of sc) x ≡ false)
+base_beside sc f w h lots lot i e x b plain there on = member_beside sc f w h lots lot i e x (member_of sc f w h lots lot b) plain there on
+
+-- its owner is its hart, where it is not lent yet, or the mapping says it
+pub member_owner : (sc : Scenario) (f : List ℕ) (w : WorldState) (h : HartNo) (lots : List Lot) (lot : Lot) (i : ℕ) (e : Entry) (x : ℕ) → IsMember sc f w h lots lot → slice_get lot.list.entries i ≡ Some e → covers e.span x ≡ true → owner_of w x ≡ owner_of_side (map_id h lot.id i) lot.side
+member_owner sc f w h lots lot i e x b there on = b.each.mine.owners lot i e x (record { lot_in = b.here; entry = there }) on ∙ ap (λ (me : HartNo). owner_of_side (map_id me lot.id i) lot.side) (me_of w h b.each.me)
 
 -- ---- its slots
 
@@ -157,12 +206,12 @@ direct_off f e off = ap not (eq-eqb e.span.at (sg.device f.slots_at e).at (sym (
 slotted_off : (f : Fixed) (e : Entry) → (e.span.at ≡ (sg.device f.slots_at e).at → ⊥) → not (e.span.at == (sg.device f.slots_at e).at) ≡ true
 slotted_off f e apart = ap not (false_from_ne_true (e.span.at == (sg.device f.slots_at e).at) (λ is. apart (eqb-true e.span.at (sg.device f.slots_at e).at is)))
 
-pub base_planned : (sc : Scenario) (f : List ℕ) (w : WorldState) (h : HartNo) (lots : List Lot) (lot : Lot) → IsBase sc f w h lots lot → is_area lot.kind ≡ false → IsPlanned (driver_of w h.0).fixed lot
-base_planned sc f w h lots lot b plain =
+pub member_planned : (sc : Scenario) (f : List ℕ) (w : WorldState) (h : HartNo) (lots : List Lot) (lot : Lot) → IsMember sc f w h lots lot → is_area lot.kind ≡ false → IsPlanned (driver_of w h.0).fixed lot
+member_planned sc f w h lots lot b plain =
     let fx = (driver_of w h.0).fixed in
     let ram = length w.machine.cache.ram in
     let s = with_these w h.0 lots b.slots in
-    let is_in = base_lot sc f w h lots lot b in
+    let is_in = member_lot sc f w h lots lot b in
     let size : IsBlockSize fx.size = b.each.knows.fixed.sized in
     record {
       size = size;
@@ -172,7 +221,7 @@ base_planned sc f w h lots lot b plain =
             let slot = slot_in e (waits_not lot i e b.placed there) bounced in
             let entry = entry_in ram fx lot i e is_in there in
             let k = in_slot_so ram fx e slot.0 b.each.knows.fixed.slots_whole entry bounced slot.1 in
-            let lies = base_lies sc f w h lots lot i e b plain there in
+            let lies = member_lies sc f w h lots lot i e b plain there in
             slotted_off fx e
             (λ same. b.each.knows.regions.buffers_off_slots lies.0 e.span.at (lies.1 e.span.at (covers-from e.span e.span.at (omega arith) (omega (arith, entry.range.some))))
             (covers-from (slots_span fx) e.span.at (omega (arith, same, k.low)) (omega (arith, same, k.high, k.few, entry.range.some)))) ∙ sym bounced
@@ -189,18 +238,21 @@ base_planned sc f w h lots lot b plain =
       buffers = λ i j d e ne at_i at_j db eb x on_d on_e. ne (b.each.mine.apart lot lot i j d e x (record { lot_in = b.here; entry = at_i }) (record { lot_in = b.here; entry = at_j }) on_d on_e).entry;
     }
 
+pub base_planned : (sc : Scenario) (f : List ℕ) (w : WorldState) (h : HartNo) (lots : List Lot) (lot : Lot) → IsBase sc f w h lots lot → is_area lot.kind ≡ false → IsPlanned (driver_of w h.0).fixed lot
+base_planned sc f w h lots lot b plain = member_planned sc f w h lots lot (member_of sc f w h lots lot b) plain
+
 -- ---- the lots that it had
 
--- one of this label is the lot
-pub base_one : (sc : Scenario) (f : List ℕ) (w : WorldState) (h : HartNo) (lots : List Lot) (lot other : Lot) → IsBase sc f w h lots lot → In other lots → other.id.label.0 ≡ lot.id.label.0 → other ≡ lot
-base_one sc f w h lots lot other b there same = label_one (length w.machine.cache.ram) (driver_of w h.0).fixed lots other lot b.each.knows.lots b.mappings b.each.knows.names there b.here same
+-- one that has a mapping of the lot is the lot
+pub base_entry : (sc : Scenario) (f : List ℕ) (w : WorldState) (h : HartNo) (lots : List Lot) (lot other : Lot) (n : MapId) → IsBase sc f w h lots lot → In other lots → names_entry n other ≡ true → names_entry n lot ≡ true → other ≡ lot
+base_entry sc f w h lots lot other n b there is too = entry_one (length w.machine.cache.ram) (driver_of w h.0).fixed lots other lot n b.each.knows.lots b.each.knows.names there b.here is too
 
 -- a place that is seen in a slot is not of the slot of a lot that waits, or is synced
-pub base_unseen : (sc : Scenario) (f : List ℕ) (w : WorldState) (h : HartNo) (lots : List Lot) (lot : Lot) (i : ℕ) (e : Entry) (k z : ℕ) → IsBase sc f w h lots lot → slice_get lot.list.entries i ≡ Some e → (lot.side ≡ sides.Wanted) ⊎ (lot.side ≡ sides.Synced) → e.bounced ≡ true → e.slot ≡ Some k
+pub member_unseen : (sc : Scenario) (f : List ℕ) (w : WorldState) (h : HartNo) (lots : List Lot) (lot : Lot) (i : ℕ) (e : Entry) (k z : ℕ) → IsMember sc f w h lots lot → AreKept w h lots → slice_get lot.list.entries i ≡ Some e → (lot.side ≡ sides.Wanted) ⊎ (lot.side ≡ sides.Synced) → e.bounced ≡ true → e.slot ≡ Some k
     → covers (slot_at sc k) z ≡ true → IsUnseen (book_of w) (owner_of w) (slots_of sc) z
-base_unseen sc f w h lots lot i e k z b there side bounced slot on x off same =
+member_unseen sc f w h lots lot i e k z b all_kept there side bounced slot on x off same =
     let fx = (driver_of w h.0).fixed in
-    let few : k < sc.slots = subst (λ (n : ℕ). k < n) (ap (λ (j : Fixed). j.slots) (fixed_is sc f w h b.flat b.lt)) ((entry_in (length w.machine.cache.ram) fx lot i e (base_lot sc f w h lots lot b) there).slot k slot).few in
+    let few : k < sc.slots = subst (λ (n : ℕ). k < n) (ap (λ (j : Fixed). j.slots) (fixed_is sc f w h b.flat b.lt)) ((entry_in (length w.machine.cache.ram) fx lot i e (member_lot sc f w h lots lot b) there).slot k slot).few in
     let never : seen w x ≡ x → ⊥ = λ at. both_ways (covers (slots_of sc) x) off (ap (covers (slots_of sc)) (sym at ∙ same) ∙ slot_slots sc k z few on) in
     elim (seen_ways sc f w x b.flat) [
       | inl at ↦ never at
@@ -213,7 +265,7 @@ base_unseen sc f w h lots lot i e k z b there side bounced slot on x off same =
           elim (cases_eq p.id.hart.0 h.0) [
             | inl own ↦
                 let mine : In m.lot (driver_of w h.0).lots = subst (λ (g : ℕ). In m.lot (driver_of w g).lots) own m.here.lot_in in
-                let kept = b.kept m.lot mine m.lent in
+                let kept = all_kept m.lot mine m.lent in
                 let one = slot_once fx.me b.slots lots k lot m.lot i m.i e m.entry b.each.words (record { lot_in = b.here; entry = there }) (record { lot_in = kept; entry = m.here.entry }) slot its_slot in
                 let lot_is : lot ≡ m.lot = same_lot lots lot m.lot b.each.knows.names b.here kept one.lot in
                 elim side [
@@ -229,3 +281,7 @@ base_unseen sc f w h lots lot i e k z b there side bounced slot on x off same =
                 ne (sym theirs.me ∙ sym (slot_harts fx.me (driver_of w p.id.hart.0).fixed.me b.slots k my_word their_word) ∙ b.each.me)
           ]
     ]
+
+pub base_unseen : (sc : Scenario) (f : List ℕ) (w : WorldState) (h : HartNo) (lots : List Lot) (lot : Lot) (i : ℕ) (e : Entry) (k z : ℕ) → IsBase sc f w h lots lot → slice_get lot.list.entries i ≡ Some e → (lot.side ≡ sides.Wanted) ⊎ (lot.side ≡ sides.Synced) → e.bounced ≡ true → e.slot ≡ Some k
+    → covers (slot_at sc k) z ≡ true → IsUnseen (book_of w) (owner_of w) (slots_of sc) z
+base_unseen sc f w h lots lot i e k z b there side bounced slot on = member_unseen sc f w h lots lot i e k z (member_of sc f w h lots lot b) b.kept there side bounced slot on

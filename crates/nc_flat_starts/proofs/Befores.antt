@@ -1,8 +1,8 @@
 -- The lots of a hart just before a turn of one of them, with no plan in hand: what stays beside that lot.
-use Rattle.std.specs.Prelude.{Option, Some, None, All, true, slice_get}
+use Rattle.std.specs.Prelude.{Option, Some, None, All, true, false, slice_get}
 use Rattle.std.specs.List.{list_any}
 use Rattle.std.proofs.Common.{◌≡◌, ℕ, ◌<◌, List, [], length, refl, sym, ap, ◌∙◌, inl, inr, subst, arith}
-use Rattle.std.proofs.lemmas.Bool.{both_ways}
+use Rattle.std.proofs.lemmas.Bool.{both_ways, false_from_ne_true}
 use Rattle.nc_num.specs.Places.{covers}
 use Rattle.nc_num.specs.declared.names.HartNo.{HartNo}
 use Rattle.nc_num.specs.declared.names.MapId.{MapId}
@@ -17,16 +17,18 @@ use Rattle.nc_scen.specs.declared.scenario.Scenario.{Scenario}
 use Rattle.nc_rules.specs.declared.lots.Lot.{Lot}
 use Rattle.nc_rules.specs.declared.lots.LotId.{LotId}
 use Rattle.nc_rules.specs.declared.steps.Step.{Step}
+use Rattle.nc_rules.specs.Lots.{is_lot}
 use Rattle.nc_rules.specs.Machine.{queue_of}
 use Rattle.nc_rules.specs.Watched.{owner_of}
 use Rattle.nc_rules.specs.World.{WorldState, driver_of}
 use Rattle.nc_scripts.specs.Drivers.{IsLotIn, AreApart}
 use Rattle.nc_scripts.proofs.Lists.{all_to}
+use Rattle.nc_scripts.proofs.LotLaws.{its_name}
 use Rattle.nc_holds.specs.Held.{EntriesAreApart}
-use Rattle.nc_holds.proofs.ListsA.{all_at}
+use Rattle.nc_holds.proofs.OwnerLots.{same_named}
 use Rattle.nc_holds.proofs.OwnerSides.{OthersOwn}
 use Rattle.nc_calls.specs.PlaceLaws.{NotHeld}
-use Rattle.nc_rows.specs.Ahead.{is_full, settling, coming}
+use Rattle.nc_rows.specs.Ahead.{same_lot, is_full, settling, coming}
 use Rattle.nc_rows.specs.Laws.{seen_at, place_of}
 use Rattle.nc_rows.specs.Rows.{Loan, Book, ahead_of}
 use Rattle.nc_rows.specs.Parts.{IsQueued, IsAllocating, MayBeHeld}
@@ -39,9 +41,9 @@ use Rattle.nc_flatness.proofs.BookReads.{pool_unheld}
 use Rattle.nc_flatness.proofs.Loans.{IsLoan, loan_is}
 use Rattle.nc_flatness.proofs.Owned.{mapped}
 use Rattle.nc_flatness.proofs.Tokens.{unended_settling}
-use Rattle.nc_flat_starts.proofs.Bases.{IsBase, me_of, mapping_first, label_one}
+use Rattle.nc_flat_starts.proofs.Bases.{IsBase, me_of}
 use Rattle.nc_flat_starts.proofs.Frames.{IsOff, SameRest}
-use Rattle.nc_flat_starts.proofs.Lots.{loan_in}
+use Rattle.nc_flat_starts.proofs.Lots.{loan_in, names_entry, entry_named, entry_one, FarFrom}
 use Rattle.nc_flat_starts.proofs.PlanComes.{EndsOnly, only_far}
 use Rattle.nc_flat_starts.proofs.Sides.{Others}
 use Rattle.nc_flat_starts.proofs.Tokens.{AreKept, lots_stand}
@@ -58,7 +60,7 @@ pub record IsBefore (sc : Scenario) (f : List ℕ) (w : WorldState) (h : HartNo)
   pub theirs : OthersOwn (driver_of w h.0).fixed.me w.owners lot.id lots
   pub mappings : All IsMapping lots
   pub here : In lot lots
-  pub loans : (k : MapId) → (k.label.0 ≡ lot.id.label.0 → ⊥) → loan_in (driver_of w h.0).fixed lots k ≡ loan_of (driver_of w h.0) k
+  pub loans : (k : MapId) → loan_in (driver_of w h.0).fixed lots k ≡ loan_of (driver_of w h.0) k
   pub kept : AreKept w h lots
   pub tokens : (driver_of w h.0).fixed.light ≡ true → All (TokenStands [] (queue_of w.machine h.0)) lots
   pub others : Others (IsStill (driver_of w h.0).fixed) lot.id lots
@@ -85,22 +87,18 @@ base_before sc f w h lots lot b = record {
 pub driven : (sc : Scenario) (f : List ℕ) (w : WorldState) (h : HartNo) → Flatness sc f w → h.0 < length sc.harts → h.0 < length w.drivers
 driven sc f w h flat lt = omega (arith, lt, flat.world.of_scenario.harts, flat.world.holds.drivers)
 
-pub its_mapping : (sc : Scenario) (f : List ℕ) (w : WorldState) (h : HartNo) (lots : List Lot) (lot : Lot) → IsBefore sc f w h lots lot → IsMapping lot
-its_mapping sc f w h lots lot b = all_at IsMapping lots lot b.mappings b.here
+-- one that has a mapping of the lot is the lot
+pub its_entry : (sc : Scenario) (f : List ℕ) (w : WorldState) (h : HartNo) (lots : List Lot) (lot other : Lot) (n : MapId) → IsBefore sc f w h lots lot → In other lots → names_entry n other ≡ true → names_entry n lot ≡ true → other ≡ lot
+its_entry sc f w h lots lot other n b there is too = entry_one (length w.machine.cache.ram) (driver_of w h.0).fixed lots other lot n b.there b.names there b.here is too
 
-pub its_first : (sc : Scenario) (f : List ℕ) (w : WorldState) (h : HartNo) (lots : List Lot) (lot : Lot) → IsBefore sc f w h lots lot → lot.id.first ≡ 0
-its_first sc f w h lots lot b =
-    let fx = (driver_of w h.0).fixed in
-    mapping_first fx.pool lot.kind lot.id lot.list.entries (its_mapping sc f w h lots lot b).kind (all_at (IsLotIn (length w.machine.cache.ram) fx) lots lot b.there b.here).kind
-
--- one of this label is the lot
-pub its_only : (sc : Scenario) (f : List ℕ) (w : WorldState) (h : HartNo) (lots : List Lot) (lot other : Lot) → IsBefore sc f w h lots lot → In other lots → other.id.label.0 ≡ lot.id.label.0 → other ≡ lot
-its_only sc f w h lots lot other b there same = label_one (length w.machine.cache.ram) (driver_of w h.0).fixed lots other lot b.there b.mappings b.names there b.here same
+-- and so is one of its name
+its_named : (sc : Scenario) (f : List ℕ) (w : WorldState) (h : HartNo) (lots : List Lot) (lot other : Lot) → IsBefore sc f w h lots lot → In other lots → is_lot lot.id other ≡ true → other ≡ lot
+its_named sc f w h lots lot other b there is = same_named lots lot.id other lot b.names there b.here is (its_name lot lot.id refl)
 
 -- ---- the hart's other mappings
 
--- what is to come of a mapping where the plan ends the stay of a lot of another label alone
-pub rest_aside : (k : MapId) (id other : LotId) (plan before behind : List Step) → EndsOnly id plan → (other.label.0 ≡ id.label.0 → ⊥) → before ≡ [] → behind ≡ plan → SameRest k other before behind
+-- what is to come of a mapping where the plan ends the stay of another lot alone
+pub rest_aside : (k : MapId) (id other : LotId) (plan before behind : List Step) → EndsOnly id plan → (same_lot other id ≡ true → ⊥) → before ≡ [] → behind ≡ plan → SameRest k other before behind
 rest_aside k id other plan before behind only far idle left =
     let none = only_far id other plan only far in
     record {
@@ -115,24 +113,34 @@ rest_none k other before behind idle left = record {
   settles = ap (λ (ss : List Step). settling other ss) left ∙ sym (ap (λ (ss : List Step). settling other ss) idle);
 }
 
--- a mapping with a place beside the lot has another label
-pub far_loan : (sc : Scenario) (f : List ℕ) (w : WorldState) (h : HartNo) (lots : List Lot) (lot : Lot) (x : ℕ) (k : MapId) (l : Loan) → IsBefore sc f w h lots lot → IsOff lot x → k.hart.0 ≡ h.0 → IsLoan w k l → covers l.grant.buffer x ≡ true → k.label.0 ≡ lot.id.label.0 → ⊥
-far_loan sc f w h lots lot x k l b off own is on same =
+-- a mapping with a place beside the lot is none of it
+pub far_loan : (sc : Scenario) (f : List ℕ) (w : WorldState) (h : HartNo) (lots : List Lot) (lot : Lot) (x : ℕ) (k : MapId) (l : Loan) → IsBefore sc f w h lots lot → IsOff lot x → k.hart.0 ≡ h.0 → IsLoan w k l → covers l.grant.buffer x ≡ true → names_entry k lot ≡ false
+far_loan sc f w h lots lot x k l b off own is on =
+    false_from_ne_true (names_entry k lot)
+    (λ named.
     let here : In is.lot (driver_of w h.0).lots = subst (λ (g : ℕ). In is.lot (driver_of w g).lots) own is.here.lot_in in
-    let one = its_only sc f w h lots lot is.lot b (b.kept is.lot here is.lent) (is.label ∙ same) in
-    off is.i is.entry (record { entry = subst (λ (j : Lot). slice_get j.list.entries is.i ≡ Some is.entry) one is.here.entry; on = subst (λ (s : Span). covers s x ≡ true) is.buffer on })
+    let one = its_entry sc f w h lots lot is.lot k b (b.kept is.lot here is.lent) (entry_named k is.lot is.entry_of) named in
+    off is.i is.entry (record { entry = subst (λ (j : Lot). slice_get j.list.entries is.i ≡ Some is.entry) one is.here.entry; on = subst (λ (s : Span). covers s x ≡ true) is.buffer on }))
 
-pub far_mapping : (sc : Scenario) (f : List ℕ) (w : WorldState) (h : HartNo) (lots : List Lot) (lot : Lot) (x : ℕ) (k : MapId) → IsBefore sc f w h lots lot → x < sc.ram → IsOff lot x → mapping_in (owner_of w x) ≡ Some k → k.hart.0 ≡ h.0 → k.label.0 ≡ lot.id.label.0 → ⊥
+pub far_mapping : (sc : Scenario) (f : List ℕ) (w : WorldState) (h : HartNo) (lots : List Lot) (lot : Lot) (x : ℕ) (k : MapId) → IsBefore sc f w h lots lot → x < sc.ram → IsOff lot x → mapping_in (owner_of w x) ≡ Some k → k.hart.0 ≡ h.0 → names_entry k lot ≡ false
 far_mapping sc f w h lots lot x k b there off is own =
     let m = mapped sc f w k x b.flat there is in
     far_loan sc f w h lots lot x k m.loan b off own m.is m.on
 
+pub far_from : (sc : Scenario) (f : List ℕ) (w : WorldState) (h : HartNo) (lots : List Lot) (lot : Lot) (k : MapId) → IsBefore sc f w h lots lot → names_entry k lot ≡ false → FarFrom k lot.id lots
+far_from sc f w h lots lot k b far other there is = subst (λ (l : Lot). names_entry k l ≡ false) (sym (its_named sc f w h lots lot other b there is)) far
+
 -- so nothing is to come of one where the plan is of the lot
-pub far_rest : (sc : Scenario) (f : List ℕ) (w : WorldState) (h : HartNo) (id : LotId) (k : MapId) (l : Loan) (plan behind : List Step) → Flatness sc f w → (driver_of w h.0).rest ≡ [] → EndsOnly id plan → behind ≡ plan → k.hart.0 ≡ h.0 → loan_of (driver_of w h.0) k ≡ Some l → (k.label.0 ≡ id.label.0 → ⊥)
+pub far_rest : (sc : Scenario) (f : List ℕ) (w : WorldState) (h : HartNo) (lots : List Lot) (lot : Lot) (k : MapId) (l : Loan) (plan behind : List Step) → IsBefore sc f w h lots lot → EndsOnly lot.id plan → behind ≡ plan → k.hart.0 ≡ h.0 → loan_of (driver_of w h.0) k ≡ Some l → names_entry k lot ≡ false
     → SameRest k l.lot (driver_of w h.0).rest behind
-far_rest sc f w h id k l plan behind flat idle only left own known far =
-    let is = loan_is sc f w k l flat (ap (λ (g : ℕ). loan_of (driver_of w g) k) own ∙ known) in
-    rest_aside k id l.lot plan (driver_of w h.0).rest behind only (λ same. far (sym (ap (λ (i : LotId). i.label.0) is.lot_is ∙ is.label) ∙ same)) idle left
+far_rest sc f w h lots lot k l plan behind b only left own known far =
+    let is = loan_is sc f w k l b.flat (ap (λ (g : ℕ). loan_of (driver_of w g) k) own ∙ known) in
+    let here : In is.lot (driver_of w h.0).lots = subst (λ (g : ℕ). In is.lot (driver_of w g).lots) own is.here.lot_in in
+    rest_aside k lot.id l.lot plan (driver_of w h.0).rest behind only
+    (λ same.
+    let named : is_lot lot.id is.lot ≡ true = subst (λ (i : LotId). same_lot i lot.id ≡ true) is.lot_is same in
+    let one = its_named sc f w h lots lot is.lot b (b.kept is.lot here is.lent) named in
+    both_ways (names_entry k lot) far (subst (λ (j : Lot). names_entry k j ≡ true) one (entry_named k is.lot is.entry_of))) b.idle left
 
 -- what the book knows of a mapping of the hart
 pub known_here : (w : WorldState) (h : HartNo) (k : MapId) (l : Loan) → k.hart.0 ≡ h.0 → (book_of w).loan k ≡ Some l → loan_of (driver_of w h.0) k ≡ Some l

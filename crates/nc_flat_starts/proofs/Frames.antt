@@ -1,6 +1,6 @@
 -- A driver goes on, and with it no machine but what its hart issues: the entries of one lot change their owner, or keep it,
 -- and no other place does.
-use Rattle.std.specs.Prelude.{Option, Some, None, All, true, false, slice_get}
+use Rattle.std.specs.Prelude.{Option, Some, None, All, Bool, true, false, slice_get}
 use Rattle.std.specs.List.{list_any}
 use Rattle.std.proofs.Common.{◌≡◌, ◌≢◌, ◌⊎◌, ℕ, zero, suc, ◌<◌, List, [], ◌∷◌, length, refl, sym, ap, ◌∙◌, inl, inr, subst}
 use Rattle.std.proofs.lemmas.Bool.{cases_Bool, cases_eq, both_ways}
@@ -23,7 +23,7 @@ use Rattle.nc_rules.specs.declared.lots.Lot.{Lot}
 use Rattle.nc_rules.specs.declared.lots.LotId.{LotId}
 use Rattle.nc_rules.specs.declared.steps.Step.{Step}
 use Rattle.nc_rules.specs.Lots.{Fixed, map_id}
-use Rattle.nc_rules.specs.Machine.{MachineState, hart_of, queue_of}
+use Rattle.nc_rules.specs.Machine.{MachineState, hart_of, queue_of, channel_of, grantee_of}
 use Rattle.nc_rules.specs.Driver.{DriverState, Went}
 use Rattle.nc_rules.specs.Watched.{owner_of}
 use Rattle.nc_rules.specs.World.{WorldState, driver_of, no_driver, owners_moved}
@@ -33,6 +33,7 @@ use Rattle.nc_rows.specs.Rows.{Loan, Book, Row}
 use Rattle.nc_rows.specs.Parts.{IsQueued, MayBeHeld, rest_last, LastIs}
 use Rattle.nc_calls.specs.PlaceLaws.{NotHeld}
 use Rattle.nc_flatness.specs.Books.{loan_of, number_in, book_of, mapping_in, LiesIn, IsPooled}
+use Rattle.nc_flatness.specs.Copying.{CopyStands}
 use Rattle.nc_flatness.specs.Flatness.{Drives, IsUnseen, BytesStand}
 use Rattle.nc_flatness.specs.Tokens.{TokenStands}
 use Rattle.nc_flatness.proofs.Outcomes.{gone}
@@ -89,9 +90,11 @@ pub record GoesBy (w : WorldState) (h : HartNo) (m : MachineState) : Type 0 wher
   pub lasts : (g : ℕ) → g ≢ h.0 → (hart_of m g).last ≡ (hart_of w.machine g).last
   pub unfenced : list_any is_full (queue_of m h.0) ≡ false
   pub free : (x : ℕ) → covers w.machine.pool x ≡ true → NotHeld w.machine x → NotHeld m x
+  -- a channel of another hart stays, and stays that hart's
+  pub channels : (c : ℕ) (k : HartNo) → grantee_of w.machine c ≡ Some k → k.0 ≢ h.0 → (channel_of m c ≡ channel_of w.machine c) × (grantee_of m c ≡ Some k)
 
 pub goes_still : (sc : Scenario) (f : List ℕ) (w : WorldState) (h : HartNo) → BytesStand sc f w → GoesBy w h w.machine
-goes_still sc f w h s = record { size = refl; pool = refl; queues = λ g ne. refl; lasts = λ g ne. refl; unfenced = s.unfenced h.0; free = λ x over free. free }
+goes_still sc f w h s = record { size = refl; pool = refl; queues = λ g ne. refl; lasts = λ g ne. refl; unfenced = s.unfenced h.0; free = λ x over free. free; channels = λ c k granted ne. (refl, granted) }
 
 -- a mapping of this owner has nothing to come
 abbrev pub IsRestful : Owner → Type 0
@@ -112,6 +115,11 @@ pub record SameRest (k : MapId) (id : LotId) (before behind : List Step) : Type 
 abbrev pub IsAside : WorldState → HartNo → Went → Owner → MapId → Type 0
 IsAside w h went o k = IsRestful o ⊎ ((l : Loan) → loan_of (driver_of w h.0) k ≡ Some l → SameRest k l.lot (driver_of w h.0).rest went.driver.rest)
 
+-- less is to come of a mapping that is no area, and the row of its place goes on with it
+pub record GoesAlong (f : List ℕ) (w : WorldState) (h : HartNo) (m : MachineState) (went : Went) (x : ℕ) (k : MapId) : Type 0 where
+  pub plain : (l : Loan) → loan_of (driver_of w h.0) k ≡ Some l → l.area ≡ false
+  pub row : Row (book_of w) (owner_of w x) (byte f x) w.machine x → Row (book_of (gone w h m went)) (owner_of w x) (byte f x) m x
+
 -- flat memory goes on from f to g, and no place beside the lot has another byte
 pub record Rewrites (sc : Scenario) (f g : List ℕ) (w : WorldState) (h : HartNo) (lot : Lot) : Type 0 where
   pub size : length g ≡ length f
@@ -127,8 +135,12 @@ pub record Turns (sc : Scenario) (f g : List ℕ) (w : WorldState) (h : HartNo) 
   pub off : (x : ℕ) → IsOff lot x → owner_in (owners_moved w.owners went.moves.transfers) x ≡ owner_of w x
   pub unslotted : (i : ℕ) (e : Entry) (x : ℕ) → IsPlace lot i e x → covers (slots_of sc) x ≡ false
   pub mine : (i : ℕ) (e : Entry) (x : ℕ) (k : MapId) → IsPlace lot i e x → mapping_in (owner_of w x) ≡ Some k → k.hart.0 ≡ h.0
-  -- the hart's other mappings stay, and what is to come of them does
-  pub others : (x : ℕ) (k : MapId) → x < sc.ram → IsOff lot x → mapping_in (owner_of w x) ≡ Some k → k.hart.0 ≡ h.0 → (loan_of went.driver k ≡ loan_of (driver_of w h.0) k) × IsAside w h went (owner_of w x) k
+  pub threads : (i : ℕ) (e : Entry) (x : ℕ) (k : HartNo) → IsPlace lot i e x → owner_of w x ≡ Thread k → k.0 ≡ h.0
+  -- the hart's mappings that go along with the lot, and are not of it
+  pub along : MapId → Bool
+  -- its other mappings stay, and what is to come of them does, but of those that go along
+  pub others : (x : ℕ) (k : MapId) → x < sc.ram → IsOff lot x → mapping_in (owner_of w x) ≡ Some k → k.hart.0 ≡ h.0 → (loan_of went.driver k ≡ loan_of (driver_of w h.0) k) × (along k ≡ false → IsAside w h went (owner_of w x) k)
+  pub goes_along : (x : ℕ) (k : MapId) → x < sc.ram → covers (slots_of sc) x ≡ false → IsOff lot x → mapping_in (owner_of w x) ≡ Some k → k.hart.0 ≡ h.0 → along k ≡ true → GoesAlong f w h m went x k
   -- so do its other areas
   pub areas : (x : ℕ) (k : MapId) (l : Loan) → IsOff lot x → k.hart.0 ≡ h.0 → (book_of w).loan k ≡ Some l → l.area ≡ true → covers l.grant.buffer x ≡ true → loan_of went.driver k ≡ Some l
   -- a place of the lot that is one of the coherent pool
@@ -141,10 +153,13 @@ pub record Turns (sc : Scenario) (f g : List ℕ) (w : WorldState) (h : HartNo) 
   pub lasting : LastIs (book_of (gone w h m went)) g h.0 (hart_of m h.0).last (rest_last went.driver.rest)
   pub queue : All (IsQueued (book_of (gone w h m went)) (owner_of (gone w h m went)) m.pool m.size h.0) (queue_of m h.0)
   pub tokens : went.driver.fixed.light ≡ true → All (TokenStands went.driver.rest (queue_of m h.0)) went.driver.lots
-  pub passes : (x v : ℕ) → x < sc.ram → covers (slots_of sc) x ≡ false → IsOff lot x → Row (book_of w) (owner_of w x) v w.machine x → Row (book_of w) (owner_of w x) v m x
+  pub passes : (x v : ℕ) → x < sc.ram → covers (slots_of sc) x ≡ false → IsOff lot x → ((k : MapId) → mapping_in (owner_of w x) ≡ Some k → k.hart.0 ≡ h.0 → along k ≡ false)
+      → Row (book_of w) (owner_of w x) v w.machine x → Row (book_of w) (owner_of w x) v m x
   pub lies : (i : ℕ) (e : Entry) (x : ℕ) (k : MapId) → x < sc.ram → IsPlace lot i e x → mapping_in (to (map_id h lot.id i)) ≡ Some k → LiesIn ((book_of (gone w h m went)).loan k) x
   pub row : (i : ℕ) (e : Entry) (x : ℕ) → x < sc.ram → IsPlace lot i e x → Row (book_of w) (owner_of w x) (byte f x) w.machine x → Row (book_of (gone w h m went)) (to (map_id h lot.id i)) (byte g x) m x
   pub calm : (z : ℕ) → covers (slots_of sc) z ≡ true → IsUnseen (book_of (gone w h m went)) (owner_of (gone w h m went)) (slots_of sc) z → CalmRow m z
+  -- the copy that it has in hand
+  pub copying : CopyStands sc g (gone w h m went) h.0
 
 -- ---- the drivers behind
 
@@ -187,11 +202,14 @@ loan_alike w h m went k (Some l) ne =
 abbrev pub StaysAside : WorldState → HartNo → Went → Owner → MapId → Type 0
 StaysAside w h went o k = k.hart.0 ≡ h.0 → (loan_of went.driver k ≡ loan_of (driver_of w h.0) k) × IsAside w h went o k
 
-pub loan_aside : (w : WorldState) (h : HartNo) (m : MachineState) (went : Went) (o : Owner) (k : MapId) → h.0 < length w.drivers → StaysAside w h went o k → (book_of (gone w h m went)).loan k ≡ (book_of w).loan k
-loan_aside w h m went o k lt aside = elim (cases_eq k.hart.0 h.0) [
-  | inl own ↦ loan_hart w h m went k lt own ∙ (aside own).0 ∙ ap (λ (g : ℕ). loan_of (driver_of w g) k) (sym own)
+pub loan_stays : (w : WorldState) (h : HartNo) (m : MachineState) (went : Went) (k : MapId) → h.0 < length w.drivers → (k.hart.0 ≡ h.0 → loan_of went.driver k ≡ loan_of (driver_of w h.0) k) → (book_of (gone w h m went)).loan k ≡ (book_of w).loan k
+loan_stays w h m went k lt stays = elim (cases_eq k.hart.0 h.0) [
+  | inl own ↦ loan_hart w h m went k lt own ∙ stays own ∙ ap (λ (g : ℕ). loan_of (driver_of w g) k) (sym own)
   | inr ne ↦ loan_there w h m went k ne
 ]
+
+pub loan_aside : (w : WorldState) (h : HartNo) (m : MachineState) (went : Went) (o : Owner) (k : MapId) → h.0 < length w.drivers → StaysAside w h went o k → (book_of (gone w h m went)).loan k ≡ (book_of w).loan k
+loan_aside w h m went o k lt aside = loan_stays w h m went k lt (λ own. (aside own).0)
 
 rest_same : (w : WorldState) (h : HartNo) (m : MachineState) (went : Went) (k : MapId) (o : Option Loan) → h.0 < length w.drivers → k.hart.0 ≡ h.0 → ((l : Loan) → o ≡ Some l → SameRest k l.lot (driver_of w h.0).rest went.driver.rest)
     → SameLoan (book_of w) (book_of (gone w h m went)) k o

@@ -30,4 +30,4 @@ lending_starts (ops.Run chan) is = absurd cc
 lending_starts (ops.Poll chan) is = absurd cc
 lending_starts (ops.Regr chan off width) is = absurd cc
 lending_starts (ops.Regw chan off width value) is = absurd cc
-lending_starts (ops.Copy chan src src_off dst dst_off len cfg) is = absurd cc
+lending_starts (ops.Copy chan src src_off dst dst_off len cfg) is = refl

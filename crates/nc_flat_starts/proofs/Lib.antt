@@ -2,6 +2,7 @@ pub mod BookRows
 pub mod Effects
 pub mod Frames
 pub mod TurnBytes
+pub mod CopyRanges
 pub mod Pieces
 pub mod PlanComes
 pub mod Sides
@@ -9,6 +10,7 @@ pub mod PlanOps
 pub mod PlanEnds
 pub mod PlansGo
 pub mod ReturnsGo
+pub mod CopyPlans
 pub mod Lots
 pub mod Blocks
 pub mod Tokens

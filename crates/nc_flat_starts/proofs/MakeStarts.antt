@@ -1,10 +1,11 @@
--- The starts of operations that make a mapping or a scatter list.
+-- The starts of operations that make a mapping, a scatter list or the ends of a copy.
 use Rattle.std.specs.Prelude.{Some, All, Result, Ok, Err, true, option_map, flat_map}
-use Rattle.std.proofs.Common.{◌≡◌, ◌⊎◌, ℕ, List, [], ◌∷◌, ◌++◌, length, refl, sym, ap, ◌∙◌, inl, inr, subst}
+use Rattle.std.proofs.Common.{◌≡◌, ℕ, List, [], ◌∷◌, ◌++◌, length, refl, sym, ap, ◌∙◌, inl, inr, subst}
 use Rattle.std.proofs.lemmas.Bool.{both_ways}
 use Rattle.std.proofs.lemmas.List.Elements.{All-nil, All-cons, All-append}
 use Rattle.nc_num.specs.declared.names.ChanNo.{ChanNo}
 use Rattle.nc_num.specs.declared.names.Dir.{Dir}
+use Rattle.nc_num.specs.declared.names.Dir.TheVariants.{ToDev, FromDev}
 use Rattle.nc_num.specs.declared.names.HartNo.{HartNo}
 use Rattle.nc_num.specs.declared.names.Label.{Label}
 use Rattle.nc_queue.specs.Rules.{lends}
@@ -21,6 +22,7 @@ use Rattle.nc_rules.specs.declared.lots.Kind.TheVariants as kinds
 use Rattle.nc_rules.specs.declared.lots.Lot.{Lot}
 use Rattle.nc_rules.specs.Lots.{Fixed, lot_id, is_wanted, slots_held, ranges_lot}
 use Rattle.nc_rules.specs.Refusals.{◌>>=◌, all_some, ranges_of, unused, owned_from, lendable, placeable}
+use Rattle.nc_rules.specs.Copies.{source, target}
 use Rattle.nc_rules.specs.Mappings as mappings
 use Rattle.nc_rules.specs.Mappings.{with_lot, needs_lot, unmap_turn, unmap_steps, to_cpu_turn, to_cpu_steps, to_dev_turn, to_dev_steps}
 use Rattle.nc_rules.specs.ScatterLists as lists
@@ -42,11 +44,13 @@ use Rattle.nc_holds.proofs.ListsA.{all_at, of_append}
 use Rattle.nc_holds.proofs.OwnerFacts.{NoAreas}
 use Rattle.nc_holds.proofs.OwnerGiven.{owner_laws}
 use Rattle.nc_flatness.specs.Books.{loan_by}
+use Rattle.nc_flatness.specs.Copying.{CopyOp, copy_op}
 use Rattle.nc_flatness.specs.Flatness.{is_mapping, IsMapping, makes_kind, IsStillOrMade, BytesStand}
 use Rattle.nc_flatness.specs.Plans.{IsStill}
 use Rattle.nc_flatness.specs.Tokens.{is_lending_side}
 use Rattle.nc_flatness.proofs.Outcomes.{gone}
-use Rattle.nc_flat_starts.proofs.Calls.{wanted_side, IsCall, gives_bytes, Makes, OneMap, ListMap, placed_bytes}
+use Rattle.nc_flat_starts.proofs.Calls.{wanted_side, IsCall, gives_bytes, Makes, OneMap, ListMap, TwoEnds, placed_bytes}
+use Rattle.nc_flat_starts.proofs.CopyRanges.{copy_begun, ranged_begun}
 use Rattle.nc_flat_starts.proofs.Lots.{more_wanted}
 use Rattle.nc_flat_starts.proofs.Tokens.{WereLent}
 use Rattle.nc_flat_starts.proofs.Starts.{IsStart, short, holds_here, as_wanted}
@@ -74,26 +78,41 @@ list_kinds f lots new os pages label es dir chan e =
     let p = passed (some_entries es) (λ _. ranges_begin f lots label kinds.List dir chan os es) new e in
     ranges_kind f lots label kinds.List dir chan os es new p.rest
 
+copy_kinds : (f : Fixed) (lots new : List Lot) (os : List Owner) (pages : PageMap) (k : CopyOp) → begin f lots os pages (copy_op k) ≡ Ok new → All (λ lot. lot.kind ≡ kinds.Copy) new
+copy_kinds f lots new os pages k e =
+    let b = copy_begun f lots new os pages k e in
+    let s = ranges_lot f source kinds.Copy ToDev k.chan (b.from ∷ []) in
+    let t = ranges_lot f target kinds.Copy FromDev k.chan (b.to ∷ []) in
+    subst (λ (ls : List Lot). All (λ lot. lot.kind ≡ kinds.Copy) ls) b.new_is (All-cons (λ (l : Lot). l.kind ≡ kinds.Copy) s (t ∷ []) refl (All-cons (λ (l : Lot). l.kind ≡ kinds.Copy) t [] refl (All-nil (λ (l : Lot). l.kind ≡ kinds.Copy))))
+
 -- of which kind they are
 pub record NewKinds (o : Op) (new : List Lot) : Type 0 where
   pub made : All (λ lot. makes_kind o lot.kind ≡ true) new
   pub mapping : (f : Fixed) → All IsMapping new
 
-kinds_so : (o : Op) (new : List Lot) (kind : Kind) → All (λ lot. lot.kind ≡ kind) new → makes_kind o kind ≡ true → (kind ≡ kinds.Single) ⊎ (kind ≡ kinds.List) → NewKinds o new
-kinds_so o new kind all makes one = record {
+every_mapping : (kind : Kind) → is_mapping kind ≡ true
+every_mapping kinds.Single = refl
+every_mapping kinds.List = refl
+every_mapping kinds.Area = refl
+every_mapping kinds.Copy = refl
+
+kinds_so : (o : Op) (new : List Lot) (kind : Kind) → All (λ lot. lot.kind ≡ kind) new → makes_kind o kind ≡ true → NewKinds o new
+kinds_so o new kind all makes = record {
   made = all_to (λ (lot : Lot). lot.kind ≡ kind) (λ (lot : Lot). makes_kind o lot.kind ≡ true) new all (λ lot is. ap (makes_kind o) is ∙ makes);
-  mapping = λ f. all_to (λ (lot : Lot). lot.kind ≡ kind) IsMapping new all
-      (λ lot is. record { kind = elim one [ inl single ↦ ap is_mapping (is ∙ single) | inr list ↦ ap is_mapping (is ∙ list) ] });
+  mapping = λ f. all_to (λ (lot : Lot). lot.kind ≡ kind) IsMapping new all (λ lot is. record { kind = every_mapping lot.kind });
 }
 
 new_kinds : (o : Op) (f : Fixed) (lots new : List Lot) (os : List Owner) (pages : PageMap) → Makes o → begin f lots os pages o ≡ Ok new → NewKinds o new
 new_kinds o f lots new os pages (OneMap label buf off len dir chan is) e =
-    kinds_so o new kinds.Single (map_kinds f lots new os pages label buf off len dir chan (subst (λ (p : Op). begin f lots os pages p ≡ Ok new) is e)) (ap (λ (p : Op). makes_kind p kinds.Single) is) (inl refl)
+    kinds_so o new kinds.Single (map_kinds f lots new os pages label buf off len dir chan (subst (λ (p : Op). begin f lots os pages p ≡ Ok new) is e)) (ap (λ (p : Op). makes_kind p kinds.Single) is)
 new_kinds o f lots new os pages (ListMap label es dir chan is) e =
-    kinds_so o new kinds.List (list_kinds f lots new os pages label es dir chan (subst (λ (p : Op). begin f lots os pages p ≡ Ok new) is e)) (ap (λ (p : Op). makes_kind p kinds.List) is) (inr refl)
+    kinds_so o new kinds.List (list_kinds f lots new os pages label es dir chan (subst (λ (p : Op). begin f lots os pages p ≡ Ok new) is e)) (ap (λ (p : Op). makes_kind p kinds.List) is)
+new_kinds o f lots new os pages (TwoEnds k is) e =
+    kinds_so o new kinds.Copy (copy_kinds f lots new os pages k (subst (λ (p : Op). begin f lots os pages p ≡ Ok new) is e)) (ap (λ (p : Op). makes_kind p kinds.Copy) is)
 
 no_area_op : (o : Op) (label : Label) (count : ℕ) (chan : ChanNo) → Makes o → o ≡ ops.Calloc label count chan → ⊥
 no_area_op o label count chan (OneMap l buf off len dir c is) e = let no : ops.Map l buf off len dir c ≡ ops.Calloc label count chan = sym is ∙ e in absurd cc
+no_area_op o label count chan (TwoEnds k is) e = let no : copy_op k ≡ ops.Calloc label count chan = sym is ∙ e in absurd cc
 no_area_op o label count chan (ListMap l es dir c is) e = let no : ops.MapSg l es dir c ≡ ops.Calloc label count chan = sym is ∙ e in absurd cc
 
 plain_new : (o : Op) (new : List Lot) → Makes o → NewIs o new → (flat_map slots_held new ≡ []) × NoAreas new
@@ -134,6 +153,8 @@ made_call sc f w h o new s makes e =
         hand = s.hand;
         lends = s.lends;
         idle = s.idle;
+        full = s.full;
+        copy = λ c is. ranged_begun w h.0 d.lots new c k.me s.settled (subst (λ (p : Op). begin fx d.lots w.owners w.pages p ≡ Ok new) is e);
       },
       record { old = d.lots; new = new; all = refl; settled = s.settled; names = n.names; wanted = n.wanted },
     )

@@ -66,13 +66,13 @@ dev_bytes sc f w h label (Ok new) s e =
     let d = driver_of w h.0 in
     let o = ops.ToDev label in
     let b = lot_begins d.lots new label e in
-    let t = there_so sc f w h o b.0 label kinds.Single s refl b.1 in
+    let t = there_so sc f w h o b.0 label kinds.Single s refl refl b.1 in
     let first : (turn : Turn) → to_dev_turn b.0 ≡ turn → with_lot turns.Stay to_dev_turn (lot_named d.lots label kinds.Single) ≡ turn = λ turn is. ap (with_lot turns.Stay to_dev_turn) b.1 ∙ is in
     let steps : (plan : List Step) → to_dev_steps d.fixed b.0 ≡ plan → with_lot [] (to_dev_steps d.fixed) (lot_named d.lots label kinds.Single) ≡ plan = λ plan is. ap (with_lot [] (to_dev_steps d.fixed)) b.1 ∙ is in
     as_made sc f w h o new s b.2
     (elim (mapping_still d.fixed b.0 (ap is_area t.its_kind) t.unsent t.still) [
       | inl device ↦ stays_bytes sc f w h o s (first turns.Stay (if_device b.0 (turns.Lend b.0.id) turns.Stay device)) (steps [] (if_device b.0 (lend_steps d.fixed b.0) [] device))
-      | inr synced ↦ lends_bytes sc f w h o b.0 label kinds.Single s t refl synced.0 (first (turns.Lend b.0.id) (if_synced b.0 (turns.Lend b.0.id) turns.Stay synced.0)) (steps (lend_steps d.fixed b.0) (if_synced b.0 (lend_steps d.fixed b.0) [] synced.0))
+      | inr synced ↦ lends_bytes sc f w h o b.0 label kinds.Single s refl t refl synced.0 (first (turns.Lend b.0.id) (if_synced b.0 (turns.Lend b.0.id) turns.Stay synced.0)) (steps (lend_steps d.fixed b.0) (if_synced b.0 (lend_steps d.fixed b.0) [] synced.0))
     ])
 
 pub cpu_bytes : (sc : Scenario) (f : List ℕ) (w : WorldState) (h : HartNo) (label : Label) (r : Result (List Lot) Refusal) → IsStart sc f w h (ops.ToCpu label) → begin (driver_of w h.0).fixed (driver_of w h.0).lots w.owners w.pages (ops.ToCpu label) ≡ r
@@ -83,14 +83,14 @@ cpu_bytes sc f w h label (Ok new) s e =
     let d = driver_of w h.0 in
     let o = ops.ToCpu label in
     let b = lot_begins d.lots new label e in
-    let t = there_so sc f w h o b.0 label kinds.Single s refl b.1 in
+    let t = there_so sc f w h o b.0 label kinds.Single s refl refl b.1 in
     let turn = turns.Sync b.0.id in
     let plan = ending turn (return_steps d.fixed b.0) in
     let first : (k : Turn) → to_cpu_turn b.0 ≡ k → with_lot turns.Stay to_cpu_turn (lot_named d.lots label kinds.Single) ≡ k = λ k is. ap (with_lot turns.Stay to_cpu_turn) b.1 ∙ is in
     let steps : (p : List Step) → to_cpu_steps d.fixed b.0 ≡ p → with_lot [] (to_cpu_steps d.fixed) (lot_named d.lots label kinds.Single) ≡ p = λ p is. ap (with_lot [] (to_cpu_steps d.fixed)) b.1 ∙ is in
     as_made sc f w h o new s b.2
     (elim (mapping_still d.fixed b.0 (ap is_area t.its_kind) t.unsent t.still) [
-      | inl device ↦ returns_bytes sc f w h o b.0 label kinds.Single turn s t refl device (inl refl) (λ sync. refl) (first (turns.Return b.0.id) (if_device b.0 turns.Stay (turns.Return b.0.id) device)) (steps plan (if_device b.0 [] plan device))
+      | inl device ↦ returns_bytes sc f w h o b.0 label kinds.Single turn s refl t refl device (inl refl) (λ sync. refl) (first (turns.Return b.0.id) (if_device b.0 turns.Stay (turns.Return b.0.id) device)) (steps plan (if_device b.0 [] plan device))
       | inr synced ↦ stays_bytes sc f w h o s (first turns.Stay (if_synced b.0 turns.Stay (turns.Return b.0.id) synced.0)) (steps [] (if_synced b.0 [] plan synced.0))
     ])
 
@@ -102,14 +102,14 @@ unmap_bytes sc f w h label (Ok new) s e =
     let d = driver_of w h.0 in
     let o = ops.Unmap label in
     let b = lot_begins d.lots new label e in
-    let t = there_so sc f w h o b.0 label kinds.Single s refl b.1 in
+    let t = there_so sc f w h o b.0 label kinds.Single s refl refl b.1 in
     let turn = turns.End b.0.id in
     let plan = ending turn (return_steps d.fixed b.0) in
     let first : (k : Turn) → unmap_turn b.0 ≡ k → with_lot turns.Stay unmap_turn (lot_named d.lots label kinds.Single) ≡ k = λ k is. ap (with_lot turns.Stay unmap_turn) b.1 ∙ is in
     let steps : (p : List Step) → unmap_steps d.fixed b.0 ≡ p → with_lot [] (unmap_steps d.fixed) (lot_named d.lots label kinds.Single) ≡ p = λ p is. ap (with_lot [] (unmap_steps d.fixed)) b.1 ∙ is in
     as_made sc f w h o new s b.2
     (elim (mapping_still d.fixed b.0 (ap is_area t.its_kind) t.unsent t.still) [
-      | inl device ↦ returns_bytes sc f w h o b.0 label kinds.Single turn s t refl device (inr refl) (λ sync. refl) (first (turns.Return b.0.id) (if_device b.0 (turns.End b.0.id) (turns.Return b.0.id) device)) (steps plan (if_device b.0 [] plan device))
+      | inl device ↦ returns_bytes sc f w h o b.0 label kinds.Single turn s refl t refl device (inr refl) (λ sync. refl) (first (turns.Return b.0.id) (if_device b.0 (turns.End b.0.id) (turns.Return b.0.id) device)) (steps plan (if_device b.0 [] plan device))
       | inr synced ↦ ends_bytes sc f w h o b.0 label kinds.Single s t refl synced.0 (first turn (if_synced b.0 (turns.End b.0.id) (turns.Return b.0.id) synced.0)) (steps [] (if_synced b.0 [] plan synced.0))
     ])
 
@@ -121,11 +121,11 @@ list_bytes sc f w h label count (Ok new) s e =
     let d = driver_of w h.0 in
     let o = ops.UnmapSg label count in
     let b = list_begins d.lots new label count e in
-    let t = there_so sc f w h o b.0 label kinds.List s refl b.1 in
+    let t = there_so sc f w h o b.0 label kinds.List s refl refl b.1 in
     let turn = turns.End b.0.id in
     let plan = ending turn (return_steps d.fixed b.0) in
     as_made sc f w h o new s b.2
     (elim (mapping_still d.fixed b.0 (ap is_area t.its_kind) t.unsent t.still) [
-      | inl device ↦ returns_bytes sc f w h o b.0 label kinds.List turn s t refl device (inr refl) (λ sync. absurd cc) (ap (with_lot turns.Stay unmap_sg_turn) b.1) (ap (with_lot [] (unmap_sg_steps d.fixed)) b.1)
+      | inl device ↦ returns_bytes sc f w h o b.0 label kinds.List turn s refl t refl device (inr refl) (λ sync. absurd cc) (ap (with_lot turns.Stay unmap_sg_turn) b.1) (ap (with_lot [] (unmap_sg_steps d.fixed)) b.1)
       | inr synced ↦ let no : kinds.Single ≡ kinds.List = sym synced.1 ∙ t.its_kind in absurd cc
     ])

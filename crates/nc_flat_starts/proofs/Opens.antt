@@ -9,13 +9,16 @@ use Rattle.nc_num.specs.declared.names.HartNo.{HartNo}
 use Rattle.nc_num.specs.declared.names.MapId.{MapId}
 use Rattle.nc_num.specs.declared.places.Span.{Span}
 use Rattle.nc_model.specs.declared.owners.Owner.{Owner}
+use Rattle.nc_model.specs.declared.owners.Owner.TheVariants.{Thread}
 use Rattle.nc_own.specs.Books.{owner_in}
 use Rattle.nc_scen.specs.Regions.{pool_of, slots_of}
 use Rattle.nc_scen.specs.declared.scenario.Scenario.{Scenario}
+use Rattle.nc_sg.specs.Lists.{SgView}
 use Rattle.nc_sg.specs.declared.list.Entry.{Entry}
 use Rattle.nc_ops.specs.declared.ops.Op.{Op}
 use Rattle.nc_ops.specs.declared.ops.Op.TheVariants as ops
 use Rattle.nc_rules.specs.declared.lots.Lot.{Lot}
+use Rattle.nc_rules.specs.declared.lots.LotId.{LotId}
 use Rattle.nc_rules.specs.declared.lots.Side.{Side}
 use Rattle.nc_rules.specs.declared.lots.Side.TheVariants as sides
 use Rattle.nc_rules.specs.declared.steps.Phase.TheVariants.{Work}
@@ -43,6 +46,7 @@ use Rattle.nc_flatness.specs.Books.{loan_by, loan_of, book_of, mapping_in, LiesI
 use Rattle.nc_flatness.specs.Flatness.{PlanLeft, PlanIs, PlanOf, Drives, BytesStand}
 use Rattle.nc_flatness.specs.Plans.{PlanGoes}
 use Rattle.nc_flatness.specs.Tokens.{is_lending_side, TokenStands}
+use Rattle.nc_flatness.proofs.Copies.{is_copy, copy_none}
 use Rattle.nc_flatness.proofs.Loans.{loan_is}
 use Rattle.nc_flatness.proofs.Outcomes.{gone}
 use Rattle.nc_flatness.proofs.Lents.{all_sided, sides_mapping}
@@ -50,9 +54,9 @@ use Rattle.nc_flatness.proofs.Stands.{stands_by, none_stands}
 use Rattle.nc_flatness.proofs.Tokens.{ended_unsent}
 use Rattle.nc_flatness.proofs.Owned.{owned_ram}
 use Rattle.nc_flat_starts.proofs.Bases.{IsBase, me_of}
-use Rattle.nc_flat_starts.proofs.Befores.{IsBefore, driven, its_first, its_only, far_loan, far_mapping, far_rest, known_here, all_idle, idle_free, seen_aside}
-use Rattle.nc_flat_starts.proofs.Frames.{IsPlace, IsOff, On, Off, somewhere, StaysAside, rewrites_none, goes_still, loan_hart, loan_aside, rest_hart, last_none}
-use Rattle.nc_flat_starts.proofs.Lots.{loan_in, loan_for, loan_here, other_set}
+use Rattle.nc_flat_starts.proofs.Befores.{IsBefore, driven, its_entry, far_loan, far_mapping, far_from, far_rest, known_here, all_idle, idle_free, seen_aside}
+use Rattle.nc_flat_starts.proofs.Frames.{IsPlace, IsOff, On, Off, somewhere, StaysAside, rewrites_none, goes_still, driver_here, loan_hart, loan_aside, rest_hart, last_none}
+use Rattle.nc_flat_starts.proofs.Lots.{loan_in, numbers, names_entry, own_entry, loan_for, loan_here, other_set}
 use Rattle.nc_flat_starts.proofs.PlanComes.{only_one}
 use Rattle.nc_flat_starts.proofs.PlanOps.{IsPlan}
 use Rattle.nc_flat_starts.proofs.Sides.{turned_lot, set_here, set_one}
@@ -86,7 +90,7 @@ lending_plan d (ops.Run chan) is plan = absurd cc
 lending_plan d (ops.Poll chan) is plan = absurd cc
 lending_plan d (ops.Regr chan off width) is plan = absurd cc
 lending_plan d (ops.Regw chan off width value) is plan = absurd cc
-lending_plan d (ops.Copy chan src src_off dst dst_off len cfg) is plan = absurd cc
+lending_plan d (ops.Copy chan src src_off dst dst_off len cfg) is plan = plan
 
 pub side_mapping : (n k : MapId) (side : Side) → mapping_in (owner_of_side n side) ≡ Some k → n ≡ k
 side_mapping n k sides.Wanted e = absurd cc
@@ -116,6 +120,7 @@ pub record Opens (sc : Scenario) (f : List ℕ) (w : WorldState) (h : HartNo) (o
   pub before : IsBefore sc f w h lots lot
   pub hand : in_hand (driver_of w h.0) ≡ Some o
   pub lends : is_lending o ≡ true
+  pub no_copy : is_copy o ≡ false
   pub driver : went.driver ≡ stands (with_lots (driver_of w h.0) lots) Work plan (set_side side lot.id lots) (driver_of w h.0).saw
   pub transfers : went.moves.transfers ≡ of_those (to_side (driver_of w h.0).fixed.me side) lot.id lots
   pub lent : is_wanted side ≡ false
@@ -127,6 +132,7 @@ pub record Opens (sc : Scenario) (f : List ℕ) (w : WorldState) (h : HartNo) (o
   pub was : ℕ → Owner
   pub owned : (i : ℕ) (e : Entry) (x : ℕ) → IsPlace lot i e x → owner_of w x ≡ was i
   pub mine : (i : ℕ) (k : MapId) → mapping_in (was i) ≡ Some k → k.hart.0 ≡ h.0
+  pub threads : (i : ℕ) (k : HartNo) → was i ≡ Thread k → k.0 ≡ h.0
   pub unslotted : (i : ℕ) (e : Entry) (x : ℕ) → IsPlace lot i e x → covers (slots_of sc) x ≡ false
   pub area : (i : ℕ) (e : Entry) (x : ℕ) → IsPlace lot i e x → covers (pool_of sc) x ≡ true → is_area lot.kind ≡ true
   pub row : (i : ℕ) (e : Entry) (x v : ℕ) → x < sc.ram → IsPlace lot i e x → (c : Book) → c.loan (map_id h lot.id i) ≡ Some (loan_for (driver_of w h.0).fixed h lot i e) → c.rest h.0 ≡ plan → Row (book_of w) (was i) v w.machine x
@@ -139,8 +145,12 @@ pub record Opens (sc : Scenario) (f : List ℕ) (w : WorldState) (h : HartNo) (o
 pub open_loan : (sc : Scenario) (f : List ℕ) (w : WorldState) (h : HartNo) (lots : List Lot) (lot : Lot) (side : Side) (i : ℕ) (e : Entry) → IsBefore sc f w h lots lot → is_wanted side ≡ false → slice_get lot.list.entries i ≡ Some e
     → loan_in (driver_of w h.0).fixed (set_side side lot.id lots) (map_id h lot.id i) ≡ Some (loan_for (driver_of w h.0).fixed h lot i e)
 open_loan sc f w h lots lot side i e b lent there =
-    loan_here (driver_of w h.0).fixed h (set_side side lot.id lots) (turned_lot side lot) i e (record { lot_in = set_here side lots lot b.here; entry = there }) (its_first sc f w h lots lot b) lent
-    (λ other k same. set_one side lots lot (λ l k same. its_only sc f w h lots lot l b k same) other k same)
+    loan_here (driver_of w h.0).fixed h (set_side side lot.id lots) (turned_lot side lot) i e (record { lot_in = set_here side lots lot b.here; entry = there }) lent
+    (λ other k named. set_one side lots lot other k
+    (λ was here id list.
+    let n = map_id h lot.id i in
+    let its : names_entry n was ≡ true = ap (λ (q : LotId). numbers n q was.list.entries) id ∙ ap (λ (v : SgView). numbers n other.id v.entries) list ∙ named in
+    its_entry sc f w h lots lot was n b here its (own_entry h lot i e there)))
 
 -- the owners behind it
 open_on : (sc : Scenario) (f : List ℕ) (w : WorldState) (h : HartNo) (lots : List Lot) (lot : Lot) (side : Side) (i : ℕ) (e : Entry) (x : ℕ) → IsBefore sc f w h lots lot → IsPlace lot i e x
@@ -172,12 +182,12 @@ opens_bytes sc f w h o went lots lot side plan t =
     let known : (i : ℕ) (e : Entry) → slice_get lot.list.entries i ≡ Some e → (book_of v).loan (map_id h lot.id i) ≡ Some (loan_for fx h lot i e) =
     λ i e there. loan_hart w h m went (map_id h lot.id i) lt refl ∙ ap (λ (k : DriverState). loan_of k (map_id h lot.id i)) t.driver ∙ open_loan sc f w h lots lot side i e b t.lent there in
     let rest : (book_of v).rest h.0 ≡ plan = rest_hart w h m went h.0 lt refl ∙ ap (λ (k : DriverState). k.rest) t.driver in
-    let stays : (k : MapId) → (k.label.0 ≡ lot.id.label.0 → ⊥) → loan_of went.driver k ≡ loan_of d k =
-    λ k far. ap (λ (j : DriverState). loan_of j k) t.driver ∙ ap (option_map (loan_by fx k)) (other_set side lot.id k lots far) ∙ b.loans k far in
+    let stays : (k : MapId) → names_entry k lot ≡ false → loan_of went.driver k ≡ loan_of d k =
+    λ k far. ap (λ (j : DriverState). loan_of j k) t.driver ∙ ap (option_map (loan_by fx k)) (other_set side lot.id k lots (far_from sc f w h lots lot k b far)) ∙ b.loans k in
     let others : (x : ℕ) (k : MapId) → x < sc.ram → IsOff lot x → mapping_in (owner_of w x) ≡ Some k → StaysAside w h went (owner_of w x) k =
     λ x k there off is own.
     let far = far_mapping sc f w h lots lot x k b there off is own in
-    (stays k far, inr (λ l lent. far_rest sc f w h lot.id k l plan went.driver.rest b.flat b.idle t.of_plan.only (ap (λ (j : DriverState). j.rest) t.driver) own lent far)) in
+    (stays k far, inr (λ l lent. far_rest sc f w h lots lot k l plan went.driver.rest b t.of_plan.only (ap (λ (j : DriverState). j.rest) t.driver) own lent far)) in
     let on : (i : ℕ) (e : Entry) (x : ℕ) → IsPlace lot i e x → owner_in (owners_moved w.owners went.moves.transfers) x ≡ owner_of_side (map_id h lot.id i) side =
     λ i e x place. ap (λ (ts : List (Span × Owner)). owner_in (owners_moved w.owners ts) x) t.transfers ∙ open_on sc f w h lots lot side i e x b place in
     let off : (x : ℕ) → IsOff lot x → owner_in (owners_moved w.owners went.moves.transfers) x ≡ owner_of w x =
@@ -188,7 +198,10 @@ opens_bytes sc f w h o went lots lot side plan t =
       off = off;
       unslotted = t.unslotted;
       mine = mine;
-      others = λ x k there beside is own. others x k there beside is own;
+      threads = λ i e x k place is. t.threads i k (sym (t.owned i e x place) ∙ is);
+      along = λ k. false;
+      others = λ x k there beside is own. let r = others x k there beside is own in (r.0, λ off. r.1);
+      goes_along = λ x k there unslotted beside is own along. absurd cc;
       areas = λ x k l beside own is area over. stays k (far_loan sc f w h lots lot x k l b beside own (loan_is sc f w k l b.flat is) over) ∙ known_here w h k l own is;
       pooled = λ i e x place over. inr (record { id = map_id h lot.id i; loan = loan_for fx h lot i e; lent = known i e place.entry; area = t.area i e x place over; on = place.on });
       free = λ i e x place over. inl (idle_free sc f w h x b.flat b.idle (λ k is. mine i e x k place is) (subst (λ (p : Span). covers p x ≡ true) (sym b.flat.world.of_scenario.pool) over));
@@ -202,7 +215,7 @@ opens_bytes sc f w h o went lots lot side plan t =
       lasting = last_none (book_of v) f h.0 (hart_of m h.0).last (rest_last went.driver.rest) (ap (λ (j : DriverState). rest_last j.rest) t.driver ∙ t.of_plan.first);
       queue = all_idle sc f w h (book_of v) (owner_of v) b.flat b.idle;
       tokens = subst (λ (j : DriverState). j.fixed.light ≡ true → All (TokenStands j.rest (queue_of m h.0)) j.lots) (sym t.driver) (λ light. open_stands sc f w h lots lot side plan b t.unsent t.of_plan light);
-      passes = λ x u there unslotted beside row. row;
+      passes = λ x u there unslotted beside off row. row;
       lies = λ i e x k there place is.
           subst (λ (j : MapId). LiesIn ((book_of v).loan j) x) (side_mapping (map_id h lot.id i) k side is) (subst (λ (l : Option Loan). LiesIn l x) (sym (known i e place.entry)) place.on);
       row = λ i e x there place row. t.row i e x (byte f x) there place (book_of v) (known i e place.entry) rest (subst (λ (p : Owner). Row (book_of w) p (byte f x) m x) (t.owned i e x place) row);
@@ -219,6 +232,7 @@ opens_bytes sc f w h o went lots lot side plan t =
                 (ap (λ (p : Owner). seen_at (book_of v) p x) (off x beside)
                 ∙ seen_aside (book_of w) (book_of v) (owner_of w x) x (λ k is. loan_aside w h m went (owner_of w x) k lt (others x k (owned_ram sc f w x k b.flat is) beside is)) ∙ same)
           ]);
+      copying = copy_none sc f v h.0 o (ap in_hand (driver_here w h m went lt ∙ t.driver) ∙ t.hand) t.no_copy;
     })
 
 -- ---- the owner of a place of a lot that the hart has
@@ -226,6 +240,17 @@ opens_bytes sc f w h o went lots lot side plan t =
 pub base_owner : (sc : Scenario) (f : List ℕ) (w : WorldState) (h : HartNo) (lots : List Lot) (lot : Lot) (i : ℕ) (e : Entry) (x : ℕ) → IsBase sc f w h lots lot → IsPlace lot i e x → owner_of w x ≡ owner_of_side (map_id h lot.id i) lot.side
 base_owner sc f w h lots lot i e x b place =
     b.each.mine.owners lot i e x (record { lot_in = b.here; entry = place.entry }) place.on ∙ ap (λ (me : HartNo). owner_of_side (map_id me lot.id i) lot.side) (me_of w h b.each.me)
+
+side_by : (n : MapId) (k : HartNo) (side : Side) → owner_of_side n side ≡ Thread k → n.hart ≡ k
+side_by n k sides.Wanted e = cc
+side_by n k sides.Own e = cc
+side_by n k sides.Lending e = absurd cc
+side_by n k sides.Device e = absurd cc
+side_by n k sides.Returning e = absurd cc
+side_by n k sides.Synced e = absurd cc
+
+pub side_thread : (h : HartNo) (lot : Lot) (i : ℕ) (k : HartNo) → owner_of_side (map_id h lot.id i) lot.side ≡ Thread k → k.0 ≡ h.0
+side_thread h lot i k is = ap (λ (j : HartNo). j.0) (sym (side_by (map_id h lot.id i) k lot.side is))
 
 pub side_mine : (h : HartNo) (lot : Lot) (i : ℕ) (k : MapId) → mapping_in (owner_of_side (map_id h lot.id i) lot.side) ≡ Some k → k.hart.0 ≡ h.0
 side_mine h lot i k is = ap (λ (n : MapId). n.hart.0) (sym (side_mapping (map_id h lot.id i) k lot.side is))

@@ -53,15 +53,19 @@ only_ops id (o ∷ ops) rest all only b ended =
     only_ops id ops rest (All-tail (λ (k : HartOp). is_plain k ≡ true) o ops all) only b
     (sym (ap (λ (t : Bool). t || list_any (ends b) (op_steps ops ++ rest)) (plain_ends b o (All-head (λ (k : HartOp). is_plain k ≡ true) o ops all))) ∙ ended)
 
-same_label : (a b : LotId) → same_lot a b ≡ true → a.label.0 ≡ b.label.0
-same_label a b same = eqb-true a.label.0 b.label.0 (and_parts (a.label.0 == b.label.0) (a.first == b.first) same).0
+same_name : (a b : LotId) → same_lot a b ≡ true → a ≡ b
+same_name a b same =
+    let both = and_parts (a.label.0 == b.label.0) (a.first == b.first) same in
+    let label = eqb-true a.label.0 b.label.0 both.0 in
+    let first = eqb-true a.first b.first both.1 in
+    λ i. record { label = record { 0 = label i }; first = first i }
 
 pub only_one : (id : LotId) (rest : List Step) → EndsOnly id rest → EndsOne rest
-only_one id rest only a b here there = same_label a id (only a here) ∙ sym (same_label b id (only b there))
+only_one id rest only a b here there = same_name a id (only a here) ∙ sym (same_name b id (only b there))
 
--- none of another label
-pub only_far : (id other : LotId) (rest : List Step) → EndsOnly id rest → (other.label.0 ≡ id.label.0 → ⊥) → list_any (ends other) rest ≡ false
-only_far id other rest only far = false_from_ne_true (list_any (ends other) rest) (λ ended. far (same_label other id (only other ended)))
+-- none of another name
+pub only_far : (id other : LotId) (rest : List Step) → EndsOnly id rest → (same_lot other id ≡ true → ⊥) → list_any (ends other) rest ≡ false
+only_far id other rest only far = false_from_ne_true (list_any (ends other) rest) (λ ended. far (only other ended))
 
 or_assoc : (a b c : Bool) → (a || (b || c)) ≡ ((a || b) || c)
 or_assoc true b c = refl

@@ -27,12 +27,12 @@ use Rattle.nc_rules.specs.Turns.{is_area}
 use Rattle.nc_rules.specs.declared.steps.Step.{Step}
 use Rattle.nc_rows.specs.Ahead.{same_lot, turns_lot, gives_lot, settles_lot, tokens_lot, stores_io, is_settling, ends, names, token, settling, coming}
 use Rattle.nc_rows.proofs.Steps.{next, last}
-use Rattle.nc_flatness.specs.Plans.{IsInHand, token_step, Gives, GivesArea, Marks, Posts, PlanGoes}
+use Rattle.nc_flatness.specs.Plans.{IsStill, IsInHand, token_step, Gives, GivesArea, Marks, Posts, PlanGoes}
 use Rattle.nc_flatness.specs.Tokens.{lot_token}
 use Rattle.nc_flatness.proofs.Rests.{by_token}
 use Rattle.nc_flat_starts.proofs.PlanComes.{EndsOnly}
 use Rattle.nc_flat_starts.proofs.PlanOps.{IsPlan, same_id}
-use Rattle.nc_flat_starts.proofs.Sides.{NamesLent, given_still, sent_still}
+use Rattle.nc_flat_starts.proofs.Sides.{Others, NamesLent, given_still, sent_still}
 
 -- ---- a step with a turn of the lot
 
@@ -78,10 +78,10 @@ token_only lot b ended =
 token_comes : (lot : Lot) (n : MapId) → coming n lot.id (token_steps lot) ≡ marker 1 4 ∷ lot_token lot ∷ []
 token_comes lot n = next n lot.id (hart_step (hart.Mark 1 4)) (token_step lot ∷ []) refl (token_ended lot) ∙ ap (λ (es : List QueueEntry). marker 1 4 ∷ es) (last n lot.id (token_step lot) [] (by_token lot))
 
-token_goes : (f : Fixed) (lots : List Lot) (lot : Lot) (area : Bool) → IsInHand f lots lot area sides.Lending → f.light ≡ true → NamesLent lot.id lots → PlanGoes f lots (token_steps lot)
-token_goes f lots lot area hand light named =
+token_goes : (f : Fixed) (lots : List Lot) (lot : Lot) (area : Bool) → IsInHand f lots lot area sides.Lending → Others (IsStill f) lot.id lots → f.light ≡ true → NamesLent lot.id lots → PlanGoes f lots (token_steps lot)
+token_goes f lots lot area hand others light named =
     let its : IsInHand f lots lot (is_area lot.kind) sides.Lending = record { here = hand.here; area_is = refl; side_is = hand.side_is; others = hand.others } in
-    (Marks (record { lot = lot; hand = its; light = light; step = refl; left = refl }), (Posts (record { lot = lot; hand = its; light = light; step = refl; over = refl }), sent_still f lot.id lots light named hand.others))
+    (Marks (record { lot = lot; hand = its; light = light; step = refl; left = refl }), (Posts (record { lot = lot; hand = its; light = light; step = refl; over = refl }), sent_still f lot.id lots light named others))
 
 -- ---- the end of a lending
 
@@ -92,38 +92,38 @@ pub record LendingEnd (f : Fixed) (lots : List Lot) (lot : Lot) (steps : List St
   pub byte : (s x : ℕ) (n : MapId) → list_any (gives_at s x) (coming n lot.id steps) ≡ false
   pub stands : (n : MapId) → Stands is_wo (names n) (coming n lot.id steps)
 
-give_goes : (f : Fixed) (lots : List Lot) (lot : Lot) (area : Bool) → IsInHand f lots lot area sides.Lending → PlanGoes f lots (fenced (turns.Give lot.id))
-give_goes f lots lot false hand = (Gives (record { lot = lot; hand = hand; step = refl; over = refl }), given_still f lot.id lots hand.others)
-give_goes f lots lot true hand = (GivesArea (record { lot = lot; hand = hand; step = refl; over = refl }), given_still f lot.id lots hand.others)
+give_goes : (f : Fixed) (lots : List Lot) (lot : Lot) (area : Bool) → IsInHand f lots lot area sides.Lending → Others (IsStill f) lot.id lots → PlanGoes f lots (fenced (turns.Give lot.id))
+give_goes f lots lot false hand others = (Gives (record { lot = lot; hand = hand; step = refl; next = refl }), given_still f lot.id lots others)
+give_goes f lots lot true hand others = (GivesArea (record { lot = lot; hand = hand; step = refl; over = refl }), given_still f lot.id lots others)
 
-fence_byte : (s x : ℕ) (n : MapId) (t : Bool) → list_any (gives_at s x) (entries.Mark 15 15 ∷ (if t then token n ∷ [] else [])) ≡ false
+pub fence_byte : (s x : ℕ) (n : MapId) (t : Bool) → list_any (gives_at s x) (entries.Mark 15 15 ∷ (if t then token n ∷ [] else [])) ≡ false
 fence_byte s x n true = refl
 fence_byte s x n false = refl
 
-full_end : (f : Fixed) (lots : List Lot) (lot : Lot) (area : Bool) → IsInHand f lots lot area sides.Lending → LendingEnd f lots lot (fenced (turns.Give lot.id))
-full_end f lots lot area hand =
+full_end : (f : Fixed) (lots : List Lot) (lot : Lot) (area : Bool) → IsInHand f lots lot area sides.Lending → Others (IsStill f) lot.id lots → LendingEnd f lots lot (fenced (turns.Give lot.id))
+full_end f lots lot area hand others =
     let id = lot.id in
     let turn = turns.Give id in
     record {
-      goes = give_goes f lots lot area hand;
+      goes = give_goes f lots lot area hand others;
       plan = record { ended = alone_ends id turn (same_id id); only = only_turn id turn full (λ b. refl) (λ b. refl); silent = λ b. refl; first = refl };
       settles = alone_settles id turn (same_id id);
       byte = λ s x n. ap (list_any (gives_at s x)) (alone_comes n id turn (same_id id)) ∙ fence_byte s x n (gives_lot id turn);
       stands = λ n. subst (λ (es : List QueueEntry). Stands is_wo (names n) es) (sym (alone_comes n id turn (same_id id))) (inl refl);
     }
 
-token_end : (f : Fixed) (lots : List Lot) (lot : Lot) (area : Bool) → IsInHand f lots lot area sides.Lending → f.light ≡ true → NamesLent lot.id lots → LendingEnd f lots lot (token_steps lot)
-token_end f lots lot area hand light named = record {
-  goes = token_goes f lots lot area hand light named;
+token_end : (f : Fixed) (lots : List Lot) (lot : Lot) (area : Bool) → IsInHand f lots lot area sides.Lending → Others (IsStill f) lot.id lots → f.light ≡ true → NamesLent lot.id lots → LendingEnd f lots lot (token_steps lot)
+token_end f lots lot area hand others light named = record {
+  goes = token_goes f lots lot area hand others light named;
   plan = record { ended = token_ended lot; only = token_only lot; silent = λ b. refl; first = refl };
   settles = ap (is_settling lot.id) (cond-true (ends lot.id (token_step lot)) (Some (token_step lot)) None (by_token lot));
   byte = λ s x n. ap (list_any (gives_at s x)) (token_comes lot n);
   stands = λ n. subst (λ (es : List QueueEntry). Stands is_wo (names n) es) (sym (token_comes lot n)) (inl refl);
 }
 
-pub lending_end_so : (f : Fixed) (lots : List Lot) (lot : Lot) (area : Bool) → IsInHand f lots lot area sides.Lending → NamesLent lot.id lots → LendingEnd f lots lot (lending_end f lot)
-lending_end_so f lots lot area hand named = by_light f.light refl
+pub lending_end_so : (f : Fixed) (lots : List Lot) (lot : Lot) (area : Bool) → IsInHand f lots lot area sides.Lending → Others (IsStill f) lot.id lots → NamesLent lot.id lots → LendingEnd f lots lot (lending_end f lot)
+lending_end_so f lots lot area hand others named = by_light f.light refl
   where
     by_light : (t : Bool) → f.light ≡ t → LendingEnd f lots lot (if t then token_steps lot else fenced (turns.Give lot.id))
-    by_light true light = token_end f lots lot area hand light named
-    by_light false light = full_end f lots lot area hand
+    by_light true light = token_end f lots lot area hand others light named
+    by_light false light = full_end f lots lot area hand others

@@ -187,7 +187,7 @@ dropped_are f lot size drops =
 writing_plain : (o : HartOp) → IsWriting o → is_plain o ≡ true
 writing_plain o w = ap is_plain w.is
 
-dropping_plain : (f : Fixed) (lot : Lot) (o : HartOp) → IsDropping f lot o → is_plain o ≡ true
+pub dropping_plain : (f : Fixed) (lot : Lot) (o : HartOp) → IsDropping f lot o → is_plain o ≡ true
 dropping_plain f lot o d = ap is_plain d.is
 
 pub writing_are_plain : (ops : List HartOp) → All IsWriting ops → Are is_plain ops
@@ -196,7 +196,7 @@ writing_are_plain ops all = all_to IsWriting (λ (o : HartOp). is_plain o ≡ tr
 pub dropping_are_plain : (f : Fixed) (lot : Lot) (ops : List HartOp) → All (IsDropping f lot) ops → Are is_plain ops
 dropping_are_plain f lot ops all = all_to (IsDropping f lot) (λ (o : HartOp). is_plain o ≡ true) ops all (dropping_plain f lot)
 
-cbo_last : (o : HartOp) (op : CboOp) (block : Block) (rest : List Step) → o ≡ hart.Cbo op block → LoadsFirst (hart_step o ∷ rest)
+pub cbo_last : (o : HartOp) (op : CboOp) (block : Block) (rest : List Step) → o ≡ hart.Cbo op block → LoadsFirst (hart_step o ∷ rest)
 cbo_last o op block rest is = ap (λ (k : HartOp). rest_last (hart_step k ∷ rest)) is
 
 pub writes_first : (ops : List HartOp) (rest : List Step) → All IsWriting ops → LoadsFirst rest → LoadsFirst (op_steps ops ++ rest)

@@ -2,14 +2,14 @@
 use Rattle.std.specs.Prelude.{Some, ◌||◌, Bool, true, false, All, flat_map, slice_get}
 use Rattle.std.specs.List.{list_any}
 use Rattle.std.proofs.Common.{◌≡◌, ◌⊎◌, ℕ, List, [], ◌∷◌, ◌++◌, refl, sym, ap, ◌∙◌, inl, inr, subst}
-use Rattle.std.proofs.lemmas.Bool.{or_left, or_right, or_from, false_from_ne_true}
+use Rattle.std.proofs.lemmas.Bool.{or_left, or_right, or_from, false_from_ne_true, cond-false}
 use Rattle.std.proofs.lemmas.List.Elements.{All-cons, All-head, All-tail}
 use Rattle.nc_num.specs.Places.{covers}
 use Rattle.nc_num.specs.declared.names.MapId.{MapId}
 use Rattle.nc_num.specs.declared.names.MemType.TheVariants.{Pma}
 use Rattle.nc_num.specs.declared.places.Span.{Span}
 use Rattle.nc_lines.specs.Lines.{gives_at}
-use Rattle.nc_plan.specs.Plans.{In, written_back}
+use Rattle.nc_plan.specs.Plans.{In, full, written_back}
 use Rattle.nc_plan.specs.declared.ops.HartOp.{HartOp}
 use Rattle.nc_plan.specs.declared.ops.HartOp.TheVariants as hart
 use Rattle.nc_plan.specs.declared.ops.Payload.TheVariants.{Last}
@@ -18,18 +18,21 @@ use Rattle.nc_rules.specs.declared.lots.Lot.{Lot}
 use Rattle.nc_rules.specs.declared.lots.LotId.{LotId}
 use Rattle.nc_rules.specs.declared.lots.Side.TheVariants as sides
 use Rattle.nc_rules.specs.declared.steps.Step.{Step}
+use Rattle.nc_rules.specs.declared.steps.Turn.TheVariants as turns
 use Rattle.nc_rules.specs.Lots.{Fixed, parts}
-use Rattle.nc_rules.specs.Plans.{hart_step, op_steps, lending_end, lend_steps}
+use Rattle.nc_rules.specs.Plans.{hart_step, op_steps, turning, carried, token_steps, lending_end, lend_steps}
+use Rattle.nc_rules.specs.Turns.{lots_after}
 use Rattle.nc_holds.specs.Held.{SharesNone}
-use Rattle.nc_rows.specs.Ahead.{ends, op_coming, coming}
+use Rattle.nc_rows.specs.Ahead.{turns_lot, gives_lot, ends, posts, op_coming, coming}
+use Rattle.nc_rows.proofs.Steps.{last}
 use Rattle.nc_row_plans.specs.Plans.{WritesBack}
 use Rattle.nc_row_plans.proofs.LendingPlans.{is_plain, Are}
-use Rattle.nc_flatness.specs.Plans.{IsInHand, HasFull, HasByte, LoadsFirst, GoesIn, ComesOut, Loads, Stores, WritesBack as WritesBackGoes, Drops, PlanGoes, device_of}
+use Rattle.nc_flatness.specs.Plans.{IsStill, IsInHand, HasFull, HasByte, LoadsFirst, GoesIn, ComesOut, IsDrop, Loads, Stores, WritesBack as WritesBackGoes, Drops, Gives, PlanGoes, device_of}
 use Rattle.nc_flat_starts.proofs.Pieces.{Move, stored, moves_of, IsMove, MovesApart, moves_are, moves_apart, move_at, pairs_apart}
 use Rattle.nc_flat_starts.proofs.PlanComes.{ops_of, only_ops, ends_behind, silent_ops, comes_ops, full_behind, copies_are, copies_give, steps_append, append_steps}
-use Rattle.nc_flat_starts.proofs.Sides.{NamesLent}
-use Rattle.nc_flat_starts.proofs.PlanOps.{in_cut, IsPlanned, in_even, IsPlan, ins_are, IsWriting, written_are, IsDropping, writing_are_plain, dropping_are_plain, writes_first, drops_first, writings_give}
-use Rattle.nc_flat_starts.proofs.PlanEnds.{LendingEnd, lending_end_so}
+use Rattle.nc_flat_starts.proofs.Sides.{Others, NamesLent}
+use Rattle.nc_flat_starts.proofs.PlanOps.{in_cut, IsPlanned, in_even, IsPlan, same_id, ins_are, IsWriting, written_are, IsDropping, writing_are_plain, dropping_are_plain, writes_first, drops_first, writings_give}
+use Rattle.nc_flat_starts.proofs.PlanEnds.{LendingEnd, fence_byte, lending_end_so}
 
 -- ---- write-backs go
 
@@ -42,31 +45,33 @@ writes_go f lots lot (o ∷ ops) rest hand all ended first go =
 
 -- ---- drops go
 
+unfoldable pub drop_at : (f : Fixed) (lots : List Lot) (lot : Lot) (o : HartOp) (ops : List HartOp) (rest : List Step) → IsInHand f lots lot false sides.Returning → IsDropping f lot o → All (IsDropping f lot) ops → list_any (ends lot.id) rest ≡ true → HasFull lot.id rest true → LoadsFirst rest
+    → IsDrop f lots (hart_step o) (op_steps ops ++ rest)
+drop_at f lots lot o ops rest hand d more ended fenced first = record {
+  lot = lot;
+  hand = hand;
+  back = d.back;
+  op = d.op;
+  block = d.block;
+  step = ap hart_step d.is;
+  drops = d.drops;
+  i = d.i;
+  entry = d.entry;
+  here = record { lot_in = hand.here; entry = d.there };
+  place = d.place;
+  covered = d.covered;
+  met = d.met;
+  ahead = λ n. full_behind n lot.id ops rest true (dropping_are_plain f lot ops more) ended (fenced n);
+  next = drops_first f lot ops rest more first;
+}
+
 pub drops_go : (f : Fixed) (lots : List Lot) (lot : Lot) (ops : List HartOp) (rest : List Step) → IsInHand f lots lot false sides.Returning → All (IsDropping f lot) ops → list_any (ends lot.id) rest ≡ true → HasFull lot.id rest true → LoadsFirst rest → PlanGoes f lots rest
     → PlanGoes f lots (op_steps ops ++ rest)
 drops_go f lots lot [] rest hand all ended fenced first go = go
 drops_go f lots lot (o ∷ ops) rest hand all ended fenced first go =
     let d = All-head (IsDropping f lot) o ops all in
-    let more = All-tail (IsDropping f lot) o ops all in (
-      Drops (record {
-        lot = lot;
-        hand = hand;
-        back = d.back;
-        op = d.op;
-        block = d.block;
-        step = ap hart_step d.is;
-        drops = d.drops;
-        i = d.i;
-        entry = d.entry;
-        here = record { lot_in = hand.here; entry = d.there };
-        place = d.place;
-        covered = d.covered;
-        met = d.met;
-        ahead = λ n. full_behind n lot.id ops rest true (dropping_are_plain f lot ops more) ended (fenced n);
-        next = drops_first f lot ops rest more first;
-      }),
-      drops_go f lots lot ops rest hand more ended fenced first go,
-    )
+    let more = All-tail (IsDropping f lot) o ops all in
+    (Drops (drop_at f lots lot o ops rest hand d more ended fenced first), drops_go f lots lot ops rest hand more ended fenced first go)
 
 -- ---- copies go
 
@@ -138,34 +143,90 @@ pub record Lends (f : Fixed) (lots : List Lot) (lot : Lot) (steps : List Step) :
   pub plan : IsPlan lot.id steps
   pub stores : (i : ℕ) (e : Entry) (y : ℕ) → slice_get lot.list.entries i ≡ Some e → e.bounced ≡ true → covers (device_of f e) y ≡ true → HasByte f lot.id steps y true
 
-pub lend_so : (f : Fixed) (lots : List Lot) (lot : Lot) → IsInHand f lots lot false sides.Lending → NamesLent lot.id lots → IsPlanned f lot → WritesBack f.effects → Lends f lots lot (lend_steps f lot)
-lend_so f lots lot hand named is writes =
+-- what is done before it may be lent, in front of these steps
+abbrev copied_ops : Fixed → Lot → List HartOp
+copied_ops f lot = flat_map (ops_of (in_cut f)) (moves_of (in_cut f) lot.list.entries)
+
+abbrev backs_ops : Fixed → Lot → List HartOp
+backs_ops f lot = flat_map (written_back f.effects f.size) (parts f lot)
+
+carried_is : (f : Fixed) (lot : Lot) (end : List Step) → IsPlanned f lot → op_steps (carried f.effects f.size (parts f lot)) ++ end ≡ op_steps (copied_ops f lot) ++ (op_steps (backs_ops f lot) ++ end)
+carried_is f lot end is =
+    ap (λ (ops : List HartOp). op_steps (ops ++ backs_ops f lot) ++ end) (ins_are f lot.list.dir lot.list.entries is.off) ∙ ap (λ (ss : List Step). ss ++ end) (steps_append (copied_ops f lot) (backs_ops f lot))
+    ∙ append_steps (op_steps (copied_ops f lot)) (op_steps (backs_ops f lot)) end
+
+carried_goes : (f : Fixed) (lots : List Lot) (lot : Lot) (end : List Step) → IsInHand f lots lot false sides.Lending → IsPlanned f lot → WritesBack f.effects → list_any (ends lot.id) end ≡ true → LoadsFirst end → ((x : ℕ) (n : MapId) → list_any (gives_at f.size x) (coming n lot.id end) ≡ false) → PlanGoes f lots end
+    → PlanGoes f lots (op_steps (copied_ops f lot) ++ (op_steps (backs_ops f lot) ++ end))
+carried_goes f lots lot end hand is writes ended first byte go =
     let es = lot.list.entries in
     let cut = in_cut f in
     let ms = moves_of cut es in
-    let copied = flat_map (ops_of cut) ms in
-    let backs = flat_map (written_back f.effects f.size) (parts f lot) in
+    let backs = backs_ops f lot in
+    let all = written_are f lot writes in
+    let tail = op_steps backs ++ end in
+    let plain = writing_are_plain backs all in
+    let later = ends_behind lot.id backs end ended in
+    copies_go f lots lot cut ms tail hand.here (λ e ops all_plain. inl (record { hand = hand; later = ends_behind lot.id ops tail later; from_is = refl; to_is = refl })) (moves_are cut es) (moves_apart cut es (in_even f) (pairs_apart cut es is.slots)) later (writes_first backs end all first)
+    (λ m x there on n.
+    comes_ops (gives_at f.size x) n lot.id backs end plain ended ∙ or_from (list_any (gives_at f.size x) (flat_map op_coming backs)) (list_any (gives_at f.size x) (coming n lot.id end)) (writings_give f.size x backs all) (byte x n))
+    (writes_go f lots lot backs end hand all ended first go)
+
+carried_first : (f : Fixed) (lot : Lot) (end : List Step) → WritesBack f.effects → LoadsFirst end → LoadsFirst (op_steps (copied_ops f lot) ++ (op_steps (backs_ops f lot) ++ end))
+carried_first f lot end writes first = copies_first (in_cut f) (moves_of (in_cut f) lot.list.entries) (op_steps (backs_ops f lot) ++ end) (writes_first (backs_ops f lot) end (written_are f lot writes) first)
+
+carried_silent : (f : Fixed) (lot : Lot) (end : List Step) (b : ℕ) → WritesBack f.effects → list_any (posts b) end ≡ false → list_any (posts b) (op_steps (copied_ops f lot) ++ (op_steps (backs_ops f lot) ++ end)) ≡ false
+carried_silent f lot end b writes silent =
+    silent_ops b (copied_ops f lot) (op_steps (backs_ops f lot) ++ end) (copies_are (in_cut f) (moves_of (in_cut f) lot.list.entries)) (silent_ops b (backs_ops f lot) end (writing_are_plain (backs_ops f lot) (written_are f lot writes)) silent)
+
+pub lend_so : (f : Fixed) (lots : List Lot) (lot : Lot) → IsInHand f lots lot false sides.Lending → Others (IsStill f) lot.id lots → NamesLent lot.id lots → IsPlanned f lot → WritesBack f.effects → Lends f lots lot (lend_steps f lot)
+lend_so f lots lot hand others named is writes =
+    let es = lot.list.entries in
+    let cut = in_cut f in
+    let ms = moves_of cut es in
+    let copied = copied_ops f lot in
+    let backs = backs_ops f lot in
     let all = written_are f lot writes in
     let end = lending_end f lot in
-    let k : LendingEnd f lots lot end = lending_end_so f lots lot false hand named in
+    let k : LendingEnd f lots lot end = lending_end_so f lots lot false hand others named in
     let tail = op_steps backs ++ end in
     let plain = writing_are_plain backs all in
     let ended = ends_behind lot.id backs end k.plan.ended in
-    let whole : lend_steps f lot ≡ op_steps copied ++ tail =
-    ap (λ (ops : List HartOp). op_steps (ops ++ backs) ++ end) (ins_are f lot.list.dir es is.off) ∙ ap (λ (ss : List Step). ss ++ end) (steps_append copied backs) ∙ append_steps (op_steps copied) (op_steps backs) end in
-    subst (λ (ss : List Step). Lends f lots lot ss) (sym whole) (record {
-      goes = copies_go f lots lot cut ms tail hand.here (λ e ops all_plain. inl (record { hand = hand; later = ends_behind lot.id ops tail ended; from_is = refl; to_is = refl })) (moves_are cut es) (moves_apart cut es (in_even f) (pairs_apart cut es is.slots)) ended (writes_first backs end all k.plan.first)
-          (λ m x there on n.
-          comes_ops (gives_at f.size x) n lot.id backs end plain k.plan.ended
-          ∙ or_from (list_any (gives_at f.size x) (flat_map op_coming backs)) (list_any (gives_at f.size x) (coming n lot.id end)) (writings_give f.size x backs all) (k.byte f.size x n))
-          (writes_go f lots lot backs end hand all k.plan.ended k.plan.first k.goes);
+    subst (λ (ss : List Step). Lends f lots lot ss) (sym (carried_is f lot end is)) (record {
+      goes = carried_goes f lots lot end hand is writes k.plan.ended k.plan.first (λ x n. k.byte f.size x n) k.goes;
       plan = record {
         ended = ends_behind lot.id copied tail ended;
         only = only_ops lot.id copied tail (copies_are cut ms) (only_ops lot.id backs end plain k.plan.only);
-        silent = λ b. silent_ops b copied tail (copies_are cut ms) (silent_ops b backs end plain (k.plan.silent b));
-        first = copies_first cut ms tail (writes_first backs end all k.plan.first);
+        silent = λ b. carried_silent f lot end b writes (k.plan.silent b);
+        first = carried_first f lot end writes k.plan.first;
       };
       stores = λ i e y there bounced on n.
           let to = move_at cut es i e y (in_even f) there bounced on in
           copies_byte f lot.id cut ms tail y n ended ∙ or_left (list_any (λ j. covers (stored cut j) y) ms) (list_any (gives_at f.size y) (coming n lot.id tail)) (some_gives cut ms to.0 y to.1 to.2);
     })
+
+-- ---- a lot is lent with full fences, and more is behind it
+
+abbrev give_step : LotId → Step
+give_step id = turning (turns.Give id) (hart_step full)
+
+given_is : (f : Fixed) (lot : Lot) (more : List Step) → IsPlanned f lot → f.light ≡ false → lend_steps f lot ++ more ≡ op_steps (copied_ops f lot) ++ (op_steps (backs_ops f lot) ++ (give_step lot.id ∷ more))
+given_is f lot more is unlight =
+    append_steps (op_steps (carried f.effects f.size (parts f lot))) (lending_end f lot) more
+    ∙ ap (λ (ss : List Step). op_steps (carried f.effects f.size (parts f lot)) ++ (ss ++ more)) (cond-false f.light (token_steps lot) (give_step lot.id ∷ []) unlight)
+    ∙ carried_is f lot (give_step lot.id ∷ more) is
+
+give_ended : (id : LotId) → ends id (give_step id) ≡ true
+give_ended id = or_left (turns_lot id (turns.Give id)) _ (same_id id)
+
+pub lend_goes : (f : Fixed) (lots : List Lot) (lot : Lot) (more : List Step) → IsInHand f lots lot false sides.Lending → IsPlanned f lot → WritesBack f.effects → f.light ≡ false → LoadsFirst more → PlanGoes f (lots_after (turns.Give lot.id) lots) more → PlanGoes f lots (lend_steps f lot ++ more)
+lend_goes f lots lot more hand is writes unlight first go =
+    let end = give_step lot.id ∷ more in
+    subst (λ (ss : List Step). PlanGoes f lots ss) (sym (given_is f lot more is unlight))
+    (carried_goes f lots lot end hand is writes (or_left (ends lot.id (give_step lot.id)) (list_any (ends lot.id) more) (give_ended lot.id)) refl
+    (λ x n. ap (list_any (gives_at f.size x)) (last n lot.id (give_step lot.id) more (give_ended lot.id)) ∙ fence_byte f.size x n (gives_lot lot.id (turns.Give lot.id))) (Gives (record { lot = lot; hand = hand; step = refl; next = first }), go))
+
+pub lend_first : (f : Fixed) (lot : Lot) (more : List Step) → IsPlanned f lot → WritesBack f.effects → f.light ≡ false → LoadsFirst (lend_steps f lot ++ more)
+lend_first f lot more is writes unlight = subst LoadsFirst (sym (given_is f lot more is unlight)) (carried_first f lot (give_step lot.id ∷ more) writes refl)
+
+pub lend_silent : (f : Fixed) (lot : Lot) (more : List Step) (b : ℕ) → IsPlanned f lot → WritesBack f.effects → f.light ≡ false → list_any (posts b) more ≡ false → list_any (posts b) (lend_steps f lot ++ more) ≡ false
+lend_silent f lot more b is writes unlight silent = ap (list_any (posts b)) (given_is f lot more is unlight) ∙ carried_silent f lot (give_step lot.id ∷ more) b writes silent

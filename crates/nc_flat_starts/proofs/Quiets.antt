@@ -1,5 +1,6 @@
 -- A call with which a plan neither begins nor is left: nothing changes its owner, or a lot that is synced ends.
 use Rattle.std.specs.Prelude.{Option, Some, None, All, true, false, slice_get, option_map}
+use Rattle.std.specs.List.{list_any}
 use Rattle.std.proofs.Common.{◌≡◌, ℕ, ◌<◌, List, [], length, refl, sym, ap, ◌∙◌, inr, subst, arith}
 use Rattle.std.proofs.lemmas.Bool.{both_ways, cond-false}
 use Rattle.nc_num.specs.Memory.{byte}
@@ -19,6 +20,7 @@ use Rattle.nc_sg.specs.declared.list.Entry.{Entry}
 use Rattle.nc_rules.specs.declared.lots.Kind.TheVariants.{Single}
 use Rattle.nc_rules.specs.declared.lots.Lot.{Lot}
 use Rattle.nc_rules.specs.declared.lots.Side.TheVariants as sides
+use Rattle.nc_rules.specs.declared.steps.Phase.TheVariants.{Steps}
 use Rattle.nc_rules.specs.declared.steps.Step.{Step}
 use Rattle.nc_rules.specs.Lots.{lot_id, is_lot, map_id, owner_of_side}
 use Rattle.nc_rules.specs.Machine.{MachineState, hart_of, queue_of}
@@ -32,38 +34,52 @@ use Rattle.nc_holds.proofs.ListsA.{at_get}
 use Rattle.nc_holds.proofs.OwnerEnds.{IsEndMove, end_move}
 use Rattle.nc_holds.proofs.OwnerLots.{same_named}
 use Rattle.nc_holds.proofs.OwnerMoves.{moved_off, moved_to, in_named}
-use Rattle.nc_rows.specs.Ahead.{sending}
+use Rattle.nc_rows.specs.Ahead.{posts, sending}
+use Rattle.nc_rows.proofs.Steps.{steps_ahead}
 use Rattle.nc_rows.specs.Laws.{seen_at}
 use Rattle.nc_rows.specs.Places.{ThreadRow}
 use Rattle.nc_rows.specs.Rows.{Loan, Row, SyncedRow}
 use Rattle.nc_rows.specs.Parts.{rest_last}
 use Rattle.nc_flatness.specs.Books.{loan_by, loan_of, book_of, mapping_in}
 use Rattle.nc_flatness.specs.Flatness.{IsMapping, Drives, BytesStand, Flatness}
-use Rattle.nc_flatness.specs.Plans.{IsStill}
+use Rattle.nc_flatness.specs.Copying.{CopyStands}
+use Rattle.nc_flatness.specs.Plans.{IsStill, LoadsFirst}
 use Rattle.nc_flatness.specs.Tokens.{TokenStands}
+use Rattle.nc_flatness.proofs.Copies.{copy_idle}
 use Rattle.nc_flatness.proofs.Loans.{loan_is}
 use Rattle.nc_flatness.proofs.Outcomes.{gone}
 use Rattle.nc_flatness.proofs.Owned.{owned_ram}
 use Rattle.nc_flat_starts.proofs.Bases.{IsBase, me_of, base_beside}
-use Rattle.nc_flat_starts.proofs.Befores.{base_before, driven, rest_none, far_loan, far_mapping, known_here, all_idle, seen_aside}
-use Rattle.nc_flat_starts.proofs.Frames.{IsPlace, IsOff, On, Off, somewhere, StaysAside, rewrites_none, goes_still, loan_aside, last_none}
-use Rattle.nc_flat_starts.proofs.Lots.{other_without}
-use Rattle.nc_flat_starts.proofs.Opens.{base_owner, side_mine}
+use Rattle.nc_flat_starts.proofs.Befores.{base_before, driven, rest_none, far_loan, far_mapping, far_from, known_here, all_idle, seen_aside}
+use Rattle.nc_flat_starts.proofs.Frames.{IsPlace, IsOff, On, Off, somewhere, IsAside, StaysAside, rewrites_none, goes_still, driver_here, loan_aside, last_none}
+use Rattle.nc_flat_starts.proofs.Lots.{names_entry, other_without}
+use Rattle.nc_flat_starts.proofs.Opens.{base_owner, side_thread, side_mine}
 use Rattle.nc_flat_starts.proofs.Sides.{without_lot, without_all}
 use Rattle.nc_flat_starts.proofs.TurnBytes.{turn_bytes}
 
 -- ---- nothing changes its owner
 
+-- a plan may begin with it that has nothing to put for the hart's mappings
 pub record IsQuiet (sc : Scenario) (f : List ℕ) (w : WorldState) (h : HartNo) (went : Went) : Type 0 where
   pub flat : Flatness sc f w
   pub lt : h.0 < length sc.harts
   pub idle : (driver_of w h.0).rest ≡ []
-  pub rest : went.driver.rest ≡ []
+  pub silent : (b : ℕ) → list_any (posts b) went.driver.rest ≡ false
+  pub first : LoadsFirst went.driver.rest
+  pub aside : (x : ℕ) (k : MapId) → x < sc.ram → mapping_in (owner_of w x) ≡ Some k → k.hart.0 ≡ h.0 → IsAside w h went (owner_of w x) k
   pub transfers : went.moves.transfers ≡ []
   pub fixed : went.driver.fixed ≡ (driver_of w h.0).fixed
   pub loans : (k : MapId) → loan_of went.driver k ≡ loan_of (driver_of w h.0) k
   pub drives : Drives went.driver
-  pub tokens : went.driver.fixed.light ≡ true → All (TokenStands [] (queue_of w.machine h.0)) went.driver.lots
+  pub tokens : went.driver.fixed.light ≡ true → All (TokenStands went.driver.rest (queue_of w.machine h.0)) went.driver.lots
+  pub copying : CopyStands sc f (gone w h w.machine went) h.0
+
+-- no plan is behind it
+pub none_aside : (w : WorldState) (h : HartNo) (went : Went) (o : Owner) (k : MapId) → (driver_of w h.0).rest ≡ [] → went.driver.rest ≡ [] → IsAside w h went o k
+none_aside w h went o k idle rest = inr (λ l known. rest_none k l.lot (driver_of w h.0).rest went.driver.rest idle rest)
+
+pub idle_copy : (sc : Scenario) (f : List ℕ) (w : WorldState) (h : HartNo) (m : MachineState) (went : Went) (n : ℕ) → h.0 < length w.drivers → went.driver.phase ≡ Steps n → CopyStands sc f (gone w h m went) h.0
+idle_copy sc f w h m went n lt is = copy_idle sc f (gone w h m went) h.0 n (ap (λ (d : DriverState). d.phase) (driver_here w h m went lt) ∙ is)
 
 no_lot : Lot
 no_lot = record { id = lot_id (record { 0 = 0 }) 0; kind = Single; chan = record { 0 = 0 }; list = record { dir = Both; entries = [] }; side = sides.Own }
@@ -78,30 +94,34 @@ quiet_bytes sc f w h went q =
     let d = driver_of w h.0 in
     let v = gone w h m went in
     let lt = driven sc f w h q.flat q.lt in
-    let others : (x : ℕ) (k : MapId) → x < sc.ram → mapping_in (owner_of w x) ≡ Some k → StaysAside w h went (owner_of w x) k = λ x k there is own. (q.loans k, inr (λ l known. rest_none k l.lot d.rest went.driver.rest q.idle q.rest)) in
+    let others : (x : ℕ) (k : MapId) → x < sc.ram → mapping_in (owner_of w x) ≡ Some k → StaysAside w h went (owner_of w x) k = λ x k there is own. (q.loans k, q.aside x k there is own) in
     let off : (x : ℕ) → owner_in (owners_moved w.owners went.moves.transfers) x ≡ owner_of w x = λ x. ap (λ (ts : List (Span × Owner)). owner_in (owners_moved w.owners ts) x) q.transfers in
     turn_bytes sc f f w h m went no_lot (λ n. Thread n.hart) q.flat lt (rewrites_none sc f w h no_lot) (goes_still sc f w h q.flat.bytes) (record {
       on = λ i e x there place. absurd (none_at i e x place);
       off = λ x beside. off x;
       unslotted = λ i e x place. absurd (none_at i e x place);
       mine = λ i e x k place is. absurd (none_at i e x place);
-      others = λ x k there beside is own. others x k there is own;
+      threads = λ i e x k place is. absurd (none_at i e x place);
+      along = λ k. false;
+      others = λ x k there beside is own. let r = others x k there is own in (r.0, λ off. r.1);
+      goes_along = λ x k there unslotted beside is own along. absurd cc;
       areas = λ x k l beside own is area over. q.loans k ∙ known_here w h k l own is;
       pooled = λ i e x place over. absurd (none_at i e x place);
       free = λ i e x place over. absurd (none_at i e x place);
-      silent = λ c. ap (λ (ss : List Step). sending c ss) q.rest ∙ sym (ap (λ (ss : List Step). sending c ss) q.idle);
+      silent = λ c. steps_ahead.send_none c went.driver.rest (q.silent c) ∙ sym (ap (λ (ss : List Step). sending c ss) q.idle);
       fixed = q.fixed;
       drives = q.drives;
-      lasting = last_none (book_of v) f h.0 (hart_of m h.0).last (rest_last went.driver.rest) (ap rest_last q.rest);
+      lasting = last_none (book_of v) f h.0 (hart_of m h.0).last (rest_last went.driver.rest) q.first;
       queue = all_idle sc f w h (book_of v) (owner_of v) q.flat q.idle;
-      tokens = subst (λ (rest : List Step). went.driver.fixed.light ≡ true → All (TokenStands rest (queue_of m h.0)) went.driver.lots) (sym q.rest) q.tokens;
-      passes = λ x u there unslotted beside row. row;
+      tokens = q.tokens;
+      passes = λ x u there unslotted beside off row. row;
       lies = λ i e x k there place is. absurd (none_at i e x place);
       row = λ i e x there place row. absurd (none_at i e x place);
       calm = λ z over unseen. q.flat.bytes.calm z over
           (λ x unslotted same. unseen x unslotted
           (ap (λ (p : Owner). seen_at (book_of v) p x) (off x)
           ∙ seen_aside (book_of w) (book_of v) (owner_of w x) x (λ k is. loan_aside w h m went (owner_of w x) k lt (others x k (owned_ram sc f w x k q.flat is) is)) ∙ same));
+      copying = q.copying;
     })
 
 -- ---- a lot that is synced ends
@@ -144,10 +164,10 @@ end_bytes sc f w h went lots lot t =
     (λ u k over.
     let r = its u k in
     beside r.0.i r.0.entry (record { entry = subst (λ (l : Lot). slice_get l.list.entries r.0.i ≡ Some r.0.entry) r.1 r.0.here.entry; on = subst (λ (p : Span × Owner). covers p.0 x ≡ true) (sym r.0.is) over })) in
-    let stays : (k : MapId) → (k.label.0 ≡ lot.id.label.0 → ⊥) → loan_of went.driver k ≡ loan_of d k =
-    λ k far. ap (λ (j : DriverState). loan_of j k) t.driver ∙ ap (option_map (loan_by fx k)) (other_without lot.id k lots far) ∙ b.loans k far in
+    let stays : (k : MapId) → names_entry k lot ≡ false → loan_of went.driver k ≡ loan_of d k =
+    λ k far. ap (λ (j : DriverState). loan_of j k) t.driver ∙ ap (option_map (loan_by fx k)) (other_without lot.id k lots (far_from sc f w h lots lot k p far)) ∙ b.loans k in
     let others : (x : ℕ) (k : MapId) → x < sc.ram → IsOff lot x → mapping_in (owner_of w x) ≡ Some k → StaysAside w h went (owner_of w x) k =
-    λ x k there beside is own_hart. (stays k (far_mapping sc f w h lots lot x k p there beside is own_hart), inr (λ l known. rest_none k l.lot d.rest went.driver.rest b.idle (ap (λ (j : DriverState). j.rest) t.driver))) in
+    λ x k there beside is own_hart. (stays k (far_mapping sc f w h lots lot x k p there beside is own_hart), none_aside w h went (owner_of w x) k b.idle (ap (λ (j : DriverState). j.rest) t.driver)) in
     let its = without_all IsMapping lot.id lots (all_to IsMapping (λ other. is_lot lot.id other ≡ false → IsMapping other) lots b.mappings (λ other is far. is)) in
     let unpooled : (i : ℕ) (e : Entry) (x : ℕ) → IsPlace lot i e x → covers (pool_of sc) x ≡ true → ⊥ = λ i e x place over. both_ways (covers (pool_of sc) x) (base_beside sc f w h lots lot i e x b t.plain place.entry place.on).0 over in
     turn_bytes sc f f w h m went lot (λ n. Thread n.hart) b.flat lt (rewrites_none sc f w h lot) (goes_still sc f w h b.flat.bytes) (record {
@@ -155,7 +175,10 @@ end_bytes sc f w h went lots lot t =
       off = off;
       unslotted = λ i e x place. (base_beside sc f w h lots lot i e x b t.plain place.entry place.on).1;
       mine = λ i e x k place is. side_mine h lot i k (sym (ap mapping_in (base_owner sc f w h lots lot i e x b place)) ∙ is);
-      others = λ x k there beside is own_hart. others x k there beside is own_hart;
+      threads = λ i e x k place is. side_thread h lot i k (sym (base_owner sc f w h lots lot i e x b place) ∙ is);
+      along = λ k. false;
+      others = λ x k there beside is own_hart. let r = others x k there beside is own_hart in (r.0, λ off. r.1);
+      goes_along = λ x k there unslotted beside is own_hart along. absurd cc;
       areas = λ x k l beside own_hart is area over. stays k (far_loan sc f w h lots lot x k l p beside own_hart (loan_is sc f w k l b.flat is) over) ∙ known_here w h k l own_hart is;
       pooled = λ i e x place over. absurd (unpooled i e x place over);
       free = λ i e x place over. absurd (unpooled i e x place over);
@@ -169,7 +192,7 @@ end_bytes sc f w h went lots lot t =
       lasting = last_none (book_of v) f h.0 (hart_of m h.0).last (rest_last went.driver.rest) (ap (λ (j : DriverState). rest_last j.rest) t.driver);
       queue = all_idle sc f w h (book_of v) (owner_of v) b.flat b.idle;
       tokens = subst (λ (j : DriverState). j.fixed.light ≡ true → All (TokenStands j.rest (queue_of m h.0)) j.lots) (sym t.driver) (λ light. without_all (TokenStands [] (queue_of m h.0)) lot.id lots (all_to (TokenStands [] (queue_of m h.0)) (λ other. is_lot lot.id other ≡ false → TokenStands [] (queue_of m h.0) other) lots (p.tokens light) (λ other stands off. stands)));
-      passes = λ x u there unslotted beside row. row;
+      passes = λ x u there unslotted beside off row. row;
       lies = λ i e x k there place is. absurd cc;
       row = λ i e x there place row.
           let n = map_id h lot.id i in
@@ -184,4 +207,5 @@ end_bytes sc f w h went lots lot t =
                 (ap (λ (p : Owner). seen_at (book_of v) p x) (off x beside)
                 ∙ seen_aside (book_of w) (book_of v) (owner_of w x) x (λ k is. loan_aside w h m went (owner_of w x) k lt (others x k (owned_ram sc f w x k b.flat is) beside is)) ∙ same)
           ]);
+      copying = idle_copy sc f w h m went 0 lt (ap (λ (j : DriverState). j.phase) t.driver);
     })

@@ -28,16 +28,17 @@ use Rattle.nc_rules.specs.declared.steps.Step.{Step}
 use Rattle.nc_rules.specs.declared.steps.Turn.{Turn}
 use Rattle.nc_rules.specs.Lots.{Fixed, parts}
 use Rattle.nc_rules.specs.Plans.{hart_step, op_steps, turning, ending, return_steps}
+use Rattle.nc_rules.specs.Turns.{lots_after}
 use Rattle.nc_scripts.proofs.Lists.{all_in}
 use Rattle.nc_holds.specs.Held.{SharesNone}
 use Rattle.nc_holds.proofs.ListsA.{get_at}
 use Rattle.nc_rows.specs.Ahead.{same_lot, turns_lot, gives_lot, ends, is_full, op_coming, token, coming}
-use Rattle.nc_rows.proofs.Steps.{next, last}
+use Rattle.nc_rows.proofs.Steps.{next, last, steps_ahead}
 use Rattle.nc_row_plans.specs.Plans.{DropsBlocks}
-use Rattle.nc_flatness.specs.Plans.{IsInHand, HasFull, IsBack, Loads, Stores, Fences, Ends, PlanGoes, device_of}
+use Rattle.nc_flatness.specs.Plans.{IsStill, IsInHand, HasFull, LoadsFirst, IsBack, Loads, Stores, Fences, Ends, PlanGoes, device_of}
 use Rattle.nc_flat_starts.proofs.Pieces.{Move, stored, moves_of, IsMove, MovesApart, moves_are, moves_apart, move_at, pairs_apart}
 use Rattle.nc_flat_starts.proofs.PlanComes.{ops_of, only_ops, ends_behind, silent_ops, full_behind, copies_are, copies_give, ending_last, steps_append, append_steps}
-use Rattle.nc_flat_starts.proofs.Sides.{IsSingly, back_still}
+use Rattle.nc_flat_starts.proofs.Sides.{Others, IsSingly, back_still}
 use Rattle.nc_flat_starts.proofs.PlanOps.{out_cut, IsPlanned, out_even, IsPlan, same_id, outs_of, outs_are, IsDropping, dropped_are, dropping_are_plain, drops_first}
 use Rattle.nc_flat_starts.proofs.PlanEnds.{only_turn}
 use Rattle.nc_flat_starts.proofs.PlansGo.{drops_go, copies_first, copies_byte, copies_go, some_gives}
@@ -57,9 +58,21 @@ back_same id turn (inr is) b = ap (turns_lot b) is
 turn_ends : (id : LotId) (turn : Turn) (o : HartOp) (rest : List Step) → IsBack id turn → ends id (turning turn (hart_step o)) ≡ true
 turn_ends id turn o rest back = or_left (turns_lot id turn) _ (back_turns id turn back).0
 
-turn_comes : (n : MapId) (id : LotId) (turn : Turn) (o : HartOp) → IsBack id turn → coming n id (turning turn (hart_step o) ∷ []) ≡ op_coming o ++ []
-turn_comes n id turn o back =
-    last n id (turning turn (hart_step o)) [] (turn_ends id turn o [] back) ∙ ap (λ (es : List QueueEntry). op_coming o ++ es) (cond-false (gives_lot id turn) (token n ∷ []) [] (back_turns id turn back).1)
+turn_comes : (n : MapId) (id : LotId) (turn : Turn) (o : HartOp) (more : List Step) → IsBack id turn → coming n id (turning turn (hart_step o) ∷ more) ≡ op_coming o ++ []
+turn_comes n id turn o more back =
+    last n id (turning turn (hart_step o)) more (turn_ends id turn o more back) ∙ ap (λ (es : List QueueEntry). op_coming o ++ es) (cond-false (gives_lot id turn) (token n ∷ []) [] (back_turns id turn back).1)
+
+-- ---- what is left behind it
+
+-- it goes from the lots behind the turn on, and does not end the lot again
+pub record IsBehind (f : Fixed) (id : LotId) (lots : List Lot) (more : List Step) : Type 0 where
+  pub goes : PlanGoes f lots more
+  pub first : LoadsFirst more
+  pub unended : list_any (ends id) more ≡ false
+
+-- nothing, where all lots are still then
+still_behind : (f : Fixed) (id : LotId) (lots : List Lot) → All (IsStill f) lots → IsBehind f id lots []
+still_behind f id lots still = record { goes = still; first = refl; unended = refl }
 
 -- ---- nothing comes out of a slot
 
@@ -77,28 +90,32 @@ straight_so : (f : Fixed) (lot : Lot) (t : Bool) → comes_back lot.list.dir ≡
 straight_so f lot true back is none comes = none_bounces f lot.list.entries is.some none
 straight_so f lot false back is none comes = absurd (both_ways (comes_back lot.list.dir) back comes)
 
-direct_end : (f : Fixed) (lots : List Lot) (lot : Lot) (turn : Turn) → IsInHand f lots lot false sides.Returning → IsBack lot.id turn → IsSingly lot.id turn lots → (comes_back lot.list.dir ≡ true → All (λ e. e.bounced ≡ false) lot.list.entries) → PlanGoes f lots (turning turn (hart_step full) ∷ [])
-direct_end f lots lot turn hand back single straight =
-    (Ends (record { lot = lot; hand = hand; turn = turn; is_back = back; step = refl; over = refl; straight = straight }), back_still f lot.id turn lots back single hand.others)
+direct_end : (f : Fixed) (lots : List Lot) (lot : Lot) (turn : Turn) (more : List Step) → IsInHand f lots lot false sides.Returning → IsBack lot.id turn → (comes_back lot.list.dir ≡ true → All (λ e. e.bounced ≡ false) lot.list.entries) → IsBehind f lot.id (lots_after turn lots) more
+    → PlanGoes f lots (turning turn (hart_step full) ∷ more)
+direct_end f lots lot turn more hand back straight behind = (Ends (record { lot = lot; hand = hand; turn = turn; is_back = back; step = refl; next = behind.first; straight = straight }), behind.goes)
 
 -- ---- the last copy
 
-abbrev last_copy : (Entry → Span × Span) → Turn → Move → List Step
+abbrev pub last_copy : (Entry → Span × Span) → Turn → Move → List Step
 last_copy cut turn m = hart_step (hart.Load m.piece Pma) ∷ turning turn (hart_step (hart.Store (stored cut m) Pma Last)) ∷ []
 
-last_ends : (cut : Entry → Span × Span) (id : LotId) (turn : Turn) (m : Move) → IsBack id turn → list_any (ends id) (last_copy cut turn m) ≡ true
-last_ends cut id turn m back =
-    or_right (ends id (hart_step (hart.Load m.piece Pma))) _ (or_left (ends id (turning turn (hart_step (hart.Store (stored cut m) Pma Last)))) false (turn_ends id turn (hart.Store (stored cut m) Pma Last) [] back))
+last_ends : (cut : Entry → Span × Span) (id : LotId) (turn : Turn) (m : Move) (more : List Step) → IsBack id turn → list_any (ends id) (last_copy cut turn m ++ more) ≡ true
+last_ends cut id turn m more back =
+    or_right (ends id (hart_step (hart.Load m.piece Pma))) _
+    (or_left (ends id (turning turn (hart_step (hart.Store (stored cut m) Pma Last)))) (list_any (ends id) more) (turn_ends id turn (hart.Store (stored cut m) Pma Last) more back))
 
-last_comes : (cut : Entry → Span × Span) (n : MapId) (id : LotId) (turn : Turn) (m : Move) → IsBack id turn → coming n id (last_copy cut turn m) ≡ entries.Store (stored cut m) [] Pma ∷ []
-last_comes cut n id turn m back =
-    next n id (hart_step (hart.Load m.piece Pma)) (turning turn (hart_step (hart.Store (stored cut m) Pma Last)) ∷ []) refl (or_left (ends id (turning turn (hart_step (hart.Store (stored cut m) Pma Last)))) false (turn_ends id turn (hart.Store (stored cut m) Pma Last) [] back))
-    ∙ turn_comes n id turn (hart.Store (stored cut m) Pma Last) back
+last_comes : (cut : Entry → Span × Span) (n : MapId) (id : LotId) (turn : Turn) (m : Move) (more : List Step) → IsBack id turn → coming n id (last_copy cut turn m ++ more) ≡ entries.Store (stored cut m) [] Pma ∷ []
+last_comes cut n id turn m more back =
+    next n id (hart_step (hart.Load m.piece Pma)) (turning turn (hart_step (hart.Store (stored cut m) Pma Last)) ∷ more) refl
+    (or_left (ends id (turning turn (hart_step (hart.Store (stored cut m) Pma Last)))) (list_any (ends id) more) (turn_ends id turn (hart.Store (stored cut m) Pma Last) more back))
+    ∙ turn_comes n id turn (hart.Store (stored cut m) Pma Last) more back
 
-last_goes : (f : Fixed) (lots : List Lot) (lot : Lot) (turn : Turn) (m : Move) → IsInHand f lots lot false sides.Returning → comes_back lot.list.dir ≡ true → IsBack lot.id turn → IsSingly lot.id turn lots → IsMove (out_cut f) lot.list.entries m → PlanGoes f lots (last_copy (out_cut f) turn m)
-last_goes f lots lot turn m hand comes back single is =
+last_goes : (f : Fixed) (lots : List Lot) (lot : Lot) (turn : Turn) (m : Move) (more : List Step) → IsInHand f lots lot false sides.Returning → comes_back lot.list.dir ≡ true → IsBack lot.id turn → IsBehind f lot.id (lots_after turn lots) more → IsMove (out_cut f) lot.list.entries m
+    → PlanGoes f lots (last_copy (out_cut f) turn m ++ more)
+last_goes f lots lot turn m more hand comes back behind is =
     let from = device_of f m.entry in
-    let to = m.entry.span in (
+    let to = m.entry.span in
+    let none : (n : MapId) → coming n lot.id more ≡ [] = λ n. steps_ahead.none n lot.id more behind.unended in (
       Loads (record {
         from = from;
         to = to;
@@ -108,7 +125,7 @@ last_goes f lots lot turn m hand comes back single is =
           entry = m.entry;
           here = record { lot_in = hand.here; entry = is.entry };
           bounced = is.bounced;
-          way = inr (record { hand = hand; back = comes; fenced = λ n. ap (list_any is_full) (turn_comes n lot.id turn (hart.Store (stored (out_cut f) m) Pma Last) back); from_is = refl; to_is = refl });
+          way = inr (record { hand = hand; back = comes; fenced = λ n. ap (list_any is_full) (turn_comes n lot.id turn (hart.Store (stored (out_cut f) m) Pma Last) more back); from_is = refl; to_is = refl });
         };
         span = m.piece;
         step = refl;
@@ -119,16 +136,23 @@ last_goes f lots lot turn m hand comes back single is =
         Stores (record {
           from = from;
           to = to;
-          copied = record { lot = lot; i = is.i; entry = m.entry; here = record { lot_in = hand.here; entry = is.entry }; bounced = is.bounced; way = inr (record { hand = hand; back = comes; fenced = λ n. refl; from_is = refl; to_is = refl }) };
+          copied = record {
+            lot = lot;
+            i = is.i;
+            entry = m.entry;
+            here = record { lot_in = hand.here; entry = is.entry };
+            bounced = is.bounced;
+            way = inr (record { hand = hand; back = comes; fenced = λ n. ap (list_any is_full) (none n); from_is = refl; to_is = refl });
+          };
           span = m.piece;
           act = refl;
           first = refl;
           within = is.within;
-          once = λ x on n. refl;
-          next = refl;
-          last = inr (back, hand.side_is, refl);
+          once = λ x on n. ap (list_any (gives_at f.size x)) (none n);
+          next = behind.first;
+          last = inr (back, hand.side_is);
         }),
-        back_still f lot.id turn lots back single hand.others,
+        behind.goes,
       ),
     )
 
@@ -178,21 +202,21 @@ outs_steps cut turn init m before =
     shift (o ∷ a) b load store = ap (λ (k : List HartOp). o ∷ k) (shift a b load store)
 
 -- what comes out, behind a fence that makes no turn
-outs_go : (f : Fixed) (lots : List Lot) (lot : Lot) (turn : Turn) (init : List Move) (m : Move) → IsInHand f lots lot false sides.Returning → IsPlanned f lot → comes_back lot.list.dir ≡ true → IsBack lot.id turn → IsSingly lot.id turn lots → moves_of (out_cut f) lot.list.entries ≡ init ++ m ∷ []
-    → PlanGoes f lots (hart_step full ∷ (op_steps (flat_map (ops_of (out_cut f)) init) ++ last_copy (out_cut f) turn m))
-outs_go f lots lot turn init m hand is comes back single ms =
+outs_go : (f : Fixed) (lots : List Lot) (lot : Lot) (turn : Turn) (init : List Move) (m : Move) (more : List Step) → IsInHand f lots lot false sides.Returning → IsPlanned f lot → comes_back lot.list.dir ≡ true → IsBack lot.id turn → moves_of (out_cut f) lot.list.entries ≡ init ++ m ∷ []
+    → IsBehind f lot.id (lots_after turn lots) more → PlanGoes f lots (hart_step full ∷ (op_steps (flat_map (ops_of (out_cut f)) init) ++ (last_copy (out_cut f) turn m ++ more)))
+outs_go f lots lot turn init m more hand is comes back ms behind =
     let es = lot.list.entries in
     let cut = out_cut f in
     let id = lot.id in
-    let end = last_copy cut turn m in
+    let end = last_copy cut turn m ++ more in
     let ops = flat_map (ops_of cut) init in
     let rest = op_steps ops ++ end in
-    let ended = last_ends cut id turn m back in
+    let ended = last_ends cut id turn m more back in
     let all = all_init (IsMove cut es) init m (subst (λ (ks : List Move). All (IsMove cut es) ks) ms (moves_are cut es)) in
     let apart = init_apart cut init m (subst (λ (ks : List Move). MovesApart cut ks) ms (moves_apart cut es (out_even f) (pairs_apart cut es is.buffers))) in
-    let unfenced : HasFull id end false = λ n. ap (list_any is_full) (last_comes cut n id turn m back) in
+    let unfenced : HasFull id end false = λ n. ap (list_any is_full) (last_comes cut n id turn m more back) in
     let byte : (x : ℕ) (n : MapId) → list_any (gives_at f.size x) (coming n id end) ≡ covers (stored cut m) x =
-    λ x n. ap (list_any (gives_at f.size x)) (last_comes cut n id turn m back) ∙ copies_give f.size x cut (m ∷ []) ∙ or_none (covers (stored cut m) x) in (
+    λ x n. ap (list_any (gives_at f.size x)) (last_comes cut n id turn m more back) ∙ copies_give f.size x cut (m ∷ []) ∙ or_none (covers (stored cut m) x) in (
       Fences (record {
         lot = lot;
         hand = hand;
@@ -205,7 +229,7 @@ outs_go f lots lot turn init m hand is comes back single ms =
             ∙ some_gives cut (init ++ m ∷ []) k.0 x (subst (λ (ks : List Move). In k.0 ks) ms k.1) k.2;
       }),
       copies_go f lots lot cut init end hand.here (λ e before plain. inr (record { hand = hand; back = comes; fenced = λ n. full_behind n id before end false plain ended (unfenced n); from_is = refl; to_is = refl })) all.0 apart.0 ended refl
-          (λ k x there on n. byte x n ∙ false_from_ne_true (covers (stored cut m) x) (λ also. apart.1 k there x on also)) (last_goes f lots lot turn m hand comes back single all.1),
+          (λ k x there on n. byte x n ∙ false_from_ne_true (covers (stored cut m) x) (λ also. apart.1 k there x on also)) (last_goes f lots lot turn m more hand comes back behind all.1),
     )
   where
     or_none : (b : Bool) → (b || false) ≡ b
@@ -215,7 +239,7 @@ outs_go f lots lot turn init m hand is comes back single ms =
     last_one : (p : Move → Bool) (ks : List Move) (k : Move) → list_any p (ks ++ k ∷ []) ≡ (list_any p ks || p k)
     last_one p ks k = list_any-append p ks (k ∷ []) ∙ ap (λ (t : Bool). list_any p ks || t) (or_none (p k))
 
--- ---- the whole
+-- ---- the plan
 
 fence_comes : (n : MapId) (id : LotId) (rest : List Step) → list_any (ends id) rest ≡ true → list_any is_full (coming n id (hart_step full ∷ rest)) ≡ true
 fence_comes n id rest ended = ap (list_any is_full) (next n id (hart_step full) rest refl ended)
@@ -228,47 +252,112 @@ no_out f es false init m is = absurd (never init m is)
     never [] m e = absurd cc
     never (k ∷ init) m e = absurd cc
 
+-- the blocks that are dropped
+abbrev pub drops_of : Fixed → Lot → List HartOp
+drops_of f lot = flat_map (dropped f.effects f.size) (parts f lot)
+
+-- the plan: the fence makes the turn, or the last store of what comes out
+pub data IsReturn (f : Fixed) (lot : Lot) (turn : Turn) : Type 0 where
+  Straight : ending turn (return_steps f lot) ≡ op_steps (drops_of f lot) ++ turning turn (hart_step full) ∷ [] → (comes_back lot.list.dir ≡ true → All (λ e. e.bounced ≡ false) lot.list.entries) → IsReturn f lot turn
+  CopiedOut : (init : List Move) (m : Move) → comes_back lot.list.dir ≡ true → moves_of (out_cut f) lot.list.entries ≡ init ++ m ∷ []
+      → ending turn (return_steps f lot) ≡ op_steps (drops_of f lot) ++ (hart_step full ∷ (op_steps (flat_map (ops_of (out_cut f)) init) ++ last_copy (out_cut f) turn m)) → IsReturn f lot turn
+
+return_by : (f : Fixed) (lot : Lot) (turn : Turn) (ms : List Move) → IsPlanned f lot → outs_of f (comes_back lot.list.dir) lot.list.entries ≡ ms → IsSplit ms → flat_map copied_back (parts f lot) ≡ flat_map (ops_of (out_cut f)) ms → IsReturn f lot turn
+unfolding returning
+return_by f lot turn ms is from (NoMove none) outs =
+    let ops = drops_of f lot in
+    Straight
+    (ap (λ (k : List HartOp). ending turn (op_steps ((ops ++ full ∷ []) ++ k))) (outs ∙ ap (flat_map (ops_of (out_cut f))) none)
+    ∙ ap (λ (k : List HartOp). ending turn (op_steps k)) (append-nil (ops ++ full ∷ [])) ∙ ending_last ops full turn)
+    (straight_so f lot (comes_back lot.list.dir) refl is (from ∙ none))
+return_by f lot turn ms is from (Before init m sp) outs =
+    let cut = out_cut f in
+    let ops = drops_of f lot in
+    let rest = op_steps (flat_map (ops_of cut) init) ++ last_copy cut turn m in
+    let comes = no_out f lot.list.entries (comes_back lot.list.dir) init m (from ∙ sp) in
+    CopiedOut init m comes.0 comes.1
+    (ap (λ (k : List HartOp). ending turn (op_steps ((ops ++ full ∷ []) ++ k))) (outs ∙ ap (flat_map (ops_of cut)) sp)
+    ∙ outs_steps cut turn init m (ops ++ full ∷ []) ∙ ap (λ (ss : List Step). ss ++ rest) (steps_append ops (full ∷ [])) ∙ append_steps (op_steps ops) (hart_step full ∷ []) rest)
+
+pub return_is : (f : Fixed) (lot : Lot) (turn : Turn) → IsPlanned f lot → IsReturn f lot turn
+return_is f lot turn is =
+    let ms = outs_of f (comes_back lot.list.dir) lot.list.entries in
+    return_by f lot turn ms is refl (split ms) (outs_are f lot.list.dir lot.list.entries (comes_back lot.list.dir) refl is.off)
+
+-- what is behind the drops, with more behind it
+pub record ReturnTail (f : Fixed) (lots : List Lot) (lot : Lot) (turn : Turn) (more : List Step) : Type 0 where
+  pub tail : List Step
+  pub is : ending turn (return_steps f lot) ≡ op_steps (drops_of f lot) ++ tail
+  pub goes : PlanGoes f lots (tail ++ more)
+  pub ended : list_any (ends lot.id) (tail ++ more) ≡ true
+  pub fenced : HasFull lot.id (tail ++ more) true
+  pub first : LoadsFirst (tail ++ more)
+
+tail_by : (f : Fixed) (lots : List Lot) (lot : Lot) (turn : Turn) (more : List Step) → IsInHand f lots lot false sides.Returning → IsPlanned f lot → IsBack lot.id turn → IsBehind f lot.id (lots_after turn lots) more → IsReturn f lot turn → ReturnTail f lots lot turn more
+tail_by f lots lot turn more hand is back behind (Straight whole straight) = record {
+  tail = turning turn (hart_step full) ∷ [];
+  is = whole;
+  goes = direct_end f lots lot turn more hand back straight behind;
+  ended = or_left (ends lot.id (turning turn (hart_step full))) (list_any (ends lot.id) more) (turn_ends lot.id turn full more back);
+  fenced = λ n. ap (list_any is_full) (turn_comes n lot.id turn full more back);
+  first = refl;
+}
+tail_by f lots lot turn more hand is back behind (CopiedOut init m comes ms whole) =
+    let cut = out_cut f in
+    let ops = flat_map (ops_of cut) init in
+    let end = last_copy cut turn m ++ more in
+    let shift : (op_steps ops ++ last_copy cut turn m) ++ more ≡ op_steps ops ++ end = append_steps (op_steps ops) (last_copy cut turn m) more in
+    let ended = ends_behind lot.id ops end (last_ends cut lot.id turn m more back) in
+    record {
+      tail = hart_step full ∷ (op_steps ops ++ last_copy cut turn m);
+      is = whole;
+      goes = subst (λ (ss : List Step). PlanGoes f lots (hart_step full ∷ ss)) (sym shift) (outs_go f lots lot turn init m more hand is comes back ms behind);
+      ended = ap (λ (ss : List Step). list_any (ends lot.id) (hart_step full ∷ ss)) shift ∙ or_right (ends lot.id (hart_step full)) (list_any (ends lot.id) (op_steps ops ++ end)) ended;
+      fenced = λ n. ap (λ (ss : List Step). list_any is_full (coming n lot.id (hart_step full ∷ ss))) shift ∙ fence_comes n lot.id (op_steps ops ++ end) ended;
+      first = refl;
+    }
+
+pub tail_so : (f : Fixed) (lots : List Lot) (lot : Lot) (turn : Turn) (more : List Step) → IsInHand f lots lot false sides.Returning → IsPlanned f lot → IsBack lot.id turn → IsBehind f lot.id (lots_after turn lots) more → ReturnTail f lots lot turn more
+tail_so f lots lot turn more hand is back behind = tail_by f lots lot turn more hand is back behind (return_is f lot turn is)
+
+-- ---- what is known of the plan beside
+
+plan_by : (f : Fixed) (lot : Lot) (turn : Turn) → All (IsDropping f lot) (drops_of f lot) → IsBack lot.id turn → IsReturn f lot turn → IsPlan lot.id (ending turn (return_steps f lot))
+plan_by f lot turn all back (Straight whole straight) =
+    let ops = drops_of f lot in
+    let end = turning turn (hart_step full) ∷ [] in
+    let ended : list_any (ends lot.id) end ≡ true = or_left (ends lot.id (turning turn (hart_step full))) false (turn_ends lot.id turn full [] back) in
+    subst (λ (ss : List Step). IsPlan lot.id ss) (sym whole)
+    (record { ended = ends_behind lot.id ops end ended; only = only_ops lot.id ops end (dropping_are_plain f lot ops all) (only_turn lot.id turn full (back_same lot.id turn back) (λ b. refl)); silent = λ b. silent_ops b ops end (dropping_are_plain f lot ops all) refl; first = drops_first f lot ops end all refl })
+plan_by f lot turn all back (CopiedOut init m comes ms whole) =
+    let cut = out_cut f in
+    let ops = drops_of f lot in
+    let copied = flat_map (ops_of cut) init in
+    let rest = op_steps copied ++ last_copy cut turn m in
+    let ended = ends_behind lot.id copied (last_copy cut turn m) (last_ends cut lot.id turn m [] back) in
+    let later : list_any (ends lot.id) (hart_step full ∷ rest) ≡ true = or_right (ends lot.id (hart_step full)) (list_any (ends lot.id) rest) ended in
+    subst (λ (ss : List Step). IsPlan lot.id ss) (sym whole) (record {
+      ended = ends_behind lot.id ops (hart_step full ∷ rest) later;
+      only = only_ops lot.id ops (hart_step full ∷ rest) (dropping_are_plain f lot ops all)
+          (only_ops lot.id copied (last_copy cut turn m) (copies_are cut init) (only_turn lot.id turn (hart.Store (stored cut m) Pma Last) (back_same lot.id turn back) (λ b. refl)));
+      silent = λ b. silent_ops b ops (hart_step full ∷ rest) (dropping_are_plain f lot ops all) (silent_ops b copied (last_copy cut turn m) (copies_are cut init) refl);
+      first = drops_first f lot ops (hart_step full ∷ rest) all refl;
+    })
+
+pub return_plan : (f : Fixed) (lot : Lot) (turn : Turn) → IsPlanned f lot → DropsBlocks f.effects → IsBack lot.id turn → IsPlan lot.id (ending turn (return_steps f lot))
+return_plan f lot turn is drops back = plan_by f lot turn (dropped_are f lot is.size drops) back (return_is f lot turn is)
+
+-- ---- the whole
+
 pub record Returns (f : Fixed) (lots : List Lot) (lot : Lot) (steps : List Step) : Type 0 where
   pub goes : PlanGoes f lots steps
   pub plan : IsPlan lot.id steps
 
-return_by : (f : Fixed) (lots : List Lot) (lot : Lot) (turn : Turn) (ms : List Move) → IsInHand f lots lot false sides.Returning → IsPlanned f lot → All (IsDropping f lot) (flat_map (dropped f.effects f.size) (parts f lot)) → IsBack lot.id turn → IsSingly lot.id turn lots
-    → outs_of f (comes_back lot.list.dir) lot.list.entries ≡ ms → IsSplit ms → flat_map copied_back (parts f lot) ≡ flat_map (ops_of (out_cut f)) ms → Returns f lots lot (ending turn (return_steps f lot))
-unfolding returning
-return_by f lots lot turn ms hand is all back single from (NoMove none) outs =
-    let ops = flat_map (dropped f.effects f.size) (parts f lot) in
-    let end = turning turn (hart_step full) ∷ [] in
-    let whole : ending turn (return_steps f lot) ≡ op_steps ops ++ end =
-    ap (λ (k : List HartOp). ending turn (op_steps ((ops ++ full ∷ []) ++ k))) (outs ∙ ap (flat_map (ops_of (out_cut f))) none)
-    ∙ ap (λ (k : List HartOp). ending turn (op_steps k)) (append-nil (ops ++ full ∷ [])) ∙ ending_last ops full turn in
-    let ended : list_any (ends lot.id) end ≡ true = or_left (ends lot.id (turning turn (hart_step full))) false (turn_ends lot.id turn full [] back) in
-    subst (λ (ss : List Step). Returns f lots lot ss) (sym whole) (record {
-      goes = drops_go f lots lot ops end hand all ended (λ n. ap (list_any is_full) (turn_comes n lot.id turn full back)) refl (direct_end f lots lot turn hand back single (straight_so f lot (comes_back lot.list.dir) refl is (from ∙ none)));
-      plan = record { ended = ends_behind lot.id ops end ended; only = only_ops lot.id ops end (dropping_are_plain f lot ops all) (only_turn lot.id turn full (back_same lot.id turn back) (λ b. refl)); silent = λ b. silent_ops b ops end (dropping_are_plain f lot ops all) refl; first = drops_first f lot ops end all refl };
-    })
-return_by f lots lot turn ms hand is all back single from (Before init m sp) outs =
-    let cut = out_cut f in
-    let ops = flat_map (dropped f.effects f.size) (parts f lot) in
-    let copied = flat_map (ops_of cut) init in
-    let rest = op_steps copied ++ last_copy cut turn m in
-    let ended = ends_behind lot.id copied (last_copy cut turn m) (last_ends cut lot.id turn m back) in
-    let comes = no_out f lot.list.entries (comes_back lot.list.dir) init m (from ∙ sp) in
-    let whole : ending turn (return_steps f lot) ≡ op_steps ops ++ (hart_step full ∷ rest) =
-    ap (λ (k : List HartOp). ending turn (op_steps ((ops ++ full ∷ []) ++ k))) (outs ∙ ap (flat_map (ops_of cut)) sp)
-    ∙ outs_steps cut turn init m (ops ++ full ∷ []) ∙ ap (λ (ss : List Step). ss ++ rest) (steps_append ops (full ∷ [])) ∙ append_steps (op_steps ops) (hart_step full ∷ []) rest in
-    let later : list_any (ends lot.id) (hart_step full ∷ rest) ≡ true = or_right (ends lot.id (hart_step full)) (list_any (ends lot.id) rest) ended in
-    subst (λ (ss : List Step). Returns f lots lot ss) (sym whole) (record {
-      goes = drops_go f lots lot ops (hart_step full ∷ rest) hand all later (λ n. fence_comes n lot.id rest ended) refl (outs_go f lots lot turn init m hand is comes.0 back single comes.1);
-      plan = record {
-        ended = ends_behind lot.id ops (hart_step full ∷ rest) later;
-        only = only_ops lot.id ops (hart_step full ∷ rest) (dropping_are_plain f lot ops all)
-            (only_ops lot.id copied (last_copy cut turn m) (copies_are cut init) (only_turn lot.id turn (hart.Store (stored cut m) Pma Last) (back_same lot.id turn back) (λ b. refl)));
-        silent = λ b. silent_ops b ops (hart_step full ∷ rest) (dropping_are_plain f lot ops all) (silent_ops b copied (last_copy cut turn m) (copies_are cut init) refl);
-        first = drops_first f lot ops (hart_step full ∷ rest) all refl;
-      };
-    })
-
-pub return_so : (f : Fixed) (lots : List Lot) (lot : Lot) (turn : Turn) → IsInHand f lots lot false sides.Returning → IsPlanned f lot → DropsBlocks f.effects → IsBack lot.id turn → IsSingly lot.id turn lots → Returns f lots lot (ending turn (return_steps f lot))
-return_so f lots lot turn hand is drops back single =
-    let ms = outs_of f (comes_back lot.list.dir) lot.list.entries in
-    return_by f lots lot turn ms hand is (dropped_are f lot is.size drops) back single refl (split ms) (outs_are f lot.list.dir lot.list.entries (comes_back lot.list.dir) refl is.off)
+pub return_so : (f : Fixed) (lots : List Lot) (lot : Lot) (turn : Turn) → IsInHand f lots lot false sides.Returning → Others (IsStill f) lot.id lots → IsPlanned f lot → DropsBlocks f.effects → IsBack lot.id turn → IsSingly lot.id turn lots → Returns f lots lot (ending turn (return_steps f lot))
+return_so f lots lot turn hand others is drops back single =
+    let t = tail_so f lots lot turn [] hand is back (still_behind f lot.id (lots_after turn lots) (back_still f lot.id turn lots back single others)) in
+    let whole : op_steps (drops_of f lot) ++ (t.tail ++ []) ≡ ending turn (return_steps f lot) = ap (λ (ss : List Step). op_steps (drops_of f lot) ++ ss) (append-nil t.tail) ∙ sym t.is in
+    record {
+      goes = subst (λ (ss : List Step). PlanGoes f lots ss) whole (drops_go f lots lot (drops_of f lot) (t.tail ++ []) hand (dropped_are f lot is.size drops) t.ended t.fenced t.first t.goes);
+      plan = return_plan f lot turn is drops back;
+    }

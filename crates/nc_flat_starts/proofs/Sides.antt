@@ -13,10 +13,12 @@ use Rattle.nc_rules.specs.declared.steps.Turn.{Turn}
 use Rattle.nc_rules.specs.declared.steps.Turn.TheVariants as turns
 use Rattle.nc_rules.specs.Lots.{Fixed, is_lot}
 use Rattle.nc_rules.specs.Turns.{is_area, with_side, set_side, lots_after}
-use Rattle.nc_scripts.proofs.LotLaws.{its_name}
-use Rattle.nc_scripts.proofs.Lists.{all_in}
+use Rattle.nc_scripts.specs.Drivers.{AreApart}
+use Rattle.nc_scripts.proofs.LotLaws.{named_so, its_name}
+use Rattle.nc_scripts.proofs.Lists.{all_in, all_to}
 use Rattle.nc_holds.proofs.ListsA.{all_at}
-use Rattle.nc_flatness.specs.Plans.{IsStill, StillDevice, StillSynced, StillOwn, StillSent, IsInHand, IsBack, IsAreaBack}
+use Rattle.nc_holds.proofs.OwnerLots.{same_lot}
+use Rattle.nc_flatness.specs.Plans.{IsStill, StillDevice, StillSynced, StillOwn, StillSent, IsBeside, IsInHand, IsBack, IsAreaBack}
 
 abbrev pub without_lot : LotId → List Lot → List Lot
 without_lot id lots = filter (λ lot. not (is_lot id lot)) lots
@@ -49,12 +51,22 @@ with_same side id lot = elim (cases_Bool (is_lot id lot)) [
   | inr off ↦ ap (λ (l : Lot). l.id) (cond-false (is_lot id lot) (turned_lot side lot) lot off)
 ]
 
--- the only lot of its label stays so
-pub set_one : (side : Side) (lots : List Lot) (lot : Lot) → ((other : Lot) → In other lots → other.id.label.0 ≡ lot.id.label.0 → other ≡ lot) → (other : Lot) → In other (set_side side lot.id lots) → other.id.label.0 ≡ lot.id.label.0 → other ≡ turned_lot side lot
-set_one side lots lot only other there same =
+with_list : (side : Side) (id : LotId) (lot : Lot) → (with_side side id lot).list ≡ lot.list
+with_list side id lot = elim (cases_Bool (is_lot id lot)) [
+  | inl is ↦ ap (λ (l : Lot). l.list) (cond-true (is_lot id lot) (turned_lot side lot) lot is)
+  | inr off ↦ ap (λ (l : Lot). l.list) (cond-false (is_lot id lot) (turned_lot side lot) lot off)
+]
+
+-- the only lot that is so stays the only one
+pub set_one : (side : Side) (lots : List Lot) (lot other : Lot) → In other (set_side side lot.id lots) → ((was : Lot) → In was lots → was.id ≡ other.id → was.list ≡ other.list → was ≡ lot) → other ≡ turned_lot side lot
+set_one side lots lot other there only =
     let from = set_from side lot.id lots other there in
-    let was : from.0 ≡ lot = only from.0 from.1 (sym (ap (λ (i : LotId). i.label.0) (ap (λ (l : Lot). l.id) from.2 ∙ with_same side lot.id from.0)) ∙ same) in
+    let was : from.0 ≡ lot = only from.0 from.1 (sym (ap (λ (l : Lot). l.id) from.2 ∙ with_same side lot.id from.0)) (sym (ap (λ (l : Lot). l.list) from.2 ∙ with_list side lot.id from.0)) in
     from.2 ∙ ap (λ (k : Lot). with_side side lot.id k) was ∙ cond-true (is_lot lot.id lot) (turned_lot side lot) lot (its_name lot lot.id refl)
+
+-- and so the only one of its name
+pub set_its : (side : Side) (lots : List Lot) (lot other : Lot) → AreApart lots → In lot lots → In other (set_side side lot.id lots) → is_lot lot.id other ≡ true → other ≡ turned_lot side lot
+set_its side lots lot other apart here there named = set_one side lots lot other there (λ was k id list. same_lot lots was lot apart k here (id ∙ named_so other lot.id named))
 
 pub set_others : (P : Lot → Type 0) (side : Side) (id : LotId) (lots : List Lot) → Others P id lots → Others P id (set_side side id lots)
 set_others P side id [] all = All-nil (λ other. is_lot id other ≡ false → P other)
@@ -67,8 +79,13 @@ set_others P side id (x ∷ lots) all =
     All-cons Q (with_side side id x) (set_side side id lots) now (set_others P side id lots (All-tail Q x lots all))
 
 -- the turn that opens leaves the lot in hand
+pub hand_beside : (f : Fixed) (side : Side) (area : Bool) (lots : List Lot) (lot : Lot) → In lot lots → is_area lot.kind ≡ area → Others (IsBeside f (turned_lot side lot)) lot.id lots → IsInHand f (set_side side lot.id lots) (turned_lot side lot) area side
+hand_beside f side area lots lot here is others = record { here = set_here side lots lot here; area_is = is; side_is = refl; others = set_others (IsBeside f (turned_lot side lot)) side lot.id lots others }
+
 pub hand_set : (f : Fixed) (side : Side) (area : Bool) (lots : List Lot) (lot : Lot) → In lot lots → is_area lot.kind ≡ area → Others (IsStill f) lot.id lots → IsInHand f (set_side side lot.id lots) (turned_lot side lot) area side
-hand_set f side area lots lot here is others = record { here = set_here side lots lot here; area_is = is; side_is = refl; others = set_others (IsStill f) side lot.id lots others }
+hand_set f side area lots lot here is others =
+    hand_beside f side area lots lot here is
+    (all_to (λ (other : Lot). is_lot lot.id other ≡ false → IsStill f other) (λ (other : Lot). is_lot lot.id other ≡ false → IsBeside f (turned_lot side lot) other) lots others (λ other still off. inl (still off)))
 
 -- a side that is still leaves them all still
 pub set_still : (f : Fixed) (side : Side) (id : LotId) (lots : List Lot) → ((lot : Lot) → In lot lots → is_lot id lot ≡ true → IsStill f (turned_lot side lot)) → Others (IsStill f) id lots → All (IsStill f) (set_side side id lots)

@@ -1,6 +1,6 @@
 -- Tokens of light fences where a hart has no plan in hand: one is queued of the lots that are being lent, and of no other of
 -- those that the hart has with what its operation made.
-use Rattle.std.specs.Prelude.{All, ◌==◌, nat_le, nat_lt, ◌&&◌, ◌+◌, true, false}
+use Rattle.std.specs.Prelude.{All, ◌==◌, true, false}
 use Rattle.std.proofs.Common.{◌≡◌, ℕ, ◌<◌, List, [], length, refl, sym, ap, ◌∙◌, inl, inr, subst, arith}
 use Rattle.std.proofs.lemmas.Bool.{cases_Bool, both_ways, and_from, and_parts, eq-eqb, eqb-true, false_from_ne_true}
 use Rattle.nc_num.specs.declared.names.HartNo.{HartNo}
@@ -23,9 +23,10 @@ use Rattle.nc_holds.proofs.OwnerLots.{same_named}
 use Rattle.nc_rows.specs.Ahead.{names}
 use Rattle.nc_row_plans.specs.Begins.{NoneQueued}
 use Rattle.nc_flatness.specs.Flatness.{Flatness}
-use Rattle.nc_flatness.specs.Tokens.{is_lot_token, is_lending_side, TokenStands}
+use Rattle.nc_flatness.specs.Tokens.{lot_token, is_lot_token, is_lending_side, TokenStands}
 use Rattle.nc_flatness.proofs.Stands.{none_stands}
 use Rattle.nc_flatness.proofs.Tokens.{sent_side, unlent_unsent, queued_sent, token_lot}
+use Rattle.nc_flat_starts.proofs.Lots.{names_entry}
 
 -- each lot that is lent, or was, is one of these
 abbrev pub AreKept : WorldState → HartNo → List Lot → Type 0
@@ -37,14 +38,15 @@ WereLent w h lots = (other : Lot) → In other lots → is_lending_side other.si
 
 -- ---- the lot of a token
 
-record HasSent (lots : List Lot) (label : Label) (first : ℕ) : Type 0 where
+record HasSent (lots : List Lot) (label : Label) (first count : ℕ) : Type 0 where
   lot : Lot
   here : In lot lots
   label_is : lot.id.label.0 ≡ label.0
   first_is : lot.id.first ≡ first
+  count_is : entries.Lend label first count ≡ lot_token lot
   side : is_lending_side lot.side ≡ true
 
-sent_lot : (sc : Scenario) (f : List ℕ) (w : WorldState) (h : HartNo) (lots : List Lot) (label : Label) (first count : ℕ) → Flatness sc f w → h.0 < length sc.harts → AreKept w h lots → In (entries.Lend label first count) (queue_of w.machine h.0) → HasSent lots label first
+sent_lot : (sc : Scenario) (f : List ℕ) (w : WorldState) (h : HartNo) (lots : List Lot) (label : Label) (first count : ℕ) → Flatness sc f w → h.0 < length sc.harts → AreKept w h lots → In (entries.Lend label first count) (queue_of w.machine h.0) → HasSent lots label first count
 sent_lot sc f w h lots label first count flat lt kept queued =
     let d = driver_of w h.0 in
     let q = queue_of w.machine h.0 in
@@ -57,8 +59,9 @@ sent_lot sc f w h lots label first count flat lt kept queued =
     let first_is = eqb-true t.lot.id.first first both.1 in
     let its = and_from (label.0 == t.lot.id.label.0) (first == t.lot.id.first) (eq-eqb label.0 t.lot.id.label.0 (sym label_is)) (eq-eqb first t.lot.id.first (sym first_is)) in
     let stands = all_at (TokenStands d.rest q) d.lots t.lot (flat.bytes.tokens h.0 lt light) t.here in
-    let side = sent_side d.rest t.lot (queued_sent d.rest q t.lot e stands queued its).0 in
-    record { lot = t.lot; here = kept t.lot t.here (ap is_wanted side); label_is = label_is; first_is = first_is; side = ap is_lending_side side }
+    let sent = queued_sent d.rest q t.lot e stands queued its in
+    let side = sent_side d.rest t.lot sent.0 in
+    record { lot = t.lot; here = kept t.lot t.here (ap is_wanted side); label_is = label_is; first_is = first_is; count_is = sent.1; side = ap is_lending_side side }
 
 -- ---- a lot that is not being lent
 
@@ -86,24 +89,24 @@ pub no_token : (sc : Scenario) (f : List ℕ) (w : WorldState) (h : HartNo) (lot
     → (e : Entry) → In e (queue_of w.machine h.0) → is_lot_token lot.id e ≡ false
 no_token sc f w h lots lot flat lt apart kept here off e queued = false_from_ne_true (is_lot_token lot.id e) (λ is. token_off sc f w h lots lot e flat lt apart kept here off queued is)
 
-named_off : (sc : Scenario) (f : List ℕ) (w : WorldState) (h : HartNo) (lots : List Lot) (lot : Lot) (n : MapId) (e : Entry) → Flatness sc f w → h.0 < length sc.harts → AreKept w h lots → ((other : Lot) → In other lots → other.id.label.0 ≡ lot.id.label.0 → other ≡ lot) → is_lending_side lot.side ≡ false
-    → n.label.0 ≡ lot.id.label.0 → In e (queue_of w.machine h.0) → names n e ≡ true → ⊥
-named_off sc f w h lots lot n (entries.Lend label first count) flat lt kept one off label_is queued is =
+named_off : (sc : Scenario) (f : List ℕ) (w : WorldState) (h : HartNo) (lots : List Lot) (lot : Lot) (n : MapId) (e : Entry) → Flatness sc f w → h.0 < length sc.harts → AreKept w h lots → ((other : Lot) → In other lots → names_entry n other ≡ true → other ≡ lot) → is_lending_side lot.side ≡ false
+    → In e (queue_of w.machine h.0) → names n e ≡ true → ⊥
+named_off sc f w h lots lot n (entries.Lend label first count) flat lt kept one off queued is =
     let t = sent_lot sc f w h lots label first count flat lt kept queued in
-    let its = eqb-true label.0 n.label.0 (and_parts (label.0 == n.label.0) (nat_le first n.entry && nat_lt n.entry (first + count)) is).0 in
-    let same : t.lot ≡ lot = one t.lot t.here (t.label_is ∙ its ∙ label_is) in
+    let its : names_entry n t.lot ≡ true = subst (λ (e : Entry). names n e ≡ true) t.count_is is in
+    let same : t.lot ≡ lot = one t.lot t.here its in
     both_ways (is_lending_side lot.side) off (subst (λ (l : Lot). is_lending_side l.side ≡ true) same t.side)
-named_off sc f w h lots lot n (entries.Store span bytes kind) flat lt kept one off label_is queued is = absurd cc
-named_off sc f w h lots lot n (entries.Cbo block op) flat lt kept one off label_is queued is = absurd cc
-named_off sc f w h lots lot n (entries.Reg chan offset width value) flat lt kept one off label_is queued is = absurd cc
-named_off sc f w h lots lot n (entries.Mail buf to) flat lt kept one off label_is queued is = absurd cc
-named_off sc f w h lots lot n (entries.Mark pred succ) flat lt kept one off label_is queued is = absurd cc
+named_off sc f w h lots lot n (entries.Store span bytes kind) flat lt kept one off queued is = absurd cc
+named_off sc f w h lots lot n (entries.Cbo block op) flat lt kept one off queued is = absurd cc
+named_off sc f w h lots lot n (entries.Reg chan offset width value) flat lt kept one off queued is = absurd cc
+named_off sc f w h lots lot n (entries.Mail buf to) flat lt kept one off queued is = absurd cc
+named_off sc f w h lots lot n (entries.Mark pred succ) flat lt kept one off queued is = absurd cc
 
 -- and none that names one of its mappings
-pub none_named : (sc : Scenario) (f : List ℕ) (w : WorldState) (h : HartNo) (lots : List Lot) (lot : Lot) (n : MapId) → Flatness sc f w → h.0 < length sc.harts → AreKept w h lots → ((other : Lot) → In other lots → other.id.label.0 ≡ lot.id.label.0 → other ≡ lot) → is_lending_side lot.side ≡ false
-    → n.label.0 ≡ lot.id.label.0 → NoneQueued (names n) w.machine h.0
-none_named sc f w h lots lot n flat lt kept one off label_is =
-    none_of (names n) (queue_of w.machine h.0) (λ e queued. false_from_ne_true (names n e) (λ is. named_off sc f w h lots lot n e flat lt kept one off label_is queued is))
+pub none_named : (sc : Scenario) (f : List ℕ) (w : WorldState) (h : HartNo) (lots : List Lot) (lot : Lot) (n : MapId) → Flatness sc f w → h.0 < length sc.harts → AreKept w h lots → ((other : Lot) → In other lots → names_entry n other ≡ true → other ≡ lot) → is_lending_side lot.side ≡ false
+    → NoneQueued (names n) w.machine h.0
+none_named sc f w h lots lot n flat lt kept one off =
+    none_of (names n) (queue_of w.machine h.0) (λ e queued. false_from_ne_true (names n e) (λ is. named_off sc f w h lots lot n e flat lt kept one off queued is))
 
 -- ---- all of the lots
 

@@ -334,6 +334,7 @@ step_lent f lots s rest id (Claims is) all apart =
     Claims (record {
       chan = is.chan;
       config = is.config;
+      once = is.once;
       reads = is.reads;
       writes = is.writes;
       source_is = kept_end lots is.reads source ToDev is.chan id reads is.source_is;

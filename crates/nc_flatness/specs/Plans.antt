@@ -20,6 +20,7 @@ use Rattle.nc_plan.specs.Plans.{In, full, moved}
 use Rattle.nc_plan.specs.declared.ops.HartOp.TheVariants as hart_ops
 use Rattle.nc_plan.specs.declared.ops.IoTarget.TheVariants as io
 use Rattle.nc_plan.specs.declared.ops.Payload.TheVariants.{Last}
+use Rattle.nc_pdma_regs.specs.Config.{repeat_of}
 use Rattle.nc_sg.specs.Lists as sg
 use Rattle.nc_sg.specs.declared.list.Entry.{Entry}
 use Rattle.nc_rules.specs.declared.lots.Kind.TheVariants.{Single, Area, Copy}
@@ -295,6 +296,8 @@ pub record IsCopyEnd (lots : List Lot) (lot : Lot) (id : LotId) (dir : Dir) (cha
 pub record IsClaim (f : Fixed) (lots : List Lot) (s : Step) (rest : List Step) : Type 0 where
   pub chan : ChanNo
   pub config : ℕ
+  -- the transfer does not start again
+  pub once : repeat_of config ≡ false
   pub reads : Lot
   pub writes : Lot
   pub source_is : IsCopyEnd lots reads source ToDev chan

@@ -18,7 +18,6 @@ use Rattle.nc_rules.specs.World.{WorldState, driver_of, hart}
 use Rattle.nc_sched.specs.Stands.{seed_of}
 use Rattle.nc_sched.proofs.There.{block_is, some_blocks, parts_of}
 use Rattle.nc_pool.specs.declared.pool.PoolTry.{PoolTry}
-use Rattle.nc_pool.specs.declared.pool.PoolTry.TheVariants.{Got, Held}
 use Rattle.nc_turns.specs.declared.threads.Turner.{Turner}
 use Rattle.nc_turns.specs.declared.threads.Turner.TheVariants.{Driver, Channels, Caches}
 use Rattle.nc_turns.specs.Draws.{after_draws, block, moves_copy}
@@ -47,14 +46,12 @@ next_comes sc es Caches free =
     copy_comes sc es (a % 2 == 0) (hart (a / 2 % (size_of sc).harts)) (block (second_word g % (size_of sc).blocks)) refl
 
 pub told_comes : (sc : Scenario) (es : List Event) (h : HartNo) (k : ℕ) (a : PoolTry) → is_even (made_by (Driver h) es) ≡ true → search_of sc es h ≡ Some k → ComesNext sc es (told_by h a)
-told_comes sc es h k Got even at = (even, (k, at))
-told_comes sc es h k (Held w) even at = (even, (k, at))
+told_comes sc es h k a even at = (even, (k, at))
 
 -- what a driver at a search is told may happen
 pub told_enabled : (w : WorldState) (h : HartNo) (k : ℕ) (a : PoolTry) → searching (driver_of w h.0) ≡ Some k → enabled w (told_by h a) ≡ true
 unfolding enabled
-told_enabled w h k Got at = ap (λ (o : Option ℕ). is_some o) at
-told_enabled w h k (Held n) at = ap (λ (o : Option ℕ). is_some o) at
+told_enabled w h k a at = ap (λ (o : Option ℕ). is_some o) at
 
 -- ---- it names what is there
 
@@ -86,8 +83,7 @@ next_there sc es Caches a is =
     (block_is sc.block_size sc.ram k (mod-lt (second_word g) (blocks_some sc a)))
 
 pub told_there : (sc : Scenario) (h : HartNo) (a : PoolTry) → h.0 < length sc.harts → IsThere (length sc.harts) sc.block_size sc.ram (told_by h a)
-told_there sc h Got lt = lt
-told_there sc h (Held w) lt = lt
+told_there sc h a lt = lt
 
 -- ---- its thread has room
 
@@ -134,9 +130,6 @@ next_room sc es Caches room =
     copy_room sc es (a % 2 == 0) (hart (a / 2 % (size_of sc).harts)) (block (second_word g % (size_of sc).blocks)) room
 
 pub told_room : (sc : Scenario) (es : List Event) (h : HartNo) (a : PoolTry) → made_by (Driver h) es < most sc → HasRoom sc es (told_by h a)
-told_room sc es h Got room (Driver g) is = mine sc es h g room is
-told_room sc es h Got room Channels is = absurd (cc)
-told_room sc es h Got room Caches is = absurd (cc)
-told_room sc es h (Held w) room (Driver g) is = mine sc es h g room is
-told_room sc es h (Held w) room Channels is = absurd (cc)
-told_room sc es h (Held w) room Caches is = absurd (cc)
+told_room sc es h a room (Driver g) is = mine sc es h g room is
+told_room sc es h a room Channels is = absurd (cc)
+told_room sc es h a room Caches is = absurd (cc)

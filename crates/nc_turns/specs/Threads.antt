@@ -7,7 +7,7 @@ use Rattle.nc_scen.specs.declared.events.Event.{Event}
 use Rattle.nc_scen.specs.declared.events.Event.TheVariants.{Issue, Try, Told, Drain, Fill, Evict, ChanRead, ChanWrite}
 use Rattle.nc_scen.specs.declared.scenario.Scenario.{Scenario}
 use Rattle.nc_pool.specs.declared.pool.PoolTry.{PoolTry}
-use Rattle.nc_pool.specs.declared.pool.PoolTry.TheVariants.{Got, Held}
+use Rattle.nc_pool.specs.Answers.{found_of}
 use Rattle.nc_rules.specs.Driver.{searching}
 use Rattle.nc_rules.specs.Run.{after}
 use Rattle.nc_rules.specs.Schedule.{begun, channel_event, size_of, first_word, second_word}
@@ -123,10 +123,9 @@ IsFree sc es Caches = Unit {0}
 abbrev pub EndsWith : List (ℕ × ℕ) → ℕ × ℕ → Type 0
 EndsWith log t = (front : List (ℕ × ℕ)) × (log ≡ front ++ t ∷ [])
 
--- what a driver is told of a pool's answer
+-- what a driver is told of a pool's answer: that it got the slot, exactly where the word found is that of a free slot
 abbrev pub told_by : HartNo → PoolTry → Event
-told_by h Got = Told h true
-told_by h (Held w) = Told h false
+told_by h a = Told h (found_of a == 0)
 
 -- ---- the end of the threads
 

@@ -269,6 +269,6 @@ fn told_event(me: HartNo, answer: &PoolTry) -> Event
 {
     match answer {
         PoolTry::Got => Event::Told(me, true),
-        PoolTry::Held(_) => Event::Told(me, false),
+        PoolTry::Held(found) => Event::Told(me, *found == 0),
     }
 }

@@ -1,0 +1,194 @@
+-- A hart whose copy claims its channel next: its two ends wait to be lent, each other lot is still, and no entry of class O
+-- is queued.
+use Rattle.std.specs.Prelude.{Some, All, ◌*◌, true, false}
+use Rattle.std.specs.List.{list_any}
+use Rattle.std.proofs.Common.{◌≡◌, ℕ, List, [], ◌∷◌, length, refl, sym, ap, ◌∙◌, inl, inr, subst}
+use Rattle.std.proofs.lemmas.Bool.{both_ways, false_from_ne_true}
+use Rattle.nc_num.proofs.Blocks.{start_of_block}
+use Rattle.nc_num.specs.declared.names.HartNo.{HartNo}
+use Rattle.nc_num.specs.declared.names.MapId.{MapId}
+use Rattle.nc_num.specs.declared.places.Span.{Span}
+use Rattle.nc_env.specs.declared.CboOp.TheVariants as cbos
+use Rattle.nc_queue.specs.declared.entry.Entry.{Entry as QueueEntry}
+use Rattle.nc_queue.specs.declared.entry.Entry.TheVariants as entries
+use Rattle.nc_model.specs.declared.owners.Owner.{Owner}
+use Rattle.nc_plan.specs.Plans.{In}
+use Rattle.nc_sg.specs.declared.list.Entry.{Entry}
+use Rattle.nc_ops.specs.declared.ops.Op.{Op}
+use Rattle.nc_scen.specs.declared.scenario.Scenario.{Scenario}
+use Rattle.nc_rules.specs.declared.lots.Kind.{Kind}
+use Rattle.nc_rules.specs.declared.lots.Kind.TheVariants.{Copy}
+use Rattle.nc_rules.specs.declared.lots.Lot.{Lot}
+use Rattle.nc_rules.specs.declared.lots.LotId.{LotId}
+use Rattle.nc_rules.specs.declared.steps.Phase.{Phase}
+use Rattle.nc_rules.specs.declared.steps.Phase.TheVariants.{Work}
+use Rattle.nc_rules.specs.declared.steps.Step.{Step}
+use Rattle.nc_rules.specs.Copies.{source, target, copy_steps}
+use Rattle.nc_rules.specs.Driver.{in_hand}
+use Rattle.nc_rules.specs.Lots.{is_lot, is_wanted, lot_waits}
+use Rattle.nc_rules.specs.Machine.{queue_of}
+use Rattle.nc_rules.specs.Turns.{is_area, lots_after_both}
+use Rattle.nc_rules.specs.Watched.{owner_of}
+use Rattle.nc_rules.specs.World.{WorldState, driver_of}
+use Rattle.nc_scripts.specs.Drivers.{FitsKind, IsAtWork, IsPhase}
+use Rattle.nc_scripts.proofs.Lists.{all_to}
+use Rattle.nc_scripts.proofs.LotLaws.{its_name}
+use Rattle.nc_holds.specs.Holds.{DriverHolds}
+use Rattle.nc_holds.proofs.EventFrom.{everyone_from}
+use Rattle.nc_holds.proofs.ListsA.{all_at}
+use Rattle.nc_holds.proofs.OwnerLots.{same_named}
+use Rattle.nc_rows.specs.Ahead.{posts}
+use Rattle.nc_rows.specs.Parts.{IsQueued}
+use Rattle.nc_rows.specs.Rows.{Book}
+use Rattle.nc_flatness.specs.Books.{book_of, mapping_in}
+use Rattle.nc_flatness.specs.Covered.{is_lending}
+use Rattle.nc_flatness.specs.Plans.{IsStill, HasEnd, IsClaim, PlanGoes, EndsOne}
+use Rattle.nc_flatness.proofs.Owned.{owned_ram, mapped}
+use Rattle.nc_flatness.proofs.Rests.{copy_ends}
+use Rattle.nc_flat_scripts.proofs.ScriptEvents.{IsHere}
+use Rattle.nc_flat_starts.proofs.Bases.{IsMember, member_lot, member_planned}
+use Rattle.nc_flat_starts.proofs.Calls.{still_restful}
+use Rattle.nc_flat_starts.proofs.CopyPlans.{MayCopy, CopyGoes, copy_goes}
+use Rattle.nc_flat_starts.proofs.Frames.{IsRestful}
+use Rattle.nc_flat_starts.proofs.OpenRows.{writing, dropping, sizes}
+
+-- hart h's plan makes step s next, which claims the channel of a copy, and this rest is left behind it
+pub record IsClaiming (sc : Scenario) (f : List ℕ) (w : WorldState) (h : HartNo) (o : Op) (s : Step) (rest : List Step) : Type 0 where
+  pub here : IsHere sc f w h
+  pub hand : in_hand (driver_of w h.0) ≡ Some o
+  pub lends : is_lending o ≡ true
+  pub phase : (driver_of w h.0).phase ≡ Work
+  pub rest_is : (driver_of w h.0).rest ≡ s ∷ rest
+  pub claim : IsClaim (driver_of w h.0).fixed (driver_of w h.0).lots s rest
+  pub left : PlanGoes (driver_of w h.0).fixed (lots_after_both s.first s.last (driver_of w h.0).lots) rest
+  pub one : (driver_of w h.0).fixed.light ≡ true → EndsOne (s ∷ rest)
+
+-- ---- the hart
+
+pub its_holds : (sc : Scenario) (f : List ℕ) (w : WorldState) (h : HartNo) (o : Op) (s : Step) (rest : List Step) → IsClaiming sc f w h o s rest → DriverHolds w h.0
+its_holds sc f w h o s rest k = k.here.now.flat.world.holds.each h.0 k.here.there
+
+ends_apart : source ≡ target → ⊥
+ends_apart same = let no : ◌≡◌ {A = ℕ} 0 1 = ap (λ (i : LotId). i.first) same in absurd cc
+
+-- its fences are full: with light ones a plan ends the stay of one lot alone
+pub its_full : (sc : Scenario) (f : List ℕ) (w : WorldState) (h : HartNo) (o : Op) (s : Step) (rest : List Step) → IsClaiming sc f w h o s rest → (driver_of w h.0).fixed.light ≡ false
+its_full sc f w h o s rest k =
+    let fx = (driver_of w h.0).fixed in
+    let c = k.claim in
+    let plan = copy_steps fx c.chan c.config c.reads c.writes in
+    let reads : HasEnd source (s ∷ rest) = subst (λ (r : List Step). HasEnd source r) (sym c.steps) (subst (λ (i : LotId). HasEnd i plan) c.source_is.id_is (copy_ends fx c.chan c.config c.reads c.writes)) in
+    let writes : HasEnd target (s ∷ rest) = subst (λ (r : List Step). HasEnd target r) (sym c.steps) refl in
+    false_from_ne_true fx.light (λ light. ends_apart (k.one light source target reads writes))
+
+-- ---- its lots
+
+pub its_member : (sc : Scenario) (f : List ℕ) (w : WorldState) (h : HartNo) (o : Op) (s : Step) (rest : List Step) (lot : Lot) → IsClaiming sc f w h o s rest → In lot (driver_of w h.0).lots → IsMember sc f w h (driver_of w h.0).lots lot
+its_member sc f w h o s rest lot k there =
+    let work : IsAtWork (driver_of w h.0) = subst (λ (p : Phase). IsPhase (driver_of w h.0) p) k.phase (its_holds sc f w h o s rest k).driver.phase in
+    record {
+      flat = k.here.now.flat;
+      lt = k.here.lt;
+      slots = w.slots;
+      each = everyone_from w h.0 k.here.now.flat.world.holds k.here.there;
+      here = there;
+      placed = all_at (λ (l : Lot). lot_waits l ≡ false) (driver_of w h.0).lots lot work.placed there;
+    }
+
+one_entry : (es : List Entry) → length es ≡ 1 → (e : Entry) × (es ≡ e ∷ [])
+one_entry [] e = absurd cc
+one_entry (x ∷ []) e = (x, refl)
+one_entry (x ∷ y ∷ es) e = absurd cc
+
+-- an end has one entry
+pub end_entry : (sc : Scenario) (f : List ℕ) (w : WorldState) (h : HartNo) (lots : List Lot) (lot : Lot) → IsMember sc f w h lots lot → lot.kind ≡ Copy → (e : Entry) × (lot.list.entries ≡ e ∷ [])
+end_entry sc f w h lots lot b kind =
+    let fx = (driver_of w h.0).fixed in
+    one_entry lot.list.entries (subst (λ (k : Kind). FitsKind fx.pool k lot.id lot.list.entries) kind (member_lot sc f w h lots lot b).kind).1
+
+pub may_copy : (sc : Scenario) (f : List ℕ) (w : WorldState) (h : HartNo) (o : Op) (s : Step) (rest : List Step) → (k : IsClaiming sc f w h o s rest) → MayCopy (driver_of w h.0).fixed w.machine k.claim.chan k.claim.reads k.claim.writes (driver_of w h.0).lots
+may_copy sc f w h o s rest k =
+    let d = driver_of w h.0 in
+    let c = k.claim in
+    let flat = k.here.now.flat in
+    let lt = k.here.lt in
+    let src = its_member sc f w h o s rest c.reads k c.source_is.here in
+    let dst = its_member sc f w h o s rest c.writes k c.target_is.here in
+    let e = end_entry sc f w h d.lots c.writes dst c.target_is.kind in
+    record {
+      block = flat.world.machine.block_size;
+      size = sizes sc f w h flat lt;
+      unlight = its_full sc f w h o s rest k;
+      writes = writing sc f w h flat lt;
+      drops = dropping sc f w h flat lt;
+      ends = record {
+        two = record { source_is = c.source_is.id_is; target_is = c.target_is.id_is };
+        source_kind = c.source_is.kind;
+        target_kind = c.target_is.kind;
+        source_dir = c.source_is.dir_is;
+        target_dir = c.target_is.dir_is;
+        source_chan = c.source_is.chan_is;
+        target_chan = c.target_is.chan_is;
+        source_planned = member_planned sc f w h d.lots c.reads src (ap is_area c.source_is.kind);
+        target_planned = member_planned sc f w h d.lots c.writes dst (ap is_area c.target_is.kind);
+        entry = e.0;
+        only = e.1;
+      };
+      apart = (its_holds sc f w h o s rest k).driver.apart;
+      source_in = c.source_is.here;
+      target_in = c.target_is.here;
+      source_wanted = c.wanted.0;
+      target_wanted = c.wanted.1;
+      others = c.others;
+    }
+
+-- the plan puts no message
+pub its_silent : (sc : Scenario) (f : List ℕ) (w : WorldState) (h : HartNo) (o : Op) (s : Step) (rest : List Step) (b : ℕ) → IsClaiming sc f w h o s rest → list_any (posts b) (s ∷ rest) ≡ false
+its_silent sc f w h o s rest b k =
+    let d = driver_of w h.0 in
+    let c = k.claim in
+    let goes : CopyGoes d.fixed d.lots (copy_steps d.fixed c.chan c.config c.reads c.writes) = copy_goes d.fixed w.machine c.chan c.config c.reads c.writes d.lots c.once (may_copy sc f w h o s rest k) in
+    ap (list_any (posts b)) c.steps ∙ goes.silent b
+
+-- ---- its other lots
+
+-- one that is lent is still
+pub its_still : (sc : Scenario) (f : List ℕ) (w : WorldState) (h : HartNo) (o : Op) (s : Step) (rest : List Step) (lot : Lot) → IsClaiming sc f w h o s rest → In lot (driver_of w h.0).lots → is_wanted lot.side ≡ false → IsStill (driver_of w h.0).fixed lot
+its_still sc f w h o s rest lot k there lent =
+    let d = driver_of w h.0 in
+    let c = k.claim in
+    let names = (its_holds sc f w h o s rest k).driver.apart in
+    let never : (id : LotId) (end : Lot) → In end d.lots → end.id ≡ id → is_wanted end.side ≡ true → is_lot id lot ≡ true → ⊥ =
+    λ id end in_lots named wanted is. both_ways (is_wanted lot.side) lent (ap (λ (l : Lot). is_wanted l.side) (same_named d.lots id lot end names there in_lots is (its_name end id named)) ∙ wanted) in
+    all_at (λ (l : Lot). is_lot source l ≡ false → is_lot target l ≡ false → IsStill d.fixed l) d.lots lot c.others there (false_from_ne_true (is_lot source lot) (never source c.reads c.source_is.here c.source_is.id_is (ap is_wanted c.wanted.0)))
+    (false_from_ne_true (is_lot target lot) (never target c.writes c.target_is.here c.target_is.id_is (ap is_wanted c.wanted.1)))
+
+-- so nothing is to come of the hart's mappings
+pub its_restful : (sc : Scenario) (f : List ℕ) (w : WorldState) (h : HartNo) (o : Op) (s : Step) (rest : List Step) (x : ℕ) (n : MapId) → IsClaiming sc f w h o s rest → mapping_in (owner_of w x) ≡ Some n → n.hart.0 ≡ h.0 → IsRestful (owner_of w x)
+its_restful sc f w h o s rest x n k is own =
+    let flat = k.here.now.flat in
+    let m = mapped sc f w n x flat (owned_ram sc f w x n flat is) is in
+    let there : In m.is.lot (driver_of w h.0).lots = subst (λ (g : ℕ). In m.is.lot (driver_of w g).lots) own m.is.here.lot_in in
+    still_restful (driver_of w h.0).fixed n (owner_of w x) m.is.lot (its_full sc f w h o s rest k) (its_still sc f w h o s rest m.is.lot k there m.is.lent) m.owner
+
+-- and no operation on a block of theirs is queued that a mapping or an area tells
+queued_one : (sc : Scenario) (f : List ℕ) (w : WorldState) (h : HartNo) (o : Op) (s : Step) (rest : List Step) (c : Book) (owner : ℕ → Owner) (pool : Span) (e : QueueEntry) → IsClaiming sc f w h o s rest → IsQueued (book_of w) (owner_of w) pool w.machine.size h.0 e
+    → IsQueued c owner pool w.machine.size h.0 e
+queued_one sc f w h o s rest c owner pool (entries.Store span bytes kind) k is = is
+queued_one sc f w h o s rest c owner pool (entries.Cbo block cbos.Clean) k is = tt
+queued_one sc f w h o s rest c owner pool (entries.Cbo block cbos.Flush) k is = tt
+queued_one sc f w h o s rest c owner pool (entries.Cbo block cbos.Inval) k is = absurd (subst IsRestful is.owned (its_restful sc f w h o s rest is.place is.id k (ap mapping_in is.owned) is.own))
+queued_one sc f w h o s rest c owner pool (entries.Cbo block cbos.Zero) k (inl beside) = inl beside
+queued_one sc f w h o s rest c owner pool (entries.Cbo block cbos.Zero) k (inr is) =
+    let x = w.machine.size * block.0 in
+    let owned = is.owned x (start_of_block {s = w.machine.size} block.0 k.here.now.flat.world.machine.block_size).0 in
+    absurd (subst IsRestful owned (its_restful sc f w h o s rest x is.id k (ap mapping_in owned) is.own))
+queued_one sc f w h o s rest c owner pool (entries.Reg chan off width value) k is = tt
+queued_one sc f w h o s rest c owner pool (entries.Mail buf to) k is = tt
+queued_one sc f w h o s rest c owner pool (entries.Lend label first count) k is = tt
+queued_one sc f w h o s rest c owner pool (entries.Mark pred succ) k is = tt
+
+pub its_queued : (sc : Scenario) (f : List ℕ) (w : WorldState) (h : HartNo) (o : Op) (s : Step) (rest : List Step) (c : Book) (owner : ℕ → Owner) → IsClaiming sc f w h o s rest → All (IsQueued c owner w.machine.pool w.machine.size h.0) (queue_of w.machine h.0)
+its_queued sc f w h o s rest c owner k =
+    let m = w.machine in
+    all_to (IsQueued (book_of w) (owner_of w) m.pool m.size h.0) (IsQueued c owner m.pool m.size h.0) (queue_of m h.0) (k.here.now.flat.bytes.queued h.0) (λ e is. queued_one sc f w h o s rest c owner m.pool e k is)

@@ -1,0 +1,11 @@
+pub mod Claimings
+pub mod EndsAhead
+pub mod EndRows
+pub mod ClaimMachines
+pub mod Refused
+pub mod ClaimRests
+pub mod ClaimDrivers
+pub mod ClaimCopies
+pub mod ClaimEnds
+pub mod ClaimBytes
+pub mod ClaimEvents
