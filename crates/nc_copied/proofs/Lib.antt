@@ -13,3 +13,4 @@ pub mod BehindPoll
 pub mod LastAnswers
 pub mod LastOwners
 pub mod CopyRuns
+pub mod CopyLaws

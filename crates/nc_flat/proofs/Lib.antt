@@ -1,3 +1,3 @@
 mod Dispatch
 mod Runs
-mod FlatLaws
+pub mod FlatLaws

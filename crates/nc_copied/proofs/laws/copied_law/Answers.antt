@@ -1,0 +1,5 @@
+use Rattle.nc_copied.proofs.CopyLaws as laws
+use Rattle.nc_copied.proofs.laws.copied_law.Goals as goal
+
+pub returns : goal.returns
+returns c = laws.copied_always
