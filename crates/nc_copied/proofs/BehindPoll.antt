@@ -1,19 +1,16 @@
 -- Behind the poll of a copy: what the poll left, and what has become of it since.
-use Rattle.std.specs.Prelude.{Option, Some, None, Bool, true, false, All, Ok, Err, Result, if◌then◌else◌, slice_get, slice_index_or, map, nat_le, ◌||◌}
+use Rattle.std.specs.Prelude.{Some, Bool, true, false, All, Ok, Err, Result, if◌then◌else◌, slice_get, nat_le, ◌||◌}
 use Rattle.std.proofs.Common.{◌≡◌, ◌⊎◌, ℕ, ◌+◌, ◌<◌, List, [], ◌∷◌, ◌++◌, length, refl, sym, ap, ◌∙◌, subst, inl, inr, arith, append_assoc, append-nil}
 use Rattle.std.proofs.lemmas.Bool.{false≢true, cases_Bool}
-use Rattle.std.proofs.lemmas.List.Elements.{All-head, All-tail}
+use Rattle.std.proofs.lemmas.List.Elements.{All-tail}
 use Rattle.nc_num.specs.Memory.{byte}
 use Rattle.nc_num.specs.Places.{covers}
-use Rattle.nc_num.specs.declared.bytes.Bytes.{Bytes}
 use Rattle.nc_num.specs.declared.names.ChanNo.{ChanNo}
 use Rattle.nc_num.specs.declared.names.HartNo.{HartNo}
-use Rattle.nc_num.specs.declared.places.Place.{Place}
 use Rattle.nc_num.specs.declared.places.Span.{Span}
 use Rattle.nc_plan.specs.Plans.{In}
 use Rattle.nc_model.specs.Flat.{Mark, Untouched, flat, deeds}
 use Rattle.nc_model.proofs.Faults.{covers-from}
-use Rattle.nc_ops.specs.declared.ops.Op.{Op}
 use Rattle.nc_scen.specs.Accepted.{IsAccepted}
 use Rattle.nc_scen.specs.Events.{IsThere}
 use Rattle.nc_scen.specs.declared.events.Event.{Event}
@@ -31,23 +28,21 @@ use Rattle.nc_rules.specs.declared.steps.Phase.TheVariants.{Steps, Work}
 use Rattle.nc_rules.specs.declared.steps.Step.{Step}
 use Rattle.nc_rules.specs.Driver.{DriverState, in_hand, next_act, next_of}
 use Rattle.nc_rules.specs.Events.{enabled}
-use Rattle.nc_rules.specs.Flat.{event_marks, run_marks, flat_after}
+use Rattle.nc_rules.specs.Flat.{event_marks, flat_after}
 use Rattle.nc_rules.specs.Lots.{Fixed}
 use Rattle.nc_rules.specs.Next.{next, event_records}
 use Rattle.nc_rules.specs.Operations.{plan_of}
 use Rattle.nc_rules.specs.Refusals.{buffer_of, part_of}
 use Rattle.nc_rules.specs.Run.{after}
-use Rattle.nc_rules.specs.Run as run
 use Rattle.nc_rules.specs.Start.{fixed_of, hart_spec}
 use Rattle.nc_rules.specs.World.{WorldState, driver_of, start, hart}
-use Rattle.nc_scripts.specs.Drivers.{IsPhase, IsAtWork}
+use Rattle.nc_scripts.specs.Drivers.{IsPhase}
 use Rattle.nc_flatness.specs.Copying.{CopyOp, copy_op, is_poll, polls, IsBegun, IsCopyNow}
 use Rattle.nc_flatness.specs.Covered.{IsCovered}
-use Rattle.nc_flatness.specs.Flatness.{IsWorldOf, Flatness}
-use Rattle.nc_flatness.specs.Steps.{IsNow}
+use Rattle.nc_flatness.specs.Flatness.{Flatness}
 use Rattle.nc_flatness.proofs.Worlds.{worlds_stay}
 use Rattle.nc_flat_scripts.proofs.SendEvents.{next_work}
-use Rattle.nc_flat_scripts.proofs.TransferCopied.{PollCopied, poll_copied}
+use Rattle.nc_flat_scripts.proofs.TransferCopied.{poll_copied}
 use Rattle.nc_refusals.proofs.EarlierLaws.{drivers_long, phase_of}
 use Rattle.nc_copied.specs.Copied.{place_in, IsPolled, WritesNone}
 use Rattle.nc_copied.proofs.Comings.{IsSameOp}

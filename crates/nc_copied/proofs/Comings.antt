@@ -1,7 +1,6 @@
 -- A driver that is in a plan behind one of its calls: it was there before, or began the plan, or made a step of it.
 use Rattle.std.specs.Prelude.{Option, Some, None, Result, Ok, Err, if◌then◌else◌, nat_lt}
-use Rattle.std.proofs.Common.{◌≡◌, ℕ, ◌+◌, Bool, true, false, List, [], ◌∷◌, ◌++◌, refl, sym, ap, ◌∙◌, subst}
-use Rattle.std.proofs.lemmas.Bool.{false≢true}
+use Rattle.std.proofs.Common.{◌≡◌, ℕ, ◌+◌, Bool, true, false, List, [], ◌∷◌, ◌++◌, refl, ap}
 use Rattle.nc_model.specs.declared.owners.Owner.{Owner}
 use Rattle.nc_coherent.specs.Pages.{PageMap}
 use Rattle.nc_ops.specs.declared.ops.Op.{Op}
@@ -42,9 +41,6 @@ search_not n e = absurd cc
 
 still : (d : DriverState) → Comes d (stays d)
 still d work = Stays refl refl (record { op = refl; fixed = refl })
-
-gives_up : (d : DriverState) (o : Op) (r : Refusal) → Comes d (give_up d o r)
-gives_up d o r work = steps_not 0 work
 
 -- ---- a plan that begins
 

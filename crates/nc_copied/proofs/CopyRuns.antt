@@ -1,20 +1,16 @@
 -- A run in which each copy that is answered is done, where flat memory stands behind each run.
-use Rattle.std.specs.Prelude.{Option, Some, None, Bool, true, false, All, slice_get, ◌||◌, ◌/◌, ◌%◌, ◌^◌, ◌==◌, if◌then◌else◌, is_some}
+use Rattle.std.specs.Prelude.{Some, Bool, true, false, All, slice_get, ◌||◌, ◌/◌, ◌%◌, ◌^◌, ◌==◌, if◌then◌else◌, is_some}
 use Rattle.std.proofs.Common.{◌≡◌, ℕ, ◌+◌, ◌<◌, List, [], ◌∷◌, ◌++◌, length, refl, sym, ap, ◌∙◌, subst, inl, inr, arith, append_assoc, append-nil}
-use Rattle.std.proofs.lemmas.Bool.{false≢true, cases_Bool}
+use Rattle.std.proofs.lemmas.Bool.{false≢true}
 use Rattle.std.proofs.lemmas.List.Elements.{All-head}
 use Rattle.nc_num.specs.Memory.{byte}
-use Rattle.nc_num.specs.Places.{covers}
-use Rattle.nc_num.specs.declared.names.ChanNo.{ChanNo}
 use Rattle.nc_num.specs.declared.names.HartNo.{HartNo}
-use Rattle.nc_plan.specs.Plans.{In}
 use Rattle.nc_plan.specs.declared.ops.HartOp.TheVariants as hart_ops
 use Rattle.nc_plan.specs.declared.ops.IoTarget.TheVariants as io
-use Rattle.nc_model.specs.Flat.{Untouched, flat, deeds}
+use Rattle.nc_model.specs.Flat.{flat, deeds}
 use Rattle.nc_model.specs.declared.owners.Owner.{Owner}
 use Rattle.nc_own.specs.Books.{owner_in}
 use Rattle.nc_ops.specs.declared.ops.Op.{Op}
-use Rattle.nc_ops.specs.declared.ops.Op.TheVariants.{Copy}
 use Rattle.nc_scen.specs.Accepted.{IsAccepted}
 use Rattle.nc_scen.specs.Events.{IsThere}
 use Rattle.nc_scen.specs.declared.events.Event.{Event}
@@ -22,24 +18,21 @@ use Rattle.nc_scen.specs.declared.scenario.Scenario.{Scenario}
 use Rattle.nc_rules.specs.declared.answers.Answer.{Answer}
 use Rattle.nc_rules.specs.declared.answers.Answer.TheVariants as answers
 use Rattle.nc_rules.specs.declared.lots.Lot.{Lot}
-use Rattle.nc_rules.specs.declared.records.Record.TheVariants as records
 use Rattle.nc_rules.specs.declared.steps.Act.{Act}
 use Rattle.nc_rules.specs.declared.steps.Act.TheVariants as acts
-use Rattle.nc_rules.specs.declared.steps.Phase.{Phase}
 use Rattle.nc_rules.specs.declared.steps.Phase.TheVariants.{Steps, Work}
-use Rattle.nc_rules.specs.declared.steps.Seen.{Seen}
 use Rattle.nc_rules.specs.declared.steps.Seen.TheVariants as seen
 use Rattle.nc_rules.specs.declared.steps.Step.{Step}
 use Rattle.nc_rules.specs.Copies.{copied}
 use Rattle.nc_rules.specs.Driver.{DriverState, in_hand, done}
 use Rattle.nc_rules.specs.Events.{enabled}
-use Rattle.nc_rules.specs.Flat.{AreThere, event_marks, run_marks, flat_after}
+use Rattle.nc_rules.specs.Flat.{AreThere, event_marks, flat_after}
 use Rattle.nc_rules.specs.Lots.{Fixed}
-use Rattle.nc_rules.specs.Next.{next, after_outcome, counted, event_records}
+use Rattle.nc_rules.specs.Next.{next, after_outcome, counted}
 use Rattle.nc_rules.specs.Outcomes.{Outcome, outcome}
-use Rattle.nc_rules.specs.Plans.{step, control_step}
+use Rattle.nc_rules.specs.Plans.{control_step}
 use Rattle.nc_rules.specs.Run.{after}
-use Rattle.nc_rules.specs.Start.{first_driver, hart_spec, fixed_of}
+use Rattle.nc_rules.specs.Start.{first_driver, hart_spec}
 use Rattle.nc_rules.specs.View.{view}
 use Rattle.nc_rules.specs.Watched.{owner_of}
 use Rattle.nc_rules.specs.World.{WorldState, driver_of, start, hart, owners_moved}
@@ -47,15 +40,14 @@ use Rattle.nc_scripts.specs.Drivers.{IsEndName}
 use Rattle.nc_scripts.proofs.Lists.{all_left, all_right}
 use Rattle.nc_holds.specs.Holds.{DriverHolds}
 use Rattle.nc_holds.proofs.EventHolds.{next_is}
-use Rattle.nc_flatness.specs.Copying.{CopyOp, copy_op, is_poll, polls, IsItsOwn, SawDone}
+use Rattle.nc_flatness.specs.Copying.{CopyOp, copy_op, is_poll, polls, IsItsOwn}
 use Rattle.nc_flatness.specs.Covered.{IsCovered}
 use Rattle.nc_flatness.specs.Flatness.{Flatness}
-use Rattle.nc_flatness.specs.Plans.{IsRegister, IsPoll, PlanGoes}
+use Rattle.nc_flatness.specs.Plans.{PlanGoes}
 use Rattle.nc_flatness.specs.Steps.{OfChannel, kind_of_act}
 use Rattle.nc_flatness.proofs.Worlds.{driver_start}
 use Rattle.nc_flat_scripts.proofs.TransferDrivers.{at_work}
 use Rattle.nc_flat_scripts.proofs.TransferEvents.{channel_step}
-use Rattle.nc_refusals.specs.Refused.{maker}
 use Rattle.nc_refusals.proofs.EarlierLaws.{maker_there}
 use Rattle.nc_refusals.proofs.EndLaws.{answers_leave_no_ends}
 use Rattle.nc_copied.specs.Copied.{op_at, place_in, IsDone, TellsCopied, IsEachCopied}

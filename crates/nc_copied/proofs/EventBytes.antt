@@ -1,13 +1,11 @@
 -- An event that is no touch leaves the bytes of a copy's ranges in flat memory, but where the copy's own channel writes.
-use Rattle.std.specs.Prelude.{is_none, Option, Some, None, Bool, true, false, if◌then◌else◌, All, ◌≢◌, ◌==◌, ◌&&◌}
-use Rattle.std.proofs.Common.{◌≡◌, ◌⊎◌, ℕ, ◌<◌, List, [], ◌∷◌, ◌++◌, length, refl, sym, ap, ◌∙◌, subst, inl, inr, arith}
-use Rattle.std.proofs.lemmas.Bool.{false≢true, cases_eq, cases_Bool, and_from, eq-eqb}
-use Rattle.nc_num.specs.Memory.{byte}
+use Rattle.std.specs.Prelude.{is_none, Option, Some, None, Bool, true, false, if◌then◌else◌, ◌≢◌}
+use Rattle.std.proofs.Common.{◌≡◌, ◌⊎◌, ℕ, ◌<◌, List, [], ◌∷◌, ◌++◌, refl, sym, ap, ◌∙◌, subst, inl, inr}
+use Rattle.std.proofs.lemmas.Bool.{false≢true, cases_eq}
 use Rattle.nc_num.specs.Places.{covers}
 use Rattle.nc_num.specs.declared.bytes.Bytes.{Bytes}
 use Rattle.nc_num.specs.declared.names.ChanNo.{ChanNo}
 use Rattle.nc_num.specs.declared.names.HartNo.{HartNo}
-use Rattle.nc_num.specs.declared.names.MapId.{MapId}
 use Rattle.nc_num.specs.declared.places.Place.{Place}
 use Rattle.nc_num.specs.declared.places.Span.{Span}
 use Rattle.nc_queue.specs.declared.entry.Entry.{Entry}
@@ -16,13 +14,11 @@ use Rattle.nc_plan.specs.Plans.{In}
 use Rattle.nc_pdma.specs.declared.channel.ChanStep.{ChanStep}
 use Rattle.nc_pdma.specs.declared.channel.ChanStep.TheVariants.{Idle, Moved, Error}
 use Rattle.nc_slots.specs.SlotWords.{holder_of, tried}
-use Rattle.nc_model.specs.Flat.{Mark, Did, Untouched, flat, deeds, named_from, channel_name}
+use Rattle.nc_model.specs.Flat.{Mark, Did, Untouched, flat, named_from, channel_name}
 use Rattle.nc_model.specs.declared.deeds.Deed.TheVariants as marks
 use Rattle.nc_model.specs.declared.owners.Access.TheVariants.{Read, Write}
 use Rattle.nc_model.specs.declared.owners.Grant.{Grant}
-use Rattle.nc_model.specs.declared.owners.Owner.{Owner}
 use Rattle.nc_model.specs.declared.owners.Owner.TheVariants.{Device}
-use Rattle.nc_scen.specs.Events.{IsThere}
 use Rattle.nc_scen.specs.declared.events.Event.{Event}
 use Rattle.nc_scen.specs.declared.events.Event.TheVariants as events
 use Rattle.nc_scen.specs.declared.scenario.Scenario.{Scenario}
@@ -30,28 +26,23 @@ use Rattle.nc_rules.specs.declared.records.Record.{Record}
 use Rattle.nc_rules.specs.declared.records.Record.TheVariants as records
 use Rattle.nc_rules.specs.declared.steps.Next.{Next}
 use Rattle.nc_rules.specs.declared.steps.Next.TheVariants as nexts
-use Rattle.nc_rules.specs.declared.steps.Phase.{Phase}
 use Rattle.nc_rules.specs.declared.steps.Phase.TheVariants.{Steps}
-use Rattle.nc_rules.specs.declared.lots.Lot.{Lot}
 use Rattle.nc_rules.specs.Calls.{issue_next, issue_answer, claim_next, control_of, take_next, leaving, fill_next, fill_answer, evict_next, evict_answer, chan_read_next, chan_read_told, chan_write_told, chan_write_next, drain_transfers}
-use Rattle.nc_rules.specs.Copies.{source, target}
 use Rattle.nc_rules.specs.declared.steps.Seen.TheVariants as seen
 use Rattle.nc_rules.specs.Driver.{next_of, searching, is_script, started, told, done, lent}
 use Rattle.nc_rules.specs.Events.{enabled}
 use Rattle.nc_rules.specs.Flat.{all_marks, event_marks}
-use Rattle.nc_rules.specs.Lots.{is_lot}
 use Rattle.nc_rules.specs.Machine.{MachineState, grantee_of}
 use Rattle.nc_rules.specs.Next.{event_records}
-use Rattle.nc_rules.specs.Outcomes.{Outcome, goes, runs, nothing, at_word, leaves, outcome, step_outcome, start_outcome, op_outcome, claim_outcome, poll_outcome, take_outcome, try_outcome, told_outcome, drain_outcome, seen_of, claim_seen, told_slots, got_word}
-use Rattle.nc_rules.specs.Records.{op_records, try_records, told_records, drain_records, transfer_records, entry_record, read_records, write_records, place, answer_records}
+use Rattle.nc_rules.specs.Outcomes.{Outcome, runs, at_word, leaves, outcome, step_outcome, start_outcome, op_outcome, claim_outcome, poll_outcome, take_outcome, try_outcome, told_outcome, drain_outcome, seen_of, claim_seen, told_slots, got_word}
+use Rattle.nc_rules.specs.Records.{op_records, try_records, told_records, drain_records, transfer_records, read_records, write_records, place, answer_records}
 use Rattle.nc_rules.specs.Watched.{owner_of, issue_touch, poll_touch, transaction_touch}
 use Rattle.nc_rules.specs.World.{WorldState, driver_of}
 use Rattle.nc_calls.specs.PlaceLaws.{RamAfter}
 use Rattle.nc_calls.proofs.SoundSteps.{shape_chan_write}
 use Rattle.nc_calls.proofs.StepPlaces.{chan_write_ram}
-use Rattle.nc_holds.proofs.ListsA.{all_at}
 use Rattle.nc_flatness.specs.Books.{book_of, mapping_in}
-use Rattle.nc_flatness.specs.Copying.{CopyOp, IsItsOwn, IsOneRange, IsCopyNow}
+use Rattle.nc_flatness.specs.Copying.{CopyOp, IsItsOwn, IsCopyNow}
 use Rattle.nc_flatness.specs.Flatness.{Flatness}
 use Rattle.nc_flatness.specs.Steps.{IsNow}
 use Rattle.nc_flatness.proofs.Marks.{answer_silent, entry_silent, transfers_silent}
@@ -59,15 +50,10 @@ use Rattle.nc_flatness.proofs.Owned.{mapped, owned_ram}
 use Rattle.nc_flat_moves.proofs.ChannelBytes.{IsWrite, byte_beside}
 use Rattle.nc_flat_moves.proofs.Granted.{IsUsed, used}
 use Rattle.nc_flat_moves.proofs.Pooled.{one_loan}
-use Rattle.nc_flat_scripts.proofs.ScriptEvents.{IsHere, here_by, outcome_is}
-use Rattle.nc_copied.proofs.EventMarks.{Leaves, leaves_as, marks_on, marks_off, IsPlainMarks, goes_marks, runs_marks}
+use Rattle.nc_flat_scripts.proofs.ScriptEvents.{IsHere, here_by}
+use Rattle.nc_copied.proofs.EventMarks.{Leaves, leaves_as, marks_on, goes_marks, runs_marks}
 use Rattle.nc_copied.proofs.IssueBytes.{op_leaves}
 use Rattle.nc_copied.proofs.EndLots.{end_chan}
-
--- ---- what stays
-
-plain_leaves : (f : List ℕ) (ms ns : List Mark) (touch : Option _) (x : ℕ) → IsPlainMarks ms ns touch → Leaves f ns x → Leaves f ms x
-plain_leaves f ms ns touch x plain left = leaves_as f ms ns x plain.same left
 
 -- hart h has a copy in hand, of which x is a place
 pub record IsOfCopy (sc : Scenario) (f : List ℕ) (w : WorldState) (h : ℕ) (k : CopyOp) (x : ℕ) : Type 0 where

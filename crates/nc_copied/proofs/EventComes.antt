@@ -13,7 +13,6 @@ use Rattle.nc_scen.specs.declared.events.Event.TheVariants as events
 use Rattle.nc_scen.specs.declared.scenario.Scenario.{Scenario}
 use Rattle.nc_rules.specs.declared.steps.Act.{Act}
 use Rattle.nc_rules.specs.declared.steps.Act.TheVariants as acts
-use Rattle.nc_rules.specs.declared.steps.Next.{Next}
 use Rattle.nc_rules.specs.declared.steps.Phase.{Phase}
 use Rattle.nc_rules.specs.declared.steps.Phase.TheVariants.{Work}
 use Rattle.nc_rules.specs.declared.steps.Step.{Step}
@@ -22,15 +21,13 @@ use Rattle.nc_num.specs.declared.names.Label.{Label}
 use Rattle.nc_rules.specs.Calls.{leaving}
 use Rattle.nc_rules.specs.Driver.{DriverState, in_hand, next_of, next_of_op, next_in, next_rest, next_act, searched, searching, started, told, done, lent}
 use Rattle.nc_rules.specs.Events.{enabled}
-use Rattle.nc_rules.specs.Lots.{Fixed}
-use Rattle.nc_rules.specs.Next.{next, after_outcome, counted}
+use Rattle.nc_rules.specs.Next.{next}
 use Rattle.nc_rules.specs.Operations.{plan_of}
 use Rattle.nc_rules.specs.Outcomes.{Outcome, outcome, drain_outcome, leaves}
 use Rattle.nc_rules.specs.Machine.{MachineState}
 use Rattle.nc_rules.specs.World.{WorldState, no_driver, driver_of}
 use Rattle.nc_holds.proofs.EventHolds.{next_is, next_same}
 use Rattle.nc_flatness.specs.Flatness.{IsWorldOf}
-use Rattle.nc_refusals.specs.Refused.{maker}
 use Rattle.nc_refusals.proofs.Behind.{Behind, Same, Lent, Started, Told, Done, drivers_in, driver_now, mine, same_hart, behind}
 use Rattle.nc_refusals.proofs.Outcomes.{Made, Starts, Hears, Acts, made}
 use Rattle.nc_copied.proofs.Comings.{Came, Stays, Begins, Goes, IsSameOp, start_comes, told_comes, done_comes}
@@ -58,10 +55,6 @@ plan_searches d phase = op_searched d (in_hand d) phase
 
 none_some : {A : Type 0} (o : Option ℕ) → o ≡ None → is_some o ≡ true → A
 none_some o none some = absurd (false≢true (sym (ap is_some none) ∙ some))
-
--- the rest of hart h's plan is as before
-abbrev RestStays : WorldState → WorldState → HartNo → Type 0
-RestStays w v h = (driver_of v h.0).rest ≡ (driver_of w h.0).rest
 
 other_set : (w : WorldState) (g h : HartNo) (d : DriverState) → (h.0 ≡ g.0 → ⊥) → drivers_in w (slice_set w.drivers g.0 d) h.0 ≡ driver_of w h.0
 other_set w g h d ne = get_or-set_other w.drivers g.0 h.0 d no_driver ne

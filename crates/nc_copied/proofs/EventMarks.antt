@@ -1,10 +1,10 @@
 -- The marks of an event that may happen, and a byte of flat memory that they leave.
 use Rattle.std.specs.Prelude.{Option, Some, None, Bool, true, false, if◌then◌else◌}
-use Rattle.std.proofs.Common.{◌≡◌, ℕ, List, [], ◌∷◌, ◌++◌, refl, sym, ap, ◌∙◌, subst}
+use Rattle.std.proofs.Common.{◌≡◌, ℕ, List, [], ◌∷◌, ◌++◌, refl, sym, ap, ◌∙◌}
 use Rattle.std.proofs.lemmas.Bool.{false≢true}
 use Rattle.nc_num.specs.Memory.{byte}
 use Rattle.nc_num.specs.declared.names.HartNo.{HartNo}
-use Rattle.nc_model.specs.Flat.{Mark, Did, Touched, Untouched, flat, deeds}
+use Rattle.nc_model.specs.Flat.{Mark, Untouched, flat, deeds}
 use Rattle.nc_model.specs.declared.owners.Grant.{Grant}
 use Rattle.nc_model.specs.declared.touches.Touch.{Touch}
 use Rattle.nc_scen.specs.declared.events.Event.{Event}
@@ -15,7 +15,7 @@ use Rattle.nc_rules.specs.Events.{enabled}
 use Rattle.nc_rules.specs.Flat.{all_marks, event_marks}
 use Rattle.nc_rules.specs.Machine.{MachineState}
 use Rattle.nc_rules.specs.Next.{event_records}
-use Rattle.nc_rules.specs.Outcomes.{Outcome, goes, runs, outcome}
+use Rattle.nc_rules.specs.Outcomes.{goes, runs, outcome}
 use Rattle.nc_rules.specs.Records.{moves_records}
 use Rattle.nc_rules.specs.World.{WorldState, driver_of}
 use Rattle.nc_flatness.proofs.Marks.{append_none, marks-append, moves_silent}

@@ -1,33 +1,26 @@
 -- A hart's step leaves the bytes of flat memory that another hart's copy has, and those of its own copy.
-use Rattle.std.specs.Prelude.{Option, Some, None, Bool, true, false, if◌then◌else◌, unwrap_or, ◌==◌, ◌/◌}
-use Rattle.std.proofs.Common.{◌≡◌, ◌≢◌, ℕ, ◌+◌, ◌*◌, ◌<◌, ◌≤◌, List, [], ◌∷◌, ◌++◌, length, replicate, refl, sym, ap, ◌∙◌, subst, inl, inr, arith}
-use Rattle.std.proofs.lemmas.Bool.{false≢true, cases_eq, ne_eqb}
+use Rattle.std.specs.Prelude.{Option, Some, None, Bool, true, false, if◌then◌else◌, unwrap_or, ◌/◌}
+use Rattle.std.proofs.Common.{◌≡◌, ◌≢◌, ℕ, List, [], ◌∷◌, ◌++◌, refl, sym, ap, ◌∙◌, inl, inr, arith}
+use Rattle.std.proofs.lemmas.Bool.{ne_eqb}
 use Rattle.nc_num.specs.Memory.{byte}
 use Rattle.nc_num.specs.declared.names.HartNo.{HartNo}
-use Rattle.nc_num.specs.declared.names.MemType.{MemType}
 use Rattle.nc_num.specs.declared.places.Block.{Block}
-use Rattle.nc_num.specs.declared.places.Span.{Span}
-use Rattle.nc_env.specs.declared.CboOp.{CboOp}
 use Rattle.nc_env.specs.declared.CboOp.TheVariants as cbos
 use Rattle.nc_queue.specs.Entries.{entry_gives}
 use Rattle.nc_queue.specs.declared.entry.Entry.{Entry}
 use Rattle.nc_queue.specs.declared.entry.Entry.TheVariants as entries
 use Rattle.nc_plan.specs.declared.ops.HartOp.{HartOp}
 use Rattle.nc_plan.specs.declared.ops.HartOp.TheVariants as hart
-use Rattle.nc_plan.specs.declared.ops.Payload.{Payload}
 use Rattle.nc_hart.specs.Issue.{marks, payload}
 use Rattle.nc_model.specs.Flat.{Mark, Did, named}
-use Rattle.nc_model.specs.declared.deeds.Deed.TheVariants.{Read, Write}
+use Rattle.nc_model.specs.declared.deeds.Deed.TheVariants.{Read}
 use Rattle.nc_model.specs.declared.owners.Access.TheVariants as accesses
 use Rattle.nc_model.specs.declared.owners.Grant.{Grant}
-use Rattle.nc_model.specs.declared.owners.Owner.{Owner}
 use Rattle.nc_ops.specs.declared.ops.Op.{Op}
 use Rattle.nc_scen.specs.declared.scenario.Scenario.{Scenario}
 use Rattle.nc_rules.specs.declared.records.Record.{Record}
-use Rattle.nc_rules.specs.declared.records.Record.TheVariants as records
 use Rattle.nc_rules.specs.declared.steps.Act.{Act}
 use Rattle.nc_rules.specs.declared.steps.Act.TheVariants as acts
-use Rattle.nc_rules.specs.declared.steps.Next.{Next}
 use Rattle.nc_rules.specs.declared.steps.Next.TheVariants as nexts
 use Rattle.nc_rules.specs.declared.steps.Phase.{Phase}
 use Rattle.nc_rules.specs.declared.steps.Phase.TheVariants.{Steps, Search, Work}
@@ -44,7 +37,6 @@ use Rattle.nc_rules.specs.World.{WorldState, driver_of}
 use Rattle.nc_flatness.specs.Books.{book_of}
 use Rattle.nc_flatness.specs.Copying.{IsItsOwn}
 use Rattle.nc_flatness.specs.Flatness.{Flatness}
-use Rattle.nc_flatness.specs.Plans.{IsZero}
 use Rattle.nc_flatness.proofs.FlatBytes.{byte_stored, byte_zeroed}
 use Rattle.nc_flatness.proofs.Marks.{append_none, marks-append, transfers_silent, fence_silent}
 use Rattle.nc_flat_scripts.specs.Entering.{GivesOwn}

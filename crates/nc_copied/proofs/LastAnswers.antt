@@ -1,19 +1,14 @@
 -- The event that answers a copy is the last step of its plan; what its poll saw says that it is done.
-use Rattle.std.specs.Prelude.{is_none, Option, Some, None, Bool, true, false, All, Ok, Result}
-use Rattle.std.proofs.Common.{◌≡◌, ℕ, ◌<◌, List, [], ◌∷◌, ◌++◌, length, refl, sym, ap, ◌∙◌, subst, inl, inr, arith, ◌⊎◌}
-use Rattle.std.proofs.lemmas.Bool.{false≢true, cases_Bool, false_from_ne_true}
+use Rattle.std.specs.Prelude.{is_none, Option, Some, None, Bool, true, false}
+use Rattle.std.proofs.Common.{◌≡◌, ℕ, ◌<◌, List, [], ◌∷◌, length, refl, sym, ap, ◌∙◌, subst, inl, inr, arith, ◌⊎◌}
+use Rattle.std.proofs.lemmas.Bool.{false≢true}
 use Rattle.nc_num.specs.declared.names.HartNo.{HartNo}
-use Rattle.nc_plan.specs.declared.ops.HartOp.TheVariants as hart_ops
-use Rattle.nc_plan.specs.declared.ops.IoTarget.TheVariants as io
-use Rattle.nc_slots.specs.SlotWords.{holder_of, tried}
+use Rattle.nc_slots.specs.SlotWords.{holder_of}
 use Rattle.nc_model.specs.declared.touches.Touch.{Touch}
 use Rattle.nc_ops.specs.declared.ops.Op.{Op}
 use Rattle.nc_ops.specs.Fits.{FitsOp}
-use Rattle.nc_scen.specs.Events.{IsThere}
 use Rattle.nc_scen.specs.declared.events.Event.{Event}
 use Rattle.nc_scen.specs.declared.events.Event.TheVariants as events
-use Rattle.nc_scen.specs.declared.scenario.Scenario.{Scenario}
-use Rattle.nc_rules.specs.declared.answers.Answer.{Answer}
 use Rattle.nc_rules.specs.declared.answers.Issued.{Issued}
 use Rattle.nc_rules.specs.declared.answers.Issued.TheVariants as issued
 use Rattle.nc_rules.specs.declared.records.Record.{Record}
@@ -26,23 +21,21 @@ use Rattle.nc_rules.specs.declared.steps.Phase.TheVariants.{Steps, Search, Work}
 use Rattle.nc_rules.specs.declared.steps.Seen.{Seen}
 use Rattle.nc_rules.specs.declared.steps.Seen.TheVariants as seen
 use Rattle.nc_rules.specs.declared.steps.Step.{Step}
-use Rattle.nc_rules.specs.declared.lots.Lot.{Lot}
 use Rattle.nc_rules.specs.Calls.{issue_next, issue_answer, claim_next, control_of, take_next}
-use Rattle.nc_rules.specs.Driver.{DriverState, Went, in_hand, next_act, next_of, next_of_op, next_in, next_step, next_rest, searched, searching, is_script, started, told, done, kept}
-use Rattle.nc_rules.specs.Lots.{Fixed, slot_given}
+use Rattle.nc_rules.specs.Driver.{DriverState, in_hand, next_act, next_of, next_of_op, next_in, next_rest, searching, is_script, started, told, done, kept}
+use Rattle.nc_rules.specs.Lots.{slot_given}
 use Rattle.nc_rules.specs.Machine.{MachineState, grantee_of}
-use Rattle.nc_rules.specs.Operations.{begin, has_start}
-use Rattle.nc_rules.specs.Outcomes.{Outcome, goes, seen_of, claim_seen, got_word, told_slots, at_word, outcome, step_outcome, start_outcome, op_outcome, claim_outcome, poll_outcome, take_outcome, try_outcome, told_outcome}
-use Rattle.nc_rules.specs.Records.{op_records, try_records, told_records}
+use Rattle.nc_rules.specs.Outcomes.{Outcome, goes, seen_of, claim_seen, got_word, at_word, outcome, step_outcome, start_outcome, op_outcome, claim_outcome, poll_outcome, take_outcome, try_outcome, told_outcome}
+use Rattle.nc_rules.specs.Records.{op_records}
 use Rattle.nc_rules.specs.Watched.{issue_touch, poll_touch}
 use Rattle.nc_rules.specs.World.{WorldState, driver_of}
-use Rattle.nc_scripts.specs.Drivers.{AreMade, IsPhase, IsSearching, IsDriver}
+use Rattle.nc_scripts.specs.Drivers.{AreMade, IsPhase, IsSearching}
 use Rattle.nc_scripts.specs.Scripts.{is_act}
-use Rattle.nc_scripts.proofs.NewLots.{AreNew, new_is}
+use Rattle.nc_scripts.proofs.NewLots.{new_is}
 use Rattle.nc_scripts.proofs.SlotLaws.{made_given}
-use Rattle.nc_holds.specs.Holds.{Holds, DriverHolds}
+use Rattle.nc_holds.specs.Holds.{DriverHolds}
 use Rattle.nc_holds.proofs.ListsA.{all_at, at_get}
-use Rattle.nc_flatness.specs.Copying.{CopyOp, copy_op, is_poll, polls}
+use Rattle.nc_flatness.specs.Copying.{copy_op, is_poll}
 use Rattle.nc_refusals.specs.Refused.{maker}
 use Rattle.nc_copied.proofs.LastSteps.{tells, MakesLots, start_not, told_not, IsLastOf, done_last}
 

@@ -1,7 +1,7 @@
 -- Behind the last step of a copy's plan the places of its destination are its hart's own.
-use Rattle.std.specs.Prelude.{Option, Some, None, Bool, true, false, All, if◌then◌else◌, ◌==◌, ◌&&◌}
-use Rattle.std.proofs.Common.{◌≡◌, ℕ, ◌+◌, ◌<◌, ◌≤◌, List, [], ◌∷◌, ◌++◌, length, refl, sym, ap, ◌∙◌, subst, inl, inr, arith}
-use Rattle.std.proofs.lemmas.Bool.{false≢true, and_parts, eqb-true, cases_Bool, cases_lt}
+use Rattle.std.specs.Prelude.{Option, Some, None, Bool, true, false, All, if◌then◌else◌, ◌==◌}
+use Rattle.std.proofs.Common.{◌≡◌, ℕ, ◌+◌, ◌<◌, List, [], ◌∷◌, ◌++◌, refl, sym, ap, ◌∙◌, subst, inl, inr}
+use Rattle.std.proofs.lemmas.Bool.{and_parts, eqb-true, cases_Bool, cases_lt}
 use Rattle.nc_num.specs.Memory.{byte}
 use Rattle.nc_num.specs.Places.{covers}
 use Rattle.nc_num.specs.declared.names.HartNo.{HartNo}
@@ -33,7 +33,7 @@ use Rattle.nc_rules.specs.Driver.{DriverState, Went, in_hand, kept, busy, worked
 use Rattle.nc_rules.specs.Lots.{Fixed, is_lot, map_id, owner_of_side}
 use Rattle.nc_rules.specs.Machine.{MachineState}
 use Rattle.nc_rules.specs.Next.{after_outcome, counted}
-use Rattle.nc_rules.specs.Outcomes.{Outcome, goes}
+use Rattle.nc_rules.specs.Outcomes.{goes}
 use Rattle.nc_rules.specs.Turns.{is_area, last_owner, of_those, to_side, to_end, lots_after, transfers_of, turned_by}
 use Rattle.nc_rules.specs.View.{view}
 use Rattle.nc_rules.specs.Watched.{owner_of}

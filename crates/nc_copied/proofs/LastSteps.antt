@@ -1,11 +1,9 @@
 -- An answer that a copy is done, or failed, comes with the last step of its plan, and tells what its poll saw.
-use Rattle.std.proofs.Common.{◌≡◌, ◌⊎◌, ℕ, ◌+◌, ◌<◌, Bool, true, false, List, [], ◌∷◌, ◌++◌, map, length, refl, sym, ap, ◌∙◌, subst, inl, inr, arith, Option, Some, None, Result, Ok, Err}
-use Rattle.std.specs.Prelude.{if◌then◌else◌, ◌==◌, ◌%◌, ◌/◌, ◌^◌, nat_lt, All}
+use Rattle.std.proofs.Common.{◌≡◌, ◌⊎◌, ℕ, ◌+◌, Bool, true, false, List, [], ◌∷◌, ◌++◌, map, refl, sym, ap, ◌∙◌, subst, inl, inr, Option, Some, None, Result, Ok, Err}
+use Rattle.std.specs.Prelude.{if◌then◌else◌, ◌==◌, ◌%◌, ◌/◌, ◌^◌, nat_lt}
 use Rattle.std.specs.List.{find}
-use Rattle.std.proofs.lemmas.Bool.{false≢true, and_parts}
-use Rattle.nc_num.specs.declared.names.HartNo.{HartNo}
+use Rattle.std.proofs.lemmas.Bool.{false≢true}
 use Rattle.nc_plan.specs.Plans.{In}
-use Rattle.nc_plan.proofs.PlanLaws.{in_right}
 use Rattle.nc_model.specs.declared.owners.Owner.{Owner}
 use Rattle.nc_coherent.specs.Pages.{PageMap}
 use Rattle.nc_ops.specs.declared.ops.Op.{Op}
@@ -17,8 +15,6 @@ use Rattle.nc_rules.specs.declared.answers.Refusal.TheVariants as refusals
 use Rattle.nc_rules.specs.declared.lots.Kind.TheVariants as kinds
 use Rattle.nc_rules.specs.declared.lots.Lot.{Lot}
 use Rattle.nc_rules.specs.declared.lots.LotId.{LotId}
-use Rattle.nc_rules.specs.declared.steps.Next.{Next}
-use Rattle.nc_rules.specs.declared.steps.Next.TheVariants as nexts
 use Rattle.nc_rules.specs.declared.steps.Phase.{Phase}
 use Rattle.nc_rules.specs.declared.steps.Phase.TheVariants.{Steps, Search, Work}
 use Rattle.nc_rules.specs.declared.steps.Seen.{Seen}
@@ -38,11 +34,11 @@ use Rattle.nc_rules.specs.Areas.{allocated_answer}
 use Rattle.nc_rules.specs.Areas as areas
 use Rattle.nc_rules.specs.Copies.{source, target, copied, copy_answer, copy_steps_of}
 use Rattle.nc_rules.specs.Copies as copies
-use Rattle.nc_rules.specs.Operations.{meaning, has_start, step_at, begin, opening, plan_of, good_answer, bad_answer}
-use Rattle.nc_rules.specs.Driver.{DriverState, Went, in_hand, next_of, next_of_op, next_in, stays, give_up, answered, opened, searches, placed, with_lots, begun, refused_step, steps_done, started, started_of, missed, told, told_of, told_in, told_word, kept, busy, stepped, step_answer, worked, done, done_of, done_unless, done_in}
+use Rattle.nc_rules.specs.Operations.{meaning, has_start, step_at, begin, plan_of, good_answer, bad_answer}
+use Rattle.nc_rules.specs.Driver.{DriverState, in_hand, next_of, next_of_op, next_in, stays, give_up, answered, opened, searches, placed, with_lots, begun, refused_step, steps_done, started, started_of, told, told_of, told_in, told_word, kept, busy, stepped, step_answer, worked, done, done_of, done_unless, done_in}
 use Rattle.nc_rules.specs.Turns.{turned_by}
 use Rattle.nc_scripts.specs.Scripts.{is_act}
-use Rattle.nc_scripts.specs.Drivers.{AreMade, made_names}
+use Rattle.nc_scripts.specs.Drivers.{AreMade}
 use Rattle.nc_scripts.proofs.LotLaws.{its_name}
 use Rattle.nc_flatness.specs.Copying.{CopyOp, copy_op}
 

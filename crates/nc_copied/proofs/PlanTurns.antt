@@ -1,8 +1,7 @@
 -- The plan of a copy: its turns are of its two ends alone, and it polls.
-use Rattle.std.specs.Prelude.{All, Option, Some, None, ◌&&◌, ◌||◌, ◌==◌, if◌then◌else◌, find}
-use Rattle.std.specs.List.{list_any}
-use Rattle.std.proofs.Common.{◌≡◌, ℕ, Bool, true, false, List, [], ◌∷◌, ◌++◌, map, refl, sym, ap, ◌∙◌, subst}
-use Rattle.std.proofs.lemmas.Bool.{and_parts, eqb-true, false≢true, or_right}
+use Rattle.std.specs.Prelude.{All, Option, Some, None, ◌||◌, ◌==◌, if◌then◌else◌, find}
+use Rattle.std.proofs.Common.{◌≡◌, ℕ, Bool, true, false, List, [], ◌∷◌, ◌++◌, map, refl, sym, ◌∙◌, subst}
+use Rattle.std.proofs.lemmas.Bool.{and_parts, eqb-true, false≢true}
 use Rattle.std.proofs.lemmas.List.Elements.{All-nil, All-cons, All-append}
 use Rattle.nc_num.specs.declared.names.ChanNo.{ChanNo}
 use Rattle.nc_plan.specs.Plans.{full}
@@ -11,7 +10,6 @@ use Rattle.nc_memcpy.specs.declared.copy.CopyStep.{CopyStep}
 use Rattle.nc_memcpy.specs.declared.copy.CopyStep.TheVariants as copy_ops
 use Rattle.nc_rules.specs.declared.lots.Lot.{Lot}
 use Rattle.nc_rules.specs.declared.lots.LotId.{LotId}
-use Rattle.nc_rules.specs.declared.steps.Act.TheVariants as acts
 use Rattle.nc_rules.specs.declared.steps.Step.{Step}
 use Rattle.nc_rules.specs.declared.steps.Turn.{Turn}
 use Rattle.nc_rules.specs.declared.steps.Turn.TheVariants as turns
@@ -19,9 +17,9 @@ use Rattle.nc_rules.specs.Copies as copies
 use Rattle.nc_rules.specs.Copies.{source, target, copy_step, claim_step, back_steps, end_part, copy_steps, copy_steps_of}
 use Rattle.nc_rules.specs.Lots.{Fixed, is_lot, parts}
 use Rattle.nc_rules.specs.Operations.{meaning, plan_of}
-use Rattle.nc_rules.specs.Plans.{step, hart_step, op_steps, turning, ending, carried, token_steps, lending_end, lend_steps, return_steps}
+use Rattle.nc_rules.specs.Plans.{hart_step, op_steps, turning, ending, carried, token_steps, lending_end, lend_steps, return_steps}
 use Rattle.nc_scripts.specs.Drivers.{IsEndName}
-use Rattle.nc_scripts.proofs.Lists.{Found, found, all_to, all_in}
+use Rattle.nc_scripts.proofs.Lists.{found, all_to, all_in}
 use Rattle.nc_holds.proofs.QuietSteps.{IsQuiet, ending_quiet, beginning_quiet, return_quiet, carried_steps_quiet}
 use Rattle.nc_flatness.specs.Copying.{CopyOp, copy_op, is_poll, polls}
 

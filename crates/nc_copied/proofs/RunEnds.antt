@@ -1,6 +1,5 @@
 -- A run, its flat memory and its records, by its last event.
-use Rattle.std.specs.Prelude.{All}
-use Rattle.std.proofs.Common.{◌≡◌, ℕ, List, [], ◌∷◌, ◌++◌, length, refl, sym, ap, ◌∙◌, subst, inl, inr, append_assoc}
+use Rattle.std.proofs.Common.{◌≡◌, List, [], ◌∷◌, ◌++◌, length, refl, sym, ap, ◌∙◌, subst, inl, inr}
 use Rattle.nc_plan.specs.Plans.{In}
 use Rattle.nc_model.specs.Flat.{Mark, Did, Touched, Untouched, flat, deeds}
 use Rattle.nc_model.proofs.FlatLaws.{in_order}

@@ -7,7 +7,7 @@ use Rattle.nc_num.specs.declared.places.Span.{Span}
 use Rattle.nc_queue.specs.declared.entry.Entry.{Entry}
 use Rattle.nc_queue.specs.declared.entry.Entry.TheVariants as entries
 use Rattle.nc_plan.specs.Plans.{In}
-use Rattle.nc_slots.specs.SlotWords.{holder_of, tried}
+use Rattle.nc_slots.specs.SlotWords.{holder_of}
 use Rattle.nc_model.specs.declared.owners.Access.TheVariants.{Read, Write}
 use Rattle.nc_model.specs.declared.owners.Owner.{Owner}
 use Rattle.nc_model.specs.declared.touches.Touch.{Touch}
@@ -23,7 +23,7 @@ use Rattle.nc_rules.specs.Driver.{Went, next_of, searching, is_script, lent}
 use Rattle.nc_rules.specs.Events.{enabled}
 use Rattle.nc_rules.specs.Machine.{MachineState}
 use Rattle.nc_rules.specs.Next.{event_records}
-use Rattle.nc_rules.specs.Outcomes.{Outcome, goes, runs, nothing, at_word, leaves, outcome, step_outcome, start_outcome, op_outcome, claim_outcome, poll_outcome, take_outcome, try_outcome, told_outcome, drain_outcome}
+use Rattle.nc_rules.specs.Outcomes.{Outcome, goes, runs, at_word, leaves, outcome, step_outcome, start_outcome, op_outcome, claim_outcome, poll_outcome, take_outcome, try_outcome, told_outcome, drain_outcome}
 use Rattle.nc_rules.specs.Records.{touch_records, owner_records, back_records, answered, op_records, drain_records, answer_records, read_records, write_records, try_records, told_records}
 use Rattle.nc_rules.specs.Turns.{turned_by}
 use Rattle.nc_rules.specs.Watched.{drain_touch, transaction_touch}

@@ -1,6 +1,6 @@
 -- A plan zeroes blocks of an area alone, and no end of a copy is one.
-use Rattle.std.specs.Prelude.{Option, Some, None}
-use Rattle.std.proofs.Common.{◌≡◌, ℕ, ◌/◌, ◌<◌, ◌≤◌, Bool, true, false, List, [], ◌∷◌, refl, sym, ap, ◌∙◌, subst, inl, inr, arith}
+use Rattle.std.specs.Prelude.{Option, Some}
+use Rattle.std.proofs.Common.{◌≡◌, ℕ, ◌/◌, Bool, true, false, List, [], ◌∷◌, refl, sym, ap, ◌∙◌, subst, inl, inr, arith}
 use Rattle.std.proofs.lemmas.Bool.{false≢true}
 use Rattle.nc_num.specs.declared.names.HartNo.{HartNo}
 use Rattle.nc_num.specs.declared.places.Span.{Span}
@@ -10,7 +10,6 @@ use Rattle.nc_queue.specs.Entries.{is_zero, writes_back}
 use Rattle.nc_plan.specs.Plans.{In}
 use Rattle.nc_plan.specs.declared.ops.HartOp.{HartOp}
 use Rattle.nc_plan.specs.declared.ops.HartOp.TheVariants as hart_ops
-use Rattle.nc_model.specs.declared.owners.Owner.{Owner}
 use Rattle.nc_sg.specs.declared.list.Entry.{Entry}
 use Rattle.nc_ops.specs.declared.ops.Op.{Op}
 use Rattle.nc_ops.specs.declared.ops.Op.TheVariants as ops
@@ -35,7 +34,7 @@ use Rattle.nc_rules.specs.World.{WorldState, driver_of, hart}
 use Rattle.nc_scripts.specs.Drivers.{IsEndName, FitsKind}
 use Rattle.nc_flatness.specs.Copying.{IsItsOwn}
 use Rattle.nc_flatness.specs.Covered.{is_lending}
-use Rattle.nc_flatness.specs.Flatness.{IsHanding, PlanIs, PlanOf, StandsAt, Drives, Flatness, mail_step}
+use Rattle.nc_flatness.specs.Flatness.{IsHanding, PlanIs, PlanOf, StandsAt, Drives, Flatness}
 use Rattle.nc_flatness.specs.Plans.{IsZero, StepGoes, PlanGoes}
 use Rattle.nc_flatness.specs.Plans.{Loads, Stores, WritesBack, Drops, Gives, Fences, Ends, Zeroes, Flushes, Settles, GivesArea, TakesBack, Marks, Posts, Claims, Registers, Polls, TakesTarget, TakesSource}
 use Rattle.nc_flatness.proofs.Loans.{lot_in}

@@ -1,6 +1,6 @@
 -- What an answer that a copy is done tells: by its poll the source's bytes had come to the destination. This project's
 -- own.
-use Rattle.std.specs.Prelude.{ℕ, ◌≡◌, ◌+◌, ◌<◌, Bool, true, List, [], ◌∷◌, ◌++◌, map, Option, Some, slice_get, slice_index_or}
+use Rattle.std.specs.Prelude.{ℕ, ◌≡◌, ◌+◌, ◌<◌, true, List, [], ◌∷◌, ◌++◌, map, Option, Some, slice_get, slice_index_or}
 use Rattle.nc_num.specs.Memory.{byte}
 use Rattle.nc_num.specs.declared.bytes.Bytes.{Bytes}
 use Rattle.nc_num.specs.declared.names.ChanNo.{ChanNo}
@@ -16,17 +16,16 @@ use Rattle.nc_scen.specs.declared.events.Event.TheVariants.{Issue}
 use Rattle.nc_scen.specs.declared.scenario.Scenario.{Scenario}
 use Rattle.nc_rules.specs.declared.answers.Answer.{Answer}
 use Rattle.nc_rules.specs.declared.answers.Answer.TheVariants.{CopyDone, CopyFailed}
-use Rattle.nc_rules.specs.declared.records.Record.{Record}
 use Rattle.nc_rules.specs.declared.records.Record.TheVariants as records
 use Rattle.nc_rules.specs.declared.steps.Next.TheVariants.{Poll}
-use Rattle.nc_rules.specs.Driver.{DriverState, next_of}
+use Rattle.nc_rules.specs.Driver.{next_of}
 use Rattle.nc_rules.specs.Events.{enabled}
 use Rattle.nc_rules.specs.Flat.{run_marks, flat_after}
 use Rattle.nc_rules.specs.Next.{event_records}
 use Rattle.nc_rules.specs.Run as run
 use Rattle.nc_rules.specs.Start.{hart_spec}
 use Rattle.nc_rules.specs.View.{view}
-use Rattle.nc_rules.specs.World.{WorldState, driver_of, start}
+use Rattle.nc_rules.specs.World.{driver_of, start}
 
 -- the operation of a hart's script with this number
 abbrev pub op_at : Scenario → HartNo → ℕ → Option Op
