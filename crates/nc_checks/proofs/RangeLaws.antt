@@ -86,17 +86,6 @@ ranges_on f es i d have range all lt ok h =
     ∙ sym (at_drop_more (λ (ds : List SgEntry). ok_as (ranges_of f ds) (λ rs. have ++ rs)) es i d lt)
     ∙ h
 
--- a range that is refused
-pub ranges_refused : (f : DriverConfig) (es : List SgEntry) (i : ℕ) (d : SgEntry) (have : List Span) (refusal : Refusal) (all : Result (List Span) Refusal) → i < length es
-    → Err refusal ≡ part_at f (get_or es i d) → ok_as (ranges_of f (drop i es)) (λ rs. have ++ rs) ≡ all → Err refusal ≡ all
-ranges_refused f es i d have refusal all lt err h =
-    ap (λ (r : Result Span Refusal). ok_as (r >>= λ x. ranges_of f (drop (i + 1) es) >>= λ xs. Ok (x ∷ xs)) (λ rs. have ++ rs)) err
-    ∙ sym (at_drop_more (λ (ds : List SgEntry). ok_as (ranges_of f ds) (λ rs. have ++ rs)) es i d lt)
-    ∙ h
-
-pub no_parts : (f : DriverConfig) → AreParts f 0 []
-no_parts f = record { count = refl; some = λ k d lt. absurd (omega arith); ends = λ n h k d lt. absurd (omega arith) }
-
 pub parts_more : (f : DriverConfig) (n : ℕ) (ranges : List Span) (range : Span) → AreParts f n ranges → 0 < range.len
     → ((end : ℕ) → All (λ b. b.at + b.len ≤ end) f.buffers → range.at + range.len ≤ end) → AreParts f (n + 1) (ranges ++ range ∷ [])
 parts_more f n ranges range h some ends = record {
@@ -111,10 +100,6 @@ buffer_ends f buf end all = elim (cases_lt buf (length f.buffers)) [
   | inl lt ↦ all buf (record { at = 0; len = 0 }) lt
   | inr ge ↦ rw (get_or-eq_default f.buffers (record { at = 0; len = 0 }) ge) (omega arith)
 ]
-
--- the ranges are those of a scatter list
-pub are_ranges : (f : DriverConfig) (n : ℕ) (ranges : List Span) → IsSafe f → AreParts f n ranges → All IsRange ranges
-are_ranges f n ranges safe h = λ k d lt. record { some = h.some k d lt; ends = h.ends 1048576 (λ j e less. (safe.buffers j e less).ends) k d lt }
 
 -- ---- whole operations
 

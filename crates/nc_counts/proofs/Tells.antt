@@ -113,9 +113,6 @@ answer_calm : (h : HartNo) (op : ℕ) (o : Option Answer) → Calm (answered h o
 answer_calm h op None = nil_calm
 answer_calm h op (Some a) = record { of_events = refl; of_touches = refl; of_owners = refl }
 
-tell_as : (rs : List Record) (a b c d : ℕ) (ts us : List (Span × Owner)) → a ≡ c → b ≡ d → ts ≡ us → Tell rs a b ts → Tell rs c d us
-tell_as rs a b c d ts us e f g x = record { of_events = x.of_events ∙ e; of_touches = x.of_touches ∙ f; of_owners = x.of_owners ∙ g }
-
 -- ---- an outcome
 
 abbrev pub Tells : Outcome → Type 0

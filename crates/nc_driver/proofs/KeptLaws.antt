@@ -145,12 +145,6 @@ start_stays d ws pages o s e start is = no_start d ws pages o e start ∙ ap (re
 
 -- ---- a search, or the opening
 
-pub placed_waits : (d : DriverState) (o : Op) → some_lot_waits d.lots ≡ true → placed d o ≡ stays (searches d 0)
-placed_waits d o e = ap (λ (t : Bool). if t then stays (searches d 0) else opened d o) e
-
-pub placed_opens : (d : DriverState) (o : Op) → some_lot_waits d.lots ≡ false → placed d o ≡ opened d o
-placed_opens d o e = ap (λ (t : Bool). if t then stays (searches d 0) else opened d o) e
-
 -- ---- told
 
 pub told_ends : (d : DriverState) (got : Bool) → in_hand d ≡ None → told d got ≡ stays d
@@ -178,9 +172,6 @@ told_got d o k e at = told_some d o true (Search k) e at
 
 pub told_missed : (d : DriverState) (o : Op) (k : ℕ) → in_hand d ≡ Some o → d.phase ≡ Search k → told d false ≡ missed d o k
 told_missed d o k e at = told_some d o false (Search k) e at
-
-pub missed_more : (d : DriverState) (o : Op) (k : ℕ) → nat_lt (k + 1) d.fixed.slots ≡ true → missed d o k ≡ stays (searches d (k + 1))
-missed_more d o k e = ap (λ (t : Bool). if t then stays (searches d (k + 1)) else give_up d o refusals.NoSlot) e
 
 pub missed_all : (d : DriverState) (o : Op) (k : ℕ) → nat_lt (k + 1) d.fixed.slots ≡ false → missed d o k ≡ give_up d o refusals.NoSlot
 missed_all d o k e = ap (λ (t : Bool). if t then stays (searches d (k + 1)) else give_up d o refusals.NoSlot) e
@@ -282,12 +273,6 @@ work_there d o saw s a some first is sound =
     let k = subst (λ (w : Went). IsSound w) (work_done d o saw s (drop 1 d.rest) (first_is d.rest s some first)) sound in
     let fixed = went_fixed d (lots_after_both s.first s.last d.lots) saw (drop 1 d.rest) in
     (k.ram, rw is (subst (λ (f : DriverConfig). AreThere k.ram f (turned d.fixed d.lots s.first s.last (answered d o saw (drop 1 d.rest)))) fixed k.moves))
-
--- what an opening moves is there
-pub open_there : (d : DriverState) (o : Op) (t : Turn) (a : Option Answer) → t ≡ opening d.fixed d.lots o → a ≡ answered d o d.saw (plan_of d.fixed d.lots o) → IsSound (opened d o) → (ram : ℕ) × AreThere ram d.fixed (turned d.fixed d.lots t turns.Stay a)
-open_there d o t a first is k =
-    let fixed = went_fixed d (lots_after (opening d.fixed d.lots o) d.lots) d.saw (plan_of d.fixed d.lots o) in
-    (k.ram, rw (first, is) (subst (λ (f : DriverConfig). AreThere k.ram f (turned d.fixed d.lots (opening d.fixed d.lots o) turns.Stay (answered d o d.saw (plan_of d.fixed d.lots o)))) fixed k.moves))
 
 -- ---- the lots before a step are of no account behind it
 

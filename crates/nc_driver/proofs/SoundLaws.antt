@@ -86,11 +86,6 @@ steps_placed d n k e = placed_in d n d.phase e k.driver.phase
 pub over_placed : (ram harts : ℕ) (d : DriverState) (lots : List Lot) → IsDriver ram harts (over d lots) → ArePlaced lots
 over_placed ram harts d lots k = steps_placed (over d lots) 0 (record { ram = ram; harts = harts; driver = k }) refl
 
--- those of a driver that goes on with a plan
-pub went_placed : (ram harts : ℕ) (d : DriverState) (lots : List Lot) (saw : Seen) (rest : List Step) → IsDriver ram harts (went_to d lots saw rest) → ArePlaced lots
-went_placed ram harts d lots saw [] k = over_placed ram harts d lots k
-went_placed ram harts d lots saw (s ∷ rest) k = k.phase.placed
-
 searching_in : (d : DriverState) (n : ℕ) (p : Phase) → p ≡ Search n → IsPhase d p → IsSearching d n
 searching_in d n (Steps m) e h = absurd (cc)
 searching_in d n (Search m) e h = let same : m ≡ n = cc in subst (λ (k : ℕ). IsSearching d k) same h
@@ -118,9 +113,6 @@ kind_named pool kinds.Copy id es h = h.0.first
 lots_named : (ram : ℕ) (f : DriverConfig) (lots : List Lot) → All (IsLotIn ram f) lots → AreNamed lots
 lots_named ram f lots all = all_to (IsLotIn ram f) (λ (lot : Lot). lot.id.first < 2) lots all (λ lot h. kind_named f.pool lot.kind lot.id lot.list.entries h.kind)
 
-pub kept_named : (d : DriverState) → DriverInvariant d → AreNamed d.lots
-kept_named d k = lots_named k.ram d.fixed d.lots k.driver.lots
-
 pub given_named : (d : DriverState) (n : ℕ) → DriverInvariant d → n < d.fixed.slots → AreNamed (slot_given n d.lots)
 given_named d n k lt = lots_named k.ram d.fixed (slot_given n d.lots) (lots_given k.ram d.fixed n d.lots lt k.driver.lots)
 
@@ -138,7 +130,3 @@ ready_after d now w (Err e) due k s is stays at = record { kept = subst (λ (x :
 pub fixed_after : {A E : Type 0} (d now : DriverState) (w : Went) (r : Result A E) → w.driver.fixed ≡ d.fixed → IfOk r (λ m. now ≡ w.driver) → OnErr r (now ≡ d) → now.fixed ≡ d.fixed
 fixed_after d now w (Ok m) f is stays = ap (λ (x : DriverState). x.fixed) is ∙ f
 fixed_after d now w (Err e) f is stays = ap (λ (x : DriverState). x.fixed) stays
-
--- a state that is as before has the same step due
-pub due_after : (d now : DriverState) (old new : Result (Option Step) Refusal) → now ≡ d → new ≡ old → IsDue d old → IsDue now new
-due_after d now old new s e at = subst (λ (x : DriverState). IsDue x new) (sym s) (subst (λ (r : Result (Option Step) Refusal). IsDue d r) (sym e) at)

@@ -173,17 +173,6 @@ can_add_all ram harts f s id knows mine words held placed =
     let to_e = to_grant f s id lot j e mine placed name wanted (record { lot_in = k; entry = at_j }) in
     record { device = λ x on_e on_d. ne (two_apart ram harts f s lot lot i j d e x knows mine words to_d to_e on_d on_e).entry; name = entry_name f.me lot.id i j ne }))
 
-pub can_add_turned : (ram harts : ℕ) (f : DriverConfig) (s : Held) (t : Turn) → Knows ram harts f s → Mine f s → WordsAgree f.me s.slots s.lots → EachIsHeld ram f s → MayTurn f s t → CanAddAll ram s.grants (grants_of f.me f.slots_at s.lots t)
-can_add_turned ram harts f s turns.Stay knows mine words held may = tt
-can_add_turned ram harts f s (turns.Pass range to) knows mine words held may = tt
-can_add_turned ram harts f s (turns.Own range) knows mine words held may = tt
-can_add_turned ram harts f s (turns.Lend id) knows mine words held may = can_add_all ram harts f s id knows mine words held may
-can_add_turned ram harts f s (turns.Give id) knows mine words held may = tt
-can_add_turned ram harts f s (turns.Return id) knows mine words held may = tt
-can_add_turned ram harts f s (turns.Sync id) knows mine words held may = tt
-can_add_turned ram harts f s (turns.Settle id) knows mine words held may = tt
-can_add_turned ram harts f s (turns.End id) knows mine words held may = tt
-
 -- ---- an area that is made and lent at once
 
 area_direct_at : (ram : ℕ) (f : DriverConfig) (lot : Lot) (i : ℕ) (e : Entry) → IsLotIn ram f lot → is_area lot.kind ≡ true → slice_get lot.list.entries i ≡ Some e → waits e ≡ false

@@ -45,9 +45,6 @@ AllStatus w n = (b : ℕ) → b < length w.machine.boxes → Status n b
 
 -- ---- what the hart that goes on knows
 
-pub driver_in : (w : WorldState) (h : HartNo) → (a : At w h) → IsDriver (length w.machine.cache.ram) (length w.machine.harts) (driver_of w h.0)
-driver_in w h a = (here w h a).driver
-
 -- a buffer has bytes of RAM
 pub buffer_range : (w : WorldState) (h : HartNo) (b : ℕ) → At w h → b < length w.machine.boxes → IsRangeIn (length w.machine.cache.ram) (buffer_of (driver_of w h.0).fixed b)
 buffer_range w h b a lt = (here w h a).driver.fixed.buffers b (record { at = 0; len = 0 }) (omega (arith, lt, (here w h a).setting.boxes))

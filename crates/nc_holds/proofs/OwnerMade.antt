@@ -162,9 +162,6 @@ off_old ram harts f s new old lot i j d e x knows mine lent h here k entry on_d 
     let lies = all_at (λ (c : Entry). LiesInBuffer f c.span) lot.list.entries e (all_at (LiesSo f) new lot h.lie k (all_at (λ (l : Lot). is_area l.kind ≡ false) new lot h.off k)) (at_get lot.list.entries j e entry) in
     own_off_lent ram harts f s old i d x lies.0 knows mine here (all_at (λ (l : Lot). is_wanted l.side ≡ false) s.lots old lent here.lot_in) on_d (lies.1 x on_e) (is_own_byte f s.owners new lot j e x h k entry on_e)
 
-same_back : (a : Lot) (i : ℕ) (b : Lot) (j : ℕ) → IsSameEntry a i b j → IsSameEntry b j a i
-same_back a i b j h = record { lot = sym h.lot; entry = sym h.entry }
-
 made_apart : (ram harts : ℕ) (f : DriverConfig) (s : Held) (new : List Lot) → Knows ram harts f s → Mine f s → AllLent s.lots → AreFresh f s.owners new → EntriesAreApart (s.lots ++ new)
 made_apart ram harts f s new knows mine lent h a b i j d e x ha hb on_d on_e = elim (of_append a s.lots new ha.lot_in) [
   | inl ka ↦ elim (of_append b s.lots new hb.lot_in) [

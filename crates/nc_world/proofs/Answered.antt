@@ -68,9 +68,6 @@ drain_place m h i r is lt e = place_by m h i (leaving m h i) r is lt refl e
 pub drain_bus_places : (m : MachineState) (h i : ℕ) (r : Option (Entry × List BusRec)) → IsMachine m → h < length m.harts → r ≡ drain_answer m h i → IfSome r (λ p. All (HasPlace m.size) p.1)
 drain_bus_places m h i r is lt e = places_by m h i (leaving m h i) r is lt refl e
 
-pub drain_same : (m n : MachineState) (h i : ℕ) (r : Option (Entry × List BusRec)) → r ≡ drain_answer m h i → n ≡ drain_next m h i → IfNone r (n ≡ m)
-drain_same m n h i r e state = same_by m n h i (leaving m h i) r refl e state
-
 -- ---- fills and evictions
 
 some_placed : (s : ℕ) (r : Option (List BusRec)) → SomeHavePlaces s r → IfSome r (λ bus. All (HasPlace s) bus)

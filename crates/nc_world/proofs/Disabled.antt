@@ -60,9 +60,6 @@ not_held_from : (h b : ℕ) (o : Option Line) → evict_bus h b o ≡ None → h
 not_held_from h b None e = refl
 not_held_from h b (Some l) e = not_held_by_test (holds l.held h) _ e
 
-pub evict_held : (m : MachineState) (h b : ℕ) (bus : List BusRec) → evict_answer m h b ≡ Some bus → held_by (line_at m.cache b) h ≡ true
-evict_held m h b bus e = held_from h b (line_at m.cache b) bus e
-
 pub evict_not_held : (m : MachineState) (h b : ℕ) → evict_answer m h b ≡ None → held_by (line_at m.cache b) h ≡ false
 evict_not_held m h b e = not_held_from h b (line_at m.cache b) e
 
@@ -113,12 +110,5 @@ off w e is = record {
   records = ap (λ (t : Bool). if t then records.Event e ∷ (outcome w e).records else []) is;
 }
 
--- a driver that is at no search
-pub try_off : (w : WorldState) (h : HartNo) → searching (driver_of w h.0) ≡ None → IsOff w (events.Try h)
-try_off w h e = off w (events.Try h) (no_search w h e)
-
 pub told_off : (w : WorldState) (h : HartNo) (got : Bool) → searching (driver_of w h.0) ≡ None → IsOff w (events.Told h got)
 told_off w h got e = off w (events.Told h got) (no_told w h got e)
-
-pub drain_off : (w : WorldState) (h : HartNo) (i : ℕ) → leaving w.machine h.0 i ≡ None → IsOff w (events.Drain h i)
-drain_off w h i e = off w (events.Drain h i) (no_drain w h i e)

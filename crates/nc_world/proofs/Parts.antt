@@ -106,15 +106,6 @@ going w h (nexts.Claim chan) may = refl
 going w h (nexts.Poll chan) may = refl
 going w h (nexts.Take buf) may = refl
 
-pub can_act : (w : WorldState) (h : HartNo) (n : Next) → may_go_on w h n ≡ true → CanAct w.machine h.0 n
-can_act w h nexts.End may = tt
-can_act w h nexts.Start may = tt
-can_act w h (nexts.Search k) may = tt
-can_act w h (nexts.Op op) may = may
-can_act w h (nexts.Claim chan) may = tt
-can_act w h (nexts.Poll chan) may = tt
-can_act w h (nexts.Take buf) may = tt
-
 -- ---- its outcome, by the parts
 
 abbrev pub parts_outcome : WorldState → HartNo → Next → Outcome
