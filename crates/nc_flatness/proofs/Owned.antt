@@ -1,11 +1,8 @@
 -- The places of mappings: each is of an entry of a lot, whose side says its owner.
-use Rattle.std.proofs.Common.{◌≡◌, ℕ, zero, suc, ◌<◌, ◌≤◌, true, false, List, [], ◌∷◌, length, refl, sym, ap, subst, ◌∙◌, inl, inr, arith, Option, Some, None}
-use Rattle.std.specs.Prelude.{All, slice_index_or, slice_get}
-use Rattle.std.proofs.lemmas.Bool.{cases_lt, false_from_ne_true, false≢true}
+use Rattle.std.proofs.Common.{◌≡◌, ℕ, ◌<◌, ◌≤◌, true, List, length, refl, sym, ap, subst, ◌∙◌, inl, inr, arith, Option, Some, None}
+use Rattle.std.proofs.lemmas.Bool.{cases_lt}
 use Rattle.std.proofs.lemmas.List.{get_or_past}
-use Rattle.std.proofs.lemmas.List.Elements.{All-head, All-tail}
 use Rattle.nc_num.specs.Places.{covers}
-use Rattle.nc_num.specs.declared.names.ChanNo.{ChanNo}
 use Rattle.nc_num.specs.declared.names.HartNo.{HartNo}
 use Rattle.nc_num.specs.declared.names.MapId.{MapId}
 use Rattle.nc_num.specs.declared.places.Span.{Span}
@@ -13,25 +10,20 @@ use Rattle.nc_model.specs.declared.owners.Owner.{Owner}
 use Rattle.nc_model.specs.declared.owners.Owner.TheVariants.{Pool}
 use Rattle.nc_own.specs.Books.{owner_in}
 use Rattle.nc_sg.specs.declared.list.Entry.{Entry}
-use Rattle.nc_ops.specs.declared.ops.Op.{Op}
-use Rattle.nc_ops.specs.declared.ops.Op.TheVariants as ops
-use Rattle.nc_scen.specs.declared.scenario.HartSpec.{HartSpec}
 use Rattle.nc_scen.specs.declared.scenario.Scenario.{Scenario}
 use Rattle.nc_rules.specs.declared.lots.Lot.{Lot}
-use Rattle.nc_rules.specs.Driver.{in_hand}
-use Rattle.nc_rules.specs.Lots.{DriverConfig, map_id, owner_of_side}
-use Rattle.nc_rules.specs.Start.{fixed_of, hart_spec, no_hart_spec}
+use Rattle.nc_rules.specs.Lots.{map_id, owner_of_side}
+use Rattle.nc_rules.specs.Start.{fixed_of, hart_spec}
 use Rattle.nc_rules.specs.EventTouches.{owner_of}
 use Rattle.nc_rules.specs.World.{WorldState, driver_of, hart}
 use Rattle.nc_plan.specs.Plans.{In}
 use Rattle.nc_holds.specs.Held.{IsEntryOf, FitsSide}
 use Rattle.nc_holds.specs.Holds.{Holds}
-use Rattle.nc_holds.proofs.ListsA.{all_at, at_get}
+use Rattle.nc_holds.proofs.ListsA.{all_at}
 use Rattle.nc_holds.proofs.OwnerLots.{below}
 use Rattle.nc_rows.specs.Rows.{Loan}
-use Rattle.nc_flatness.specs.Covered.{is_covered_op, IsCovered, IsCoveredScript}
 use Rattle.nc_flatness.specs.Books.{book_of, mapping_in, LiesIn}
-use Rattle.nc_flatness.specs.Flatness.{IsWorldOf, Flatness}
+use Rattle.nc_flatness.specs.Flatness.{Flatness}
 use Rattle.nc_flatness.proofs.Loans.{IsLoan, hart_of_lot, lot_in, loan_is}
 
 -- ---- the places of an entry
@@ -108,26 +100,3 @@ owned_ram sc f w x n flat e = elim (cases_lt x sc.ram) [
   | inl lt ↦ lt
   | inr past ↦ let none : mapping_in (owner_of w x) ≡ None = ap mapping_in (owner_past sc f w x flat past) in let both = sym none ∙ e in absurd (cc)
 ]
-
--- ---- the script of a hart
-
-covered_by : (script : List Op) (k : ℕ) (o : Op) → All (λ o. is_covered_op o ≡ true) script → slice_get script k ≡ Some o → is_covered_op o ≡ true
-covered_by script k o all e = all_at (λ (o : Op). is_covered_op o ≡ true) script o all (at_get script k o e)
-
-script_by : (specs : List HartSpec) (h : ℕ) → All IsCoveredScript specs → h < length specs → IsCoveredScript (slice_index_or specs h no_hart_spec)
-script_by [] h all lt = absurd (omega (arith, lt))
-script_by (s ∷ specs) zero all lt = All-head IsCoveredScript s specs all
-script_by (s ∷ specs) (suc h) all lt = script_by specs h (All-tail IsCoveredScript s specs all) (omega (arith, lt))
-
--- with light fences the operation in hand is covered
-pub covered_op : (sc : Scenario) (w : WorldState) (h : ℕ) (o : Op) → IsCovered sc → IsWorldOf sc w → h < length sc.harts → in_hand (driver_of w h) ≡ Some o → (driver_of w h).fixed.light ≡ true → is_covered_op o ≡ true
-covered_op sc w h o c world lt e light =
-    let fixed = world.fixed h lt in
-    covered_by (hart_spec sc h).script (driver_of w h).op o (script_by sc.harts h (c.scripts (sym (ap (λ (f : DriverConfig). f.light) fixed) ∙ light)) lt)
-    (ap (λ (f : DriverConfig). slice_get f.script (driver_of w h).op) (sym fixed) ∙ e)
-
--- so a hart that has a copy in hand has full fences
-pub copy_full : (sc : Scenario) (w : WorldState) (h : ℕ) (chan : ChanNo) (src src_off dst dst_off len cfg : ℕ) → IsCovered sc → IsWorldOf sc w → h < length sc.harts → in_hand (driver_of w h) ≡ Some (ops.Copy chan src src_off dst dst_off len cfg)
-    → (driver_of w h).fixed.light ≡ false
-copy_full sc w h chan src src_off dst dst_off len cfg c world lt e =
-    false_from_ne_true (driver_of w h).fixed.light (λ light. false≢true (covered_op sc w h (ops.Copy chan src src_off dst dst_off len cfg) c world lt e light))
