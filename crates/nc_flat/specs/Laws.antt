@@ -1,4 +1,4 @@
--- The laws of flat memory, as statements, for the scenarios that they cover.
+-- The laws of flat memory, as statements, of every accepted scenario.
 use Rattle.std.specs.Prelude.{ℕ, ◌≡◌, ◌⊎◌, true, List, length}
 use Rattle.nc_num.specs.Places.{covers}
 use Rattle.nc_model.specs.Flat.{Untouched, flat, deeds}

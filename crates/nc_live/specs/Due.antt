@@ -14,10 +14,9 @@ use Rattle.nc_top.specs.Due.{unknown_words, is_run}
 use Rattle.nc_top.specs.Inputs.{HasRead}
 use Rattle.nc_turns.specs.Played.{IsLiveRun, live_text}
 
--- a history of the scenario's threads was written, with the report of its run, whose status this is; where the laws of flat
--- memory cover the scenario, its loads and channel reads show flat memory up to the first touch, after each front without
--- a touch flat memory's bytes are kept, and each copy that is answered done before the first touch left its source's bytes
--- in its destination
+-- a history of the scenario's threads was written, with the report of its run, whose status this is; its loads and channel
+-- reads show flat memory up to the first touch, after each front without a touch flat memory's bytes are kept, and of each
+-- answer of a copy before the first touch holds what nc_copied says: with its poll the destination had the source's bytes
 pub record WroteLive (before now : Option (List ℕ)) (sc : Scenario) (answered : ℕ) : Type 0 where
   pub history : List Event
   pub run : IsLiveRun sc history
