@@ -105,10 +105,6 @@ pub clean_none : (s : ℕ) (c : Cache) (b : ℕ) → line_at c b ≡ None → cl
 unfolding clean
 clean_none s c b is = ap (clean_of s c b) is
 
-pub flush_none : (s : ℕ) (c : Cache) (b : ℕ) → line_at c b ≡ None → flush s c b ≡ c
-unfolding flush
-flush_none s c b is = ap (flush_of s c b) is
-
 pub evict_none : (s : ℕ) (c : Cache) (h b : ℕ) → line_at c b ≡ None → evict s c h b ≡ c
 unfolding evict
 evict_none s c h b is = ap (evict_of s c h b) is

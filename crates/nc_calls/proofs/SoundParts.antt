@@ -80,9 +80,6 @@ pub devices_granted : (m n : MachineState) → IsMachine m → SameShape m n →
 devices_granted m n is shape same c lt =
     granted_same m n c shape.harts (ap (λ cs. slice_index_or cs c new_channel) same.channels) (ap (λ gs. slice_index_or gs c None) same.grantees) (is.granted c lt)
 
-pub devices_waiting : (m n : MachineState) → IsMachine m → SameDevices m n → (buf : ℕ) (g : HartNo) → box_of n buf ≡ Some g → g.0 < length m.harts
-devices_waiting m n is same buf g e = is.waiting buf g (sym (ap (λ bs. slice_index_or bs buf None) same.boxes) ∙ e)
-
 -- what a sound machine has, part by part
 pub record SoundFrom (m n : MachineState) : Type 0 where
   pub shape : SameShape m n

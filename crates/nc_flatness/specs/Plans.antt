@@ -32,7 +32,7 @@ use Rattle.nc_rules.specs.declared.steps.Act.TheVariants as acts
 use Rattle.nc_rules.specs.declared.steps.Step.{Step}
 use Rattle.nc_rules.specs.declared.steps.Turn.{Turn}
 use Rattle.nc_rules.specs.declared.steps.Turn.TheVariants as turns
-use Rattle.nc_rules.specs.Lots.{Fixed, is_lot}
+use Rattle.nc_rules.specs.Lots.{DriverConfig, is_lot}
 use Rattle.nc_rules.specs.Copies.{source, target, copy_steps}
 use Rattle.nc_rules.specs.Plans.{hart_step, turning, control_step}
 use Rattle.nc_rules.specs.Plans.{step as no_turn}
@@ -46,7 +46,7 @@ use Rattle.nc_rows.specs.Parts.{rest_last}
 
 -- no plan is at it: it is with its channel; a single mapping is synced, or an area is the hart's own; or, with light
 -- fences, its token is queued
-pub data IsStill (f : Fixed) (lot : Lot) : Type 0 where
+pub data IsStill (f : DriverConfig) (lot : Lot) : Type 0 where
   StillDevice : lot.side ≡ sides.Device → IsStill f lot
   StillSynced : lot.side ≡ sides.Synced → lot.kind ≡ Single → IsStill f lot
   StillOwn : lot.side ≡ sides.Own → lot.kind ≡ Area → IsStill f lot
@@ -61,18 +61,18 @@ pub record IsWaiting (lot other : Lot) : Type 0 where
   pub waits : other.side ≡ sides.Lending
 
 -- a lot beside the one in hand is still, or it waits for it
-abbrev pub IsBeside : Fixed → Lot → Lot → Type 0
+abbrev pub IsBeside : DriverConfig → Lot → Lot → Type 0
 IsBeside f lot other = IsStill f other ⊎ IsWaiting lot other
 
 -- the plan is of this lot, which is an area or none and has this side, and nothing is done to another
-pub record IsInHand (f : Fixed) (lots : List Lot) (lot : Lot) (area : Bool) (side : Side) : Type 0 where
+pub record IsInHand (f : DriverConfig) (lots : List Lot) (lot : Lot) (area : Bool) (side : Side) : Type 0 where
   pub here : In lot lots
   pub area_is : is_area lot.kind ≡ area
   pub side_is : lot.side ≡ side
   pub others : All (λ other. is_lot lot.id other ≡ false → IsBeside f lot other) lots
 
 -- the range by which the channel sees an entry
-abbrev pub device_of : Fixed → Entry → Span
+abbrev pub device_of : DriverConfig → Entry → Span
 device_of f e = sg.device f.slots_at e
 
 -- ---- what is to come for a lot, whichever of its mappings is asked for
@@ -91,7 +91,7 @@ HasZero id rest b t = (n : MapId) → list_any (has_op is_zero b) (coming n id r
 abbrev pub HasEnd : LotId → List Step → Type 0
 HasEnd id rest = list_any (ends id) rest ≡ true
 
-abbrev pub HasByte : Fixed → LotId → List Step → ℕ → Bool → Type 0
+abbrev pub HasByte : DriverConfig → LotId → List Step → ℕ → Bool → Type 0
 HasByte f id rest x t = (n : MapId) → list_any (gives_at f.size x) (coming n id rest) ≡ t
 
 -- ---- copies
@@ -100,13 +100,13 @@ abbrev pub IsWithin : Span → Span → Type 0
 IsWithin span range = (range.at ≤ span.at) × (span.at + span.len ≤ range.at + range.len)
 
 -- a range of the lot goes into its slot before the lot is lent, and comes out of it again behind the full fence
-pub record GoesIn (f : Fixed) (lots : List Lot) (lot : Lot) (e : Entry) (rest : List Step) (from to : Span) : Type 0 where
+pub record GoesIn (f : DriverConfig) (lots : List Lot) (lot : Lot) (e : Entry) (rest : List Step) (from to : Span) : Type 0 where
   pub hand : IsInHand f lots lot false sides.Lending
   pub later : HasEnd lot.id rest
   pub from_is : from ≡ e.span
   pub to_is : to ≡ device_of f e
 
-pub record ComesOut (f : Fixed) (lots : List Lot) (lot : Lot) (e : Entry) (rest : List Step) (from to : Span) : Type 0 where
+pub record ComesOut (f : DriverConfig) (lots : List Lot) (lot : Lot) (e : Entry) (rest : List Step) (from to : Span) : Type 0 where
   pub hand : IsInHand f lots lot false sides.Returning
   pub back : comes_back lot.list.dir ≡ true
   pub fenced : HasFull lot.id rest false
@@ -114,7 +114,7 @@ pub record ComesOut (f : Fixed) (lots : List Lot) (lot : Lot) (e : Entry) (rest 
   pub to_is : to ≡ e.span
 
 -- entry i of the lot bounces, and is copied from the first range to the second
-pub record IsCopied (f : Fixed) (lots : List Lot) (rest : List Step) (from to : Span) : Type 0 where
+pub record IsCopied (f : DriverConfig) (lots : List Lot) (rest : List Step) (from to : Span) : Type 0 where
   pub lot : Lot
   pub i : ℕ
   pub entry : Entry
@@ -123,7 +123,7 @@ pub record IsCopied (f : Fixed) (lots : List Lot) (rest : List Step) (from to : 
   pub way : GoesIn f lots lot entry rest from to ⊎ ComesOut f lots lot entry rest from to
 
 -- a piece is loaded, of which the store comes next
-pub record IsLoad (f : Fixed) (lots : List Lot) (s : Step) (rest : List Step) : Type 0 where
+pub record IsLoad (f : DriverConfig) (lots : List Lot) (s : Step) (rest : List Step) : Type 0 where
   pub from : Span
   pub to : Span
   pub copied : IsCopied f lots rest from to
@@ -137,7 +137,7 @@ abbrev pub IsBack : LotId → Turn → Type 0
 IsBack id turn = (turn ≡ turns.Sync id) ⊎ (turn ≡ turns.End id)
 
 -- a piece is stored, and no later store of the plan gives its bytes; with the last piece that comes out the lot is back
-pub record IsStore (f : Fixed) (lots : List Lot) (s : Step) (rest : List Step) : Type 0 where
+pub record IsStore (f : DriverConfig) (lots : List Lot) (s : Step) (rest : List Step) : Type 0 where
   pub from : Span
   pub to : Span
   pub copied : IsCopied f lots rest from to
@@ -152,7 +152,7 @@ pub record IsStore (f : Fixed) (lots : List Lot) (s : Step) (rest : List Step) :
 -- ---- cache operations
 
 -- a block is written back before the lot is lent
-pub record IsWriteBack (f : Fixed) (lots : List Lot) (s : Step) (rest : List Step) : Type 0 where
+pub record IsWriteBack (f : DriverConfig) (lots : List Lot) (s : Step) (rest : List Step) : Type 0 where
   pub lot : Lot
   pub hand : IsInHand f lots lot false sides.Lending
   pub op : CboOp
@@ -163,7 +163,7 @@ pub record IsWriteBack (f : Fixed) (lots : List Lot) (s : Step) (rest : List Ste
   pub next : LoadsFirst rest
 
 -- a block that the device may have written is dropped before the full fence
-pub record IsDrop (f : Fixed) (lots : List Lot) (s : Step) (rest : List Step) : Type 0 where
+pub record IsDrop (f : DriverConfig) (lots : List Lot) (s : Step) (rest : List Step) : Type 0 where
   pub lot : Lot
   pub hand : IsInHand f lots lot false sides.Returning
   pub back : comes_back lot.list.dir ≡ true
@@ -183,14 +183,14 @@ pub record IsDrop (f : Fixed) (lots : List Lot) (s : Step) (rest : List Step) : 
 -- ---- full fences
 
 -- the lot is its channel's
-pub record IsGive (f : Fixed) (lots : List Lot) (s : Step) (rest : List Step) : Type 0 where
+pub record IsGive (f : DriverConfig) (lots : List Lot) (s : Step) (rest : List Step) : Type 0 where
   pub lot : Lot
   pub hand : IsInHand f lots lot false sides.Lending
   pub step : s ≡ turning (turns.Give lot.id) (hart_step full)
   pub next : LoadsFirst rest
 
 -- what bounces comes out of its slot behind it
-pub record IsFence (f : Fixed) (lots : List Lot) (s : Step) (rest : List Step) : Type 0 where
+pub record IsFence (f : DriverConfig) (lots : List Lot) (s : Step) (rest : List Step) : Type 0 where
   pub lot : Lot
   pub hand : IsInHand f lots lot false sides.Returning
   pub step : s ≡ hart_step full
@@ -199,7 +199,7 @@ pub record IsFence (f : Fixed) (lots : List Lot) (s : Step) (rest : List Step) :
   pub out : (i : ℕ) (e : Entry) (x : ℕ) → IsEntryOf lots lot i e → e.bounced ≡ true → comes_back lot.list.dir ≡ true → covers e.span x ≡ true → HasByte f lot.id rest x true
 
 -- nothing comes out of a slot, and the lot is back
-pub record IsEnd (f : Fixed) (lots : List Lot) (s : Step) (rest : List Step) : Type 0 where
+pub record IsEnd (f : DriverConfig) (lots : List Lot) (s : Step) (rest : List Step) : Type 0 where
   pub lot : Lot
   pub hand : IsInHand f lots lot false sides.Returning
   pub turn : Turn
@@ -211,7 +211,7 @@ pub record IsEnd (f : Fixed) (lots : List Lot) (s : Step) (rest : List Step) : T
 -- ---- areas
 
 -- a block of an area that is allocated is zeroed, and not again: flat memory has zeros there
-pub record IsZero (f : Fixed) (lots : List Lot) (s : Step) (rest : List Step) : Type 0 where
+pub record IsZero (f : DriverConfig) (lots : List Lot) (s : Step) (rest : List Step) : Type 0 where
   pub lot : Lot
   pub hand : IsInHand f lots lot true sides.Lending
   pub block : Block
@@ -225,7 +225,7 @@ pub record IsZero (f : Fixed) (lots : List Lot) (s : Step) (rest : List Step) : 
   pub next : LoadsFirst rest
 
 -- a block of it is flushed, behind the zeros
-pub record IsFlush (f : Fixed) (lots : List Lot) (s : Step) (rest : List Step) : Type 0 where
+pub record IsFlush (f : DriverConfig) (lots : List Lot) (s : Step) (rest : List Step) : Type 0 where
   pub lot : Lot
   pub hand : IsInHand f lots lot true sides.Lending
   pub block : Block
@@ -234,14 +234,14 @@ pub record IsFlush (f : Fixed) (lots : List Lot) (s : Step) (rest : List Step) :
   pub next : LoadsFirst rest
 
 -- the area that was allocated is its hart's
-pub record IsSettle (f : Fixed) (lots : List Lot) (s : Step) (rest : List Step) : Type 0 where
+pub record IsSettle (f : DriverConfig) (lots : List Lot) (s : Step) (rest : List Step) : Type 0 where
   pub lot : Lot
   pub hand : IsInHand f lots lot true sides.Lending
   pub step : s ≡ turning (turns.Settle lot.id) (hart_step full)
   pub over : rest ≡ []
 
 -- an area is its channel's
-pub record IsAreaGive (f : Fixed) (lots : List Lot) (s : Step) (rest : List Step) : Type 0 where
+pub record IsAreaGive (f : DriverConfig) (lots : List Lot) (s : Step) (rest : List Step) : Type 0 where
   pub lot : Lot
   pub hand : IsInHand f lots lot true sides.Lending
   pub step : s ≡ turning (turns.Give lot.id) (hart_step full)
@@ -252,7 +252,7 @@ abbrev pub IsAreaBack : LotId → Turn → Type 0
 IsAreaBack id turn = (turn ≡ turns.Settle id) ⊎ (turn ≡ turns.End id)
 
 -- an area has come back
-pub record IsTakeBack (f : Fixed) (lots : List Lot) (s : Step) (rest : List Step) : Type 0 where
+pub record IsTakeBack (f : DriverConfig) (lots : List Lot) (s : Step) (rest : List Step) : Type 0 where
   pub lot : Lot
   pub hand : IsInHand f lots lot true sides.Returning
   pub turn : Turn
@@ -267,7 +267,7 @@ abbrev pub token_step : Lot → Step
 token_step lot = hart_step (hart_ops.IoStore (io.Lend lot.id.label lot.id.first (length lot.list.entries)))
 
 -- a marker is queued, behind which the token comes next
-pub record IsMark (f : Fixed) (lots : List Lot) (s : Step) (rest : List Step) : Type 0 where
+pub record IsMark (f : DriverConfig) (lots : List Lot) (s : Step) (rest : List Step) : Type 0 where
   pub lot : Lot
   pub hand : IsInHand f lots lot (is_area lot.kind) sides.Lending
   pub light : f.light ≡ true
@@ -275,7 +275,7 @@ pub record IsMark (f : Fixed) (lots : List Lot) (s : Step) (rest : List Step) : 
   pub left : rest ≡ token_step lot ∷ []
 
 -- the token is queued, and the plan is over
-pub record IsPost (f : Fixed) (lots : List Lot) (s : Step) (rest : List Step) : Type 0 where
+pub record IsPost (f : DriverConfig) (lots : List Lot) (s : Step) (rest : List Step) : Type 0 where
   pub lot : Lot
   pub hand : IsInHand f lots lot (is_area lot.kind) sides.Lending
   pub light : f.light ≡ true
@@ -293,7 +293,7 @@ pub record IsCopyEnd (lots : List Lot) (lot : Lot) (id : LotId) (dir : Dir) (cha
   pub chan_is : lot.chan ≡ chan
 
 -- the channel is claimed, and both ends are lent with it; the rest of the copy's plan comes behind it
-pub record IsClaim (f : Fixed) (lots : List Lot) (s : Step) (rest : List Step) : Type 0 where
+pub record IsClaim (f : DriverConfig) (lots : List Lot) (s : Step) (rest : List Step) : Type 0 where
   pub chan : ChanNo
   pub config : ℕ
   -- the transfer does not start again
@@ -308,7 +308,7 @@ pub record IsClaim (f : Fixed) (lots : List Lot) (s : Step) (rest : List Step) :
   pub next : LoadsFirst rest
 
 -- a register of the channel is stored to
-pub record IsRegister (f : Fixed) (lots : List Lot) (s : Step) (rest : List Step) : Type 0 where
+pub record IsRegister (f : DriverConfig) (lots : List Lot) (s : Step) (rest : List Step) : Type 0 where
   pub chan : ChanNo
   pub off : ℕ
   pub width : ℕ
@@ -318,7 +318,7 @@ pub record IsRegister (f : Fixed) (lots : List Lot) (s : Step) (rest : List Step
   pub next : LoadsFirst rest
 
 -- the channel, which has both ends, is polled, and released next
-pub record IsPoll (f : Fixed) (lots : List Lot) (s : Step) (rest : List Step) : Type 0 where
+pub record IsPoll (f : DriverConfig) (lots : List Lot) (s : Step) (rest : List Step) : Type 0 where
   pub chan : ChanNo
   pub step : s ≡ no_turn (acts.Poll chan)
   pub still : All (IsStill f) lots
@@ -337,7 +337,7 @@ pub record IsTaken (lots : List Lot) (lot : Lot) (s : Step) : Type 0 where
   pub first : s.first ≡ turns.Return lot.id
 
 -- the destination, with the drop of its first block
-pub record IsTakeTarget (f : Fixed) (lots : List Lot) (s : Step) (rest : List Step) : Type 0 where
+pub record IsTakeTarget (f : DriverConfig) (lots : List Lot) (s : Step) (rest : List Step) : Type 0 where
   pub lot : Lot
   pub taken : IsTaken lots lot s
   pub goes : IsDrop f (set_side sides.Returning lot.id lots) (record s { first = turns.Stay }) rest
@@ -346,7 +346,7 @@ pub record IsTakeTarget (f : Fixed) (lots : List Lot) (s : Step) (rest : List St
   pub drops : (n : MapId) (i : ℕ) (e : Entry) (y : ℕ) → slice_get lot.list.entries i ≡ Some e → covers (device_of f e) y ≡ true → Stands (has_op drops_copies (y / f.size)) is_full (coming n lot.id (s ∷ rest))
 
 -- the source, which ends with the same step
-pub record IsTakeSource (f : Fixed) (lots : List Lot) (s : Step) (rest : List Step) : Type 0 where
+pub record IsTakeSource (f : DriverConfig) (lots : List Lot) (s : Step) (rest : List Step) : Type 0 where
   pub lot : Lot
   pub taken : IsTaken lots lot s
   pub goes : IsEnd f (set_side sides.Returning lot.id lots) (record s { first = turns.Stay }) rest
@@ -357,7 +357,7 @@ pub record IsTakeSource (f : Fixed) (lots : List Lot) (s : Step) (rest : List St
 
 -- ---- all steps
 
-pub data StepGoes (f : Fixed) (lots : List Lot) (s : Step) (rest : List Step) : Type 0 where
+pub data StepGoes (f : DriverConfig) (lots : List Lot) (s : Step) (rest : List Step) : Type 0 where
   Loads : IsLoad f lots s rest → StepGoes f lots s rest
   Stores : IsStore f lots s rest → StepGoes f lots s rest
   WritesBack : IsWriteBack f lots s rest → StepGoes f lots s rest
@@ -378,7 +378,7 @@ pub data StepGoes (f : Fixed) (lots : List Lot) (s : Step) (rest : List Step) : 
   TakesTarget : IsTakeTarget f lots s rest → StepGoes f lots s rest
   TakesSource : IsTakeSource f lots s rest → StepGoes f lots s rest
 
-abbrev pub PlanGoes : Fixed → List Lot → List Step → Type 0
+abbrev pub PlanGoes : DriverConfig → List Lot → List Step → Type 0
 PlanGoes f lots [] = All (IsStill f) lots
 PlanGoes f lots (s ∷ rest) = StepGoes f lots s rest × PlanGoes f (lots_after_both s.first s.last lots) rest
 

@@ -10,7 +10,7 @@ use Rattle.nc_rules.specs.declared.steps.PageMove.{PageMove}
 use Rattle.nc_rules.specs.declared.steps.PageMove.TheVariants as pages
 use Rattle.nc_rules.specs.Lots.{map_id, each_from}
 use Rattle.nc_rules.specs.Turns.{Moved, page_move}
-use Rattle.nc_moves.specs.Shown.{IsFew}
+use Rattle.nc_moves.specs.MovesView.{IsFew}
 use Rattle.nc_moves.specs.Turned.{nothing, joined}
 
 page_stay : (p : PageMove) → page_move p pages.Stay ≡ p
@@ -46,15 +46,6 @@ joined_assoc a b c = λ i. record {
 front_few : {A : Type 0} (xs ys : List A) (n : ℕ) → length (xs ++ ys) ≤ n → length xs ≤ n
 front_few xs ys n h = omega (arith, length-append xs ys, h)
 
--- what stands in front of few is few
-pub few_front : (a b : Moved) → IsFew (joined a b) → IsFew a
-few_front a b h = record {
-  transfers = front_few a.transfers b.transfers 34 h.transfers;
-  grants = front_few a.grants b.grants 32 h.grants;
-  ended = front_few a.ended b.ended 32 h.ended;
-  backs = front_few a.backs b.backs 32 h.backs;
-}
-
 -- there is room for one more
 pub room : {A : Type 0} (xs ys : List A) (y : A) (n : ℕ) → length (xs ++ y ∷ ys) ≤ n → length xs < n
 room xs ys y n h = omega (arith, length-append xs (y ∷ ys), h)
@@ -74,7 +65,3 @@ each_next {A = A} me id i f es have now all y d is lt to e =
     let rest : List A = each_from me id (i + 1) f (drop (i + 1) es) in
     ap (λ xs. xs ++ rest) to ∙ append_assoc have (y ∷ []) rest ∙ ap (λ x. have ++ x ∷ rest) e
     ∙ sym (at_drop_more (λ xs. have ++ each_from me id i f xs) es i d lt) ∙ is
-
-pub map_room : {A B : Type 0} (i n : ℕ) (f : A → B) (es : List A) (have all : List B) (d : A) → have ++ map f (drop i es) ≡ all → i < length es → length all ≤ n → length have < n
-map_room i n f es have all d is lt few =
-    room have (map f (drop (i + 1) es)) (f (slice_index_or es i d)) n (subst (λ ys. length ys ≤ n) (sym is ∙ at_drop_more (λ xs. have ++ map f xs) es i d lt) few)

@@ -78,9 +78,6 @@ set_here w v h d lt e = e ∙ mine w h.0 d lt
 now_by : (w : WorldState) (o : Outcome) (ds : List DriverState) (h : ℕ) → o.drivers ≡ ds → driver_of (counted (after_outcome w o)) h ≡ drivers_in w ds h
 now_by w o ds h e = driver_now w o h ∙ ap (λ (xs : List DriverState). drivers_in w xs h) e
 
-made_drivers : (w : WorldState) (o x : Outcome) → o ≡ x → o.drivers ≡ x.drivers
-made_drivers w o x e = ap (λ (y : Outcome). y.drivers) e
-
 made_here : (w : WorldState) (h : HartNo) (o : Outcome) → h.0 < length w.drivers → Made w h o → Behind w (counted (after_outcome w o)) h
 made_here w h o lt (Starts touch records at e) =
     let went = started (driver_of w h.0) w.owners w.pages in
@@ -195,9 +192,6 @@ grows w v h (Lent label first at e) = let k = ap (λ (d : DriverState). d.op) e 
 grows w v h (Started at e) = le_by (driver_of w h.0).op (started (driver_of w h.0) w.owners w.pages).driver.op (driver_of v h.0).op (start_grows (driver_of w h.0) w.owners w.pages) (ap (λ (d : DriverState). d.op) e)
 grows w v h (Told k got at e) = le_by (driver_of w h.0).op (told (driver_of w h.0) got).driver.op (driver_of v h.0).op (told_grows (driver_of w h.0) got) (ap (λ (d : DriverState). d.op) e)
 grows w v h (Done act saw at e) = le_by (driver_of w h.0).op (done (driver_of w h.0) saw).driver.op (driver_of v h.0).op (done_grows (driver_of w h.0) saw) (ap (λ (d : DriverState). d.op) e)
-
-abbrev OpenAs : DriverState → DriverState → Type 0
-OpenAs d e = IsOpen e → IsOpen d
 
 -- one that may still be refused could be before
 pub open_back : (w v : WorldState) (h : HartNo) → Behind w v h → IsPhase (driver_of w h.0) (driver_of w h.0).phase → (driver_of v h.0).op ≡ (driver_of w h.0).op → IsOpen (driver_of v h.0) → IsOpen (driver_of w h.0)

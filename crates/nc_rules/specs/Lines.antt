@@ -57,7 +57,7 @@ phrase (x ∷ y ∷ rest) = x ++ 32 ∷ phrase (y ∷ rest)
 
 -- a number in lower-case hexadecimal digits, at least so many
 abbrev pub hex_digits : ℕ → ℕ → List ℕ
-hex_digits most n = let ds = digits 16 false n in replicate (most - length ds) 48 ++ ds
+hex_digits least n = let ds = digits 16 false n in replicate (least - length ds) 48 ++ ds
 
 -- a place has six digits, a bus address and Control eight, an offset three, and a register's value sixteen
 abbrev pub place : Place → List ℕ

@@ -142,9 +142,6 @@ pub record EndsIn {A : Type 0} (xs ys : List A) : Type 0 where
 pub ends_nil : {A : Type 0} (xs : List A) → EndsIn xs []
 ends_nil xs = record { front = xs; is = sym (append-nil xs) }
 
-pub ends_all : {A : Type 0} (xs : List A) → EndsIn xs xs
-ends_all xs = record { front = []; is = refl }
-
 -- one more miss
 pub ends_more : (h : HartNo) (k : ℕ) (seen : List Look) → EndsIn seen (misses h k) → EndsIn (seen ++ miss h k ∷ []) (misses h (k + 1))
 ends_more h k seen ends = record {

@@ -159,6 +159,3 @@ fill_places m h b is there =
 some_places : (s b : ℕ) (o : Option (List BusRec)) → s * b < 2 ^ 32 → AreOfSome b o → SomeHavePlaces s o
 some_places s b None small of = tt
 some_places s b (Some ts) small of = places s b ts small of
-
-pub evict_places : (m : MachineState) (h b : ℕ) → IsMachine m → IsBlockIn m.size (length m.cache.ram) b → SomeHavePlaces m.size (evict_answer m h b)
-evict_places m h b is there = some_places m.size b (evict_answer m h b) (block_small m b is there) (of_evict h b (line_at m.cache b))
