@@ -212,7 +212,7 @@ pub fn dmasim<S: Source, K: Sink>(
 
     // Of each copy that is answered done before the first touch: with its poll the destination has the source's bytes in
     // flat memory; at the answer the hart sees flat memory there, which has them still if the channel wrote nothing since the
-    // poll. None is answered failed. It is so in every run of every accepted scenario too.
+    // poll. Before the first touch none is answered failed. It is so in every run of every accepted scenario too.
     ensures copied { EachCopyIsDone }
 {
     latest_law();
