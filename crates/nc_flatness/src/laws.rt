@@ -8,7 +8,7 @@ pub fn worlds_start()
     ensures { WorldsStart }
 {}
 
-/// At the start of an accepted scenario that is covered its memory is flat memory.
+/// At the start of an accepted scenario its memory is flat memory.
 #[tactic(auto, using(crate::proofs::Starts::start_flat))]
 pub fn start_is_flat()
     ensures { StartIsFlat }
