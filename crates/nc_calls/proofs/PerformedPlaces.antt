@@ -14,7 +14,7 @@ use Rattle.nc_queue.specs.declared.entry.Entry.TheVariants.{Store, Cbo, Reg, Mai
 use Rattle.nc_rules.specs.Machine.{MachineState}
 use Rattle.nc_rules.specs.Calls.{performed}
 use Rattle.nc_rules.specs.Sound.{IsBlockIn, EntryIsThere, IsMachine}
-use Rattle.nc_calls.specs.PlaceLaws.{FreshAt, ClearAt, BothAt, NotHeld, LosesNone, brings, drops_copies}
+use Rattle.nc_calls.specs.PlaceLaws.{FreshAt, ClearAt, BothAt, NotHeld, KeepsCoherence, brings, drops_copies}
 use Rattle.nc_calls.proofs.CacheFrames.{Untouched, untouched_same, untouched_clear}
 use Rattle.nc_calls.proofs.PerformedStores.{stores, fresh_stored, untouched_stored, both_stored, not_held_stored}
 use Rattle.nc_calls.proofs.PerformedOps.{Operates, fresh_operated, untouched_operated, clear_operated, both_operated, not_held_operated, cleared_operated, written_operated, gone_operated, dropped_operated}
@@ -29,7 +29,7 @@ pub record Performs (m : MachineState) (e : Entry) : Type 0 where
 operates : (m : MachineState) (b : ℕ) → IsMachine m → IsBlockIn m.size (length m.cache.ram) b → Operates m b
 operates m b is there = record { sound = is; there = there }
 
-pub fresh_performed : (m : MachineState) (h : ℕ) (e : Entry) (x : ℕ) → Performs m e → LosesNone m e x → FreshAt m x
+pub fresh_performed : (m : MachineState) (h : ℕ) (e : Entry) (x : ℕ) → Performs m e → KeepsCoherence m e x → FreshAt m x
     → Fresh m.size (performed m h e).cache x × (caches.middle m.size (performed m h e).cache x ≡ unwrap_or (entry_gives m.size e x) (caches.middle m.size m.cache x))
 unfolding performed
 fresh_performed m h (Store span bytes kind) x p lone f = fresh_stored m h span bytes kind x (stores m span bytes p.sound p.fits p.there) lone f

@@ -17,7 +17,7 @@ use Rattle.nc_pdma.specs.Steps.{read_next, write_told, write_next, ram_after}
 use Rattle.nc_pdma.proofs.Sound.{read_sound, written_sound}
 use Rattle.nc_pdma.proofs.Transactions.{each_write}
 use Rattle.nc_rules.specs.Machine.{MachineState, channel_of, grantee_of, with_cache, with_ram, with_box}
-use Rattle.nc_rules.specs.Calls.{may_fill, fill_next, evict_next, chan_read_told, chan_read_next, chan_write_told, chan_write_next, claimed_by, claim_next, may_take, take_next}
+use Rattle.nc_rules.specs.Calls.{may_fill, fill_next, evict_next, chan_read_step, chan_read_next, chan_write_step, chan_write_next, claimed_by, claim_next, may_take, take_next}
 use Rattle.nc_rules.specs.Sound.{IsBlockIn, IsMachine}
 use Rattle.nc_calls.specs.MachineLaws.{SameShape}
 use Rattle.nc_calls.proofs.SoundWith.{shape_same, shape_then, shape_cache, sound_cache, whole_with_ram, sound_ram, shape_channel, sound_channel, shape_grant, sound_grant, shape_box, sound_box}
@@ -68,11 +68,11 @@ claim_write c (Error bus len) = refl
 pub sound_chan_read : (m : MachineState) (c : ℕ) → IsMachine m → c < 4 → IsMachine (chan_read_next m c)
 unfolding chan_read_next
 sound_chan_read m c is lt =
-    sound_channel m c (read_next (channel_of m c) (chan_read_told m c)) is lt (read_sound (channel_of m c) m.cache.ram (is.granted c lt).channel) (claim_read (channel_of m c) (chan_read_told m c))
+    sound_channel m c (read_next (channel_of m c) (chan_read_step m c)) is lt (read_sound (channel_of m c) m.cache.ram (is.granted c lt).channel) (claim_read (channel_of m c) (chan_read_step m c))
 
 pub shape_chan_read : (m : MachineState) (c : ℕ) → SameShape m (chan_read_next m c)
 unfolding chan_read_next
-shape_chan_read m c = shape_channel m c (read_next (channel_of m c) (chan_read_told m c))
+shape_chan_read m c = shape_channel m c (read_next (channel_of m c) (chan_read_step m c))
 
 -- the bytes of a write lie in memory, and are as many as its span has
 pub record WrittenIn (c : ChannelState) (size at len : ℕ) (bytes : List ℕ) : Type 0 where
@@ -85,28 +85,28 @@ written_in c size t at len bytes done sound told =
     let long : length bytes ≡ len = ap length w.bytes_are ∙ omega (arith, length-take len c.fifo, w.in_fifo) in
     record { long = long; inside = omega (arith, long, w.span.inside) }
 
-length_after : (m : MachineState) (c : ℕ) (t : ChanStep) → IsMachine m → c < 4 → chan_write_told m c ≡ t → length (ram_after m.cache.ram t) ≡ length m.cache.ram
+length_after : (m : MachineState) (c : ℕ) (t : ChanStep) → IsMachine m → c < 4 → chan_write_step m c ≡ t → length (ram_after m.cache.ram t) ≡ length m.cache.ram
 length_after m c Idle is lt told = refl
 length_after m c (Moved s bytes done) is lt told =
-    length-splice m.cache.ram s.at bytes (written_in (channel_of m c) (length m.cache.ram) (chan_write_told m c) s.at s.len bytes done (is.granted c lt).channel told).inside
+    length-splice m.cache.ram s.at bytes (written_in (channel_of m c) (length m.cache.ram) (chan_write_step m c) s.at s.len bytes done (is.granted c lt).channel told).inside
 length_after m c (Error bus len) is lt told = refl
 
-pub length_written : (m : MachineState) (c : ℕ) → IsMachine m → c < 4 → length (ram_after m.cache.ram (chan_write_told m c)) ≡ length m.cache.ram
-length_written m c is lt = length_after m c (chan_write_told m c) is lt refl
+pub length_written : (m : MachineState) (c : ℕ) → IsMachine m → c < 4 → length (ram_after m.cache.ram (chan_write_step m c)) ≡ length m.cache.ram
+length_written m c is lt = length_after m c (chan_write_step m c) is lt refl
 
 pub sound_chan_write : (m : MachineState) (c : ℕ) → IsMachine m → c < 4 → IsMachine (chan_write_next m c)
 unfolding chan_write_next
 sound_chan_write m c is lt =
-    let ram = ram_after m.cache.ram (chan_write_told m c) in
-    sound_channel (with_ram m ram) c (write_next (channel_of m c) (chan_write_told m c)) (sound_ram m ram is (length_written m c is lt)) lt
-    (written_sound (channel_of m c) (length m.cache.ram) (is.granted c lt).channel) (claim_write (channel_of m c) (chan_write_told m c))
+    let ram = ram_after m.cache.ram (chan_write_step m c) in
+    sound_channel (with_ram m ram) c (write_next (channel_of m c) (chan_write_step m c)) (sound_ram m ram is (length_written m c is lt)) lt
+    (written_sound (channel_of m c) (length m.cache.ram) (is.granted c lt).channel) (claim_write (channel_of m c) (chan_write_step m c))
 
 pub shape_chan_write : (m : MachineState) (c : ℕ) → IsMachine m → c < 4 → SameShape m (chan_write_next m c)
 unfolding chan_write_next
 shape_chan_write m c is lt =
-    let ram = ram_after m.cache.ram (chan_write_told m c) in
+    let ram = ram_after m.cache.ram (chan_write_step m c) in
     shape_then m (with_ram m ram) (chan_write_next m c) (shape_cache m (record { ram = ram; lines = m.cache.lines }) is (whole_with_ram m ram is (length_written m c is lt)))
-    (shape_channel (with_ram m ram) c (write_next (channel_of m c) (chan_write_told m c)))
+    (shape_channel (with_ram m ram) c (write_next (channel_of m c) (chan_write_step m c)))
 
 -- a claim
 claimed_channel : (c : ChannelState) → IsChannel c → IsChannel (record { regs = claims.claimed c.regs; fifo = c.fifo })

@@ -23,7 +23,7 @@ use Rattle.nc_pdma.specs.Channel.{ChannelState}
 use Rattle.nc_pdma.specs.Steps.{read_next, write_next, ram_after}
 use Rattle.nc_pdma.proofs.Transactions.{each_write}
 use Rattle.nc_rules.specs.Machine.{MachineState, channel_of, grantee_of, box_of, with_cache, with_ram, with_channel, with_box}
-use Rattle.nc_rules.specs.Calls.{is_pooled, may_fill, fill_next, evict_next, chan_read_told, chan_read_next, chan_write_told, chan_write_next, claimed_by, claim_next, may_take, take_next}
+use Rattle.nc_rules.specs.Calls.{is_pooled, may_fill, fill_next, evict_next, chan_read_step, chan_read_next, chan_write_step, chan_write_next, claimed_by, claim_next, may_take, take_next}
 use Rattle.nc_rules.specs.Sound.{IsBlockIn, IsMachine}
 use Rattle.nc_rules.specs.View.{middle, view}
 use Rattle.nc_calls.specs.PlaceLaws.{NotHeld, ChannelIs, BoxIs, Stays, Moves, WritesSpan, RamAfter}
@@ -119,18 +119,18 @@ channel_set m c s is lt = record { channel = channel_here m c c s (omega (arith,
 
 pub chan_read_stays : (m : MachineState) (c : ℕ) → Stays m (chan_read_next m c)
 unfolding chan_read_next
-chan_read_stays m c = channel_stays m c (read_next (channel_of m c) (chan_read_told m c))
+chan_read_stays m c = channel_stays m c (read_next (channel_of m c) (chan_read_step m c))
 
-pub chan_read_is : (m : MachineState) (c : ℕ) → IsMachine m → c < 4 → ChannelIs m (chan_read_next m c) c (read_next (channel_of m c) (chan_read_told m c)) (grantee_of m c)
+pub chan_read_is : (m : MachineState) (c : ℕ) → IsMachine m → c < 4 → ChannelIs m (chan_read_next m c) c (read_next (channel_of m c) (chan_read_step m c)) (grantee_of m c)
 unfolding chan_read_next
-chan_read_is m c is lt = channel_set m c (read_next (channel_of m c) (chan_read_told m c)) is lt
+chan_read_is m c is lt = channel_set m c (read_next (channel_of m c) (chan_read_step m c)) is lt
 
-pub chan_write_is : (m : MachineState) (c : ℕ) → IsMachine m → c < 4 → ChannelIs m (chan_write_next m c) c (write_next (channel_of m c) (chan_write_told m c)) (grantee_of m c)
+pub chan_write_is : (m : MachineState) (c : ℕ) → IsMachine m → c < 4 → ChannelIs m (chan_write_next m c) c (write_next (channel_of m c) (chan_write_step m c)) (grantee_of m c)
 unfolding chan_write_next
 chan_write_is m c is lt = record {
-  channel = channel_here m c c (write_next (channel_of m c) (chan_write_told m c)) (omega (arith, is.four)) refl;
+  channel = channel_here m c c (write_next (channel_of m c) (chan_write_step m c)) (omega (arith, is.four)) refl;
   grantee = refl;
-  channels = λ k ne. channel_away m c k (write_next (channel_of m c) (chan_write_told m c)) ne;
+  channels = λ k ne. channel_away m c k (write_next (channel_of m c) (chan_write_step m c)) ne;
   grantees = λ k ne. refl;
   boxes = refl;
 }
@@ -142,11 +142,11 @@ record Written (m : MachineState) (span : Span) (bytes : List ℕ) : Type 0 wher
   long : length bytes ≡ span.len
   fits : span.at + length bytes ≤ length m.cache.ram
 
-written : (m : MachineState) (c : ℕ) (span : Span) (bytes : List ℕ) (done : Bool) → IsMachine m → c < 4 → chan_write_told m c ≡ Moved span bytes done → Written m span bytes
+written : (m : MachineState) (c : ℕ) (span : Span) (bytes : List ℕ) (done : Bool) → IsMachine m → c < 4 → chan_write_step m c ≡ Moved span bytes done → Written m span bytes
 written m c span bytes done is lt told =
     let sound = (is.granted c lt).channel in
     let w = each_write (channel_of m c) (length m.cache.ram) span bytes done sound told in
-    let at = written_in (channel_of m c) (length m.cache.ram) (chan_write_told m c) span.at span.len bytes done sound told in
+    let at = written_in (channel_of m c) (length m.cache.ram) (chan_write_step m c) span.at span.len bytes done sound told in
     record { inside = w.span.inside; some = w.span.some; long = at.long; fits = at.inside }
 
 abbrev with_bytes : MachineState → ℕ → ChannelState → Span → List ℕ → MachineState
@@ -179,14 +179,14 @@ writes_span m c s span bytes w =
       away_views = λ g x beside. same_view m n g x refl refl (same_at m n x refl (untouched_beside m span bytes x w beside)).copy;
     }
 
-ram_by : (m : MachineState) (c : ℕ) (t : ChanStep) → IsMachine m → c < 4 → chan_write_told m c ≡ t → RamAfter m (with_channel (with_ram m (ram_after m.cache.ram t)) c (write_next (channel_of m c) t)) t
+ram_by : (m : MachineState) (c : ℕ) (t : ChanStep) → IsMachine m → c < 4 → chan_write_step m c ≡ t → RamAfter m (with_channel (with_ram m (ram_after m.cache.ram t)) c (write_next (channel_of m c) t)) t
 ram_by m c Idle is lt told = stays m (with_channel (with_ram m m.cache.ram) c (write_next (channel_of m c) Idle)) refl refl refl
 ram_by m c (Moved span bytes done) is lt told = writes_span m c (write_next (channel_of m c) (Moved span bytes done)) span bytes (written m c span bytes done is lt told)
 ram_by m c (Error bus len) is lt told = stays m (with_channel (with_ram m m.cache.ram) c (write_next (channel_of m c) (Error bus len))) refl refl refl
 
-pub chan_write_ram : (m : MachineState) (c : ℕ) → IsMachine m → c < 4 → RamAfter m (chan_write_next m c) (chan_write_told m c)
+pub chan_write_ram : (m : MachineState) (c : ℕ) → IsMachine m → c < 4 → RamAfter m (chan_write_next m c) (chan_write_step m c)
 unfolding chan_write_next
-chan_write_ram m c is lt = ram_by m c (chan_write_told m c) is lt refl
+chan_write_ram m c is lt = ram_by m c (chan_write_step m c) is lt refl
 
 -- ---- a claim
 

@@ -18,9 +18,9 @@ use Rattle.nc_pdma.specs.declared.channel.ChanStep.{ChanStep}
 use Rattle.nc_pdma.specs.declared.channel.ChanStep.TheVariants.{Moved}
 use Rattle.nc_rules.specs.Machine.{MachineState, hart_of, queue_of}
 use Rattle.nc_rules.specs.View.{view}
-use Rattle.nc_rules.specs.Calls.{leaving, issue_next, drain_next, chan_write_told, chan_write_next}
+use Rattle.nc_rules.specs.Calls.{leaving, issue_next, drain_next, chan_write_step, chan_write_next}
 use Rattle.nc_rules.specs.Sound.{IsMachine}
-use Rattle.nc_calls.specs.PlaceLaws.{FreshAt, LosesNone, parts, WritesSpan, RamAfter}
+use Rattle.nc_calls.specs.PlaceLaws.{FreshAt, KeepsCoherence, may_leave_stale_copy, WritesSpan, RamAfter}
 use Rattle.nc_calls.specs.CallLaws.{PartsNone, ViewsStay, QueuesKeepOrder}
 use Rattle.nc_calls.proofs.IssuePlaces.{load_is, push_is}
 use Rattle.nc_calls.proofs.DrainPlaces.{drain_is, drain_none}
@@ -28,8 +28,8 @@ use Rattle.nc_calls.proofs.StepPlaces.{fill_views, evict_is, chan_write_ram}
 
 -- ---- what is seen
 
-pub loses_none : (m : MachineState) (h i x : ℕ) (e : Entry) → slice_get (queue_of m h) i ≡ Some e → PartsNone m h x → LosesNone m e x
-loses_none m h i x e stood (inl none) = λ is. absurd (both_ways (parts m.size e x) (none_at (λ a. parts m.size a x) (queue_of m h) i e none stood) is)
+pub loses_none : (m : MachineState) (h i x : ℕ) (e : Entry) → slice_get (queue_of m h) i ≡ Some e → PartsNone m h x → KeepsCoherence m e x
+loses_none m h i x e stood (inl none) = λ is. absurd (both_ways (may_leave_stale_copy m.size e x) (none_at (λ a. may_leave_stale_copy m.size a x) (queue_of m h) i e none stood) is)
 loses_none m h i x e stood (inr free) = λ is. free
 
 own_drained : (m : MachineState) (h i x : ℕ) (o : Option Entry) → IsMachine m → h < length m.harts → FreshAt m x → PartsNone m h x → leaving m h i ≡ o → view (drain_next m h i) h x ≡ view m h x
@@ -43,7 +43,7 @@ other_drained m h i g x (Some e) is lt f together ne none out =
     let d = drain_is m h i e is lt out in
     (d.places x).other_views (loses_none m h i x e d.queues.stood together) f g ne (entry_gives-none m.size (queue_of m h) i e x none d.queues.stood)
 
-pub writes : (m : MachineState) (c : ℕ) (span : Span) (bytes : List ℕ) (done : Bool) → IsMachine m → c < 4 → chan_write_told m c ≡ Moved span bytes done → WritesSpan m (chan_write_next m c) span bytes
+pub writes : (m : MachineState) (c : ℕ) (span : Span) (bytes : List ℕ) (done : Bool) → IsMachine m → c < 4 → chan_write_step m c ≡ Moved span bytes done → WritesSpan m (chan_write_next m c) span bytes
 writes m c span bytes done is lt told = subst (λ (t : ChanStep). RamAfter m (chan_write_next m c) t) told (chan_write_ram m c is lt)
 
 pub views_stay : ViewsStay

@@ -26,12 +26,12 @@ use Rattle.nc_scen.specs.Accepted.{IsAccepted}
 use Rattle.nc_scen.specs.Regions.{pool_of}
 use Rattle.nc_rules.specs.Machine.{MachineState, hart_of, queue_of, channel_of, grantee_of, box_of}
 use Rattle.nc_rules.specs.View.{middle, seen, view, bytes_seen, bytes_of}
-use Rattle.nc_rules.specs.Calls.{leaving, issue_next, drain_next, is_pooled, fill_next, evict_next, chan_read_told, chan_read_next, chan_write_told, chan_write_next, claim_next, may_take, take_next}
+use Rattle.nc_rules.specs.Calls.{leaving, issue_next, drain_next, is_pooled, fill_next, evict_next, chan_read_step, chan_read_next, chan_write_step, chan_write_next, claim_next, may_take, take_next}
 use Rattle.nc_rules.specs.Sound.{IsBlockIn, IsPieceIn, IsMachine, EntryIsThere, OpIsThere}
 use Rattle.nc_rules.specs.Start.{first_machine}
 use Rattle.nc_rules.specs.Start as start
 use Rattle.nc_calls.specs.MachineLaws.{IsMove}
-use Rattle.nc_calls.specs.PlaceLaws.{FreshAt, ClearAt, NotHeld, SameAt, ChannelIs, BoxIs, Stays, Loads, Pushes, parts, Drains, Moves, RamAfter}
+use Rattle.nc_calls.specs.PlaceLaws.{FreshAt, ClearAt, NotHeld, SameAt, ChannelIs, BoxIs, Stays, Loads, Pushes, may_leave_stale_copy, Drains, Moves, RamAfter}
 
 -- ---- the start: nobody holds a block, no entry is queued, no channel is granted, and no box has a message
 pub record StartIsEmpty : Type 0 where
@@ -92,11 +92,11 @@ pub record MovesByPlace : Type 0 where
 -- ---- channels and boxes
 pub record ChannelsByPlace : Type 0 where
   pub read_stays : (m : MachineState) (c : ℕ) → Stays m (chan_read_next m c)
-  pub read : (m : MachineState) (c : ℕ) → IsMachine m → c < 4 → ChannelIs m (chan_read_next m c) c (read_next (channel_of m c) (chan_read_told m c)) (grantee_of m c)
-  pub read_moves : (m : MachineState) (c : ℕ) (span : Span) (bytes : List ℕ) (done : Bool) → IsMachine m → c < 4 → chan_read_told m c ≡ Moved span bytes done → IsReadOf (channel_of m c) m.cache.ram span bytes done
-  pub written : (m : MachineState) (c : ℕ) → IsMachine m → c < 4 → RamAfter m (chan_write_next m c) (chan_write_told m c)
-  pub write : (m : MachineState) (c : ℕ) → IsMachine m → c < 4 → ChannelIs m (chan_write_next m c) c (write_next (channel_of m c) (chan_write_told m c)) (grantee_of m c)
-  pub write_moves : (m : MachineState) (c : ℕ) (span : Span) (bytes : List ℕ) (done : Bool) → IsMachine m → c < 4 → chan_write_told m c ≡ Moved span bytes done
+  pub read : (m : MachineState) (c : ℕ) → IsMachine m → c < 4 → ChannelIs m (chan_read_next m c) c (read_next (channel_of m c) (chan_read_step m c)) (grantee_of m c)
+  pub read_moves : (m : MachineState) (c : ℕ) (span : Span) (bytes : List ℕ) (done : Bool) → IsMachine m → c < 4 → chan_read_step m c ≡ Moved span bytes done → IsReadOf (channel_of m c) m.cache.ram span bytes done
+  pub written : (m : MachineState) (c : ℕ) → IsMachine m → c < 4 → RamAfter m (chan_write_next m c) (chan_write_step m c)
+  pub write : (m : MachineState) (c : ℕ) → IsMachine m → c < 4 → ChannelIs m (chan_write_next m c) c (write_next (channel_of m c) (chan_write_step m c)) (grantee_of m c)
+  pub write_moves : (m : MachineState) (c : ℕ) (span : Span) (bytes : List ℕ) (done : Bool) → IsMachine m → c < 4 → chan_write_step m c ≡ Moved span bytes done
       → IsWriteOf (channel_of m c) (length m.cache.ram) span bytes done
   pub claim_stays : (m : MachineState) (h : HartNo) (c : ℕ) → Stays m (claim_next m h c)
   pub claim : (m : MachineState) (h : HartNo) (c : ℕ) → IsMachine m → c < 4 → grantee_of m c ≡ None
@@ -110,7 +110,7 @@ pub record ChannelsByPlace : Type 0 where
 
 -- no entry of hart h parts memory and the copies at the place, or nobody holds its block
 abbrev pub PartsNone : MachineState → ℕ → ℕ → Type 0
-PartsNone m h x = (list_any (λ e. parts m.size e x) (queue_of m h) ≡ false) ⊎ NotHeld m x
+PartsNone m h x = (list_any (λ e. may_leave_stale_copy m.size e x) (queue_of m h) ≡ false) ⊎ NotHeld m x
 
 -- a load and a fill change nothing that any hart sees at any place. Where no copy of the place is stale, an eviction
 -- changes nothing that is seen there, and a drain of a queue none of whose entries parts memory and copies there keeps
@@ -123,9 +123,9 @@ pub record ViewsStay : Type 0 where
   pub of_load : (m : MachineState) (h : ℕ) (span : Span) (kind : MemType) (g x : ℕ) → IsMachine m → h < length m.harts → IsPieceIn (length m.cache.ram) span → view (issue_next m h (Load span kind)) g x ≡ view m g x
   pub of_fill : (m : MachineState) (h b g x : ℕ) → IsMachine m → IsMove m h b → view (fill_next m h b) g x ≡ view m g x
   pub of_evict : (m : MachineState) (h b g x : ℕ) → IsMachine m → IsMove m h b → FreshAt m x → view (evict_next m h b) g x ≡ view m g x
-  pub of_write : (m : MachineState) (c : ℕ) (span : Span) (bytes : List ℕ) (done : Bool) (x : ℕ) → IsMachine m → c < 4 → chan_write_told m c ≡ Moved span bytes done → span.at ≤ x → x < span.at + span.len
+  pub of_write : (m : MachineState) (c : ℕ) (span : Span) (bytes : List ℕ) (done : Bool) (x : ℕ) → IsMachine m → c < 4 → chan_write_step m c ≡ Moved span bytes done → span.at ≤ x → x < span.at + span.len
       → byte (chan_write_next m c).cache.ram x ≡ byte bytes (x - span.at)
-  pub of_write_beside : (m : MachineState) (c : ℕ) (span : Span) (bytes : List ℕ) (done : Bool) (x : ℕ) → IsMachine m → c < 4 → chan_write_told m c ≡ Moved span bytes done → (x < span.at) ⊎ (span.at + span.len ≤ x)
+  pub of_write_beside : (m : MachineState) (c : ℕ) (span : Span) (bytes : List ℕ) (done : Bool) (x : ℕ) → IsMachine m → c < 4 → chan_write_step m c ≡ Moved span bytes done → (x < span.at) ⊎ (span.at + span.len ≤ x)
       → SameAt m (chan_write_next m c) x
 
 -- ---- the order that markers keep, and that of class O, in each hart's queue

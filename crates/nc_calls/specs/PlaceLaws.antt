@@ -144,17 +144,17 @@ store_parts Pma span x = false
 store_parts Nc span x = covers span x
 store_parts Io span x = covers span x
 
-abbrev pub parts : ℕ → Entry → ℕ → Bool
-parts s (Store span bytes kind) x = store_parts kind span x
-parts s (Cbo block op) x = op_parts s op block.0 x
-parts s (Reg chan off width value) x = false
-parts s (Mail buf to) x = false
-parts s (Lend label first count) x = false
-parts s (Mark pred succ) x = false
+abbrev pub may_leave_stale_copy : ℕ → Entry → ℕ → Bool
+may_leave_stale_copy s (Store span bytes kind) x = store_parts kind span x
+may_leave_stale_copy s (Cbo block op) x = op_parts s op block.0 x
+may_leave_stale_copy s (Reg chan off width value) x = false
+may_leave_stale_copy s (Mail buf to) x = false
+may_leave_stale_copy s (Lend label first count) x = false
+may_leave_stale_copy s (Mark pred succ) x = false
 
 -- the entry loses no byte at the place: it parts memory and the copies at most where nobody holds the block
-abbrev pub LosesNone : MachineState → Entry → ℕ → Type 0
-LosesNone m e x = parts m.size e x ≡ true → NotHeld m x
+abbrev pub KeepsCoherence : MachineState → Entry → ℕ → Type 0
+KeepsCoherence m e x = may_leave_stale_copy m.size e x ≡ true → NotHeld m x
 
 -- somebody holds the block after it: a store of main memory in it, or its zero
 abbrev pub store_brings : ℕ → MemType → ℕ → ℕ → Bool
@@ -188,7 +188,7 @@ pub record DrainsAt (m n : MachineState) (h : ℕ) (e : Entry) (x : ℕ) : Type 
   -- the entry is of another block, or of none
   pub apart : has_block m.size (x / m.size) e ≡ false → SameAt m n x
   -- the copies get what it gives
-  pub fresh : LosesNone m e x → FreshAt m x → FreshAt n x × (middle n x ≡ unwrap_or (entry_gives m.size e x) (middle m x))
+  pub fresh : KeepsCoherence m e x → FreshAt m x → FreshAt n x × (middle n x ≡ unwrap_or (entry_gives m.size e x) (middle m x))
   -- it gives no byte of the block
   pub clear : gives_in m.size (x / m.size) e ≡ false → ClearAt m x → ClearAt n x × (byte n.cache.ram x ≡ byte m.cache.ram x)
   -- it does not give the byte
@@ -200,8 +200,8 @@ pub record DrainsAt (m n : MachineState) (h : ℕ) (e : Entry) (x : ℕ) : Type 
   pub gone : has_op drops_copies (x / m.size) e ≡ true → NotHeld n x
   pub dropped : has_op is_inval (x / m.size) e ≡ true → Drops m.size m.cache n.cache x
   -- what is seen
-  pub own_view : LosesNone m e x → FreshAt m x → view n h x ≡ view m h x
-  pub other_views : LosesNone m e x → FreshAt m x → (g : ℕ) → g ≢ h → entry_gives m.size e x ≡ None → view n g x ≡ view m g x
+  pub own_view : KeepsCoherence m e x → FreshAt m x → view n h x ≡ view m h x
+  pub other_views : KeepsCoherence m e x → FreshAt m x → (g : ℕ) → g ≢ h → entry_gives m.size e x ≡ None → view n g x ≡ view m g x
 
 -- what it does to channels and boxes
 abbrev pub DevicesAfter : MachineState → MachineState → ℕ → Entry → Type 0

@@ -16,7 +16,7 @@ use Rattle.nc_sg.specs.Lists.{IsRange}
 use Rattle.nc_rules.specs.declared.answers.Refusal.{Refusal}
 use Rattle.nc_rules.specs.declared.lots.Lot.{Lot}
 use Rattle.nc_rules.specs.declared.lots.Kind.TheVariants.{Single}
-use Rattle.nc_rules.specs.Lots.{Fixed, lot_id, ranges_lot}
+use Rattle.nc_rules.specs.Lots.{DriverConfig, lot_id, ranges_lot}
 use Rattle.nc_rules.specs.Refusals.{◌>>=◌, some_bytes, all_some, buffer_of, part_of, ranges_of, unused, owned_from, lendable, placeable}
 use Rattle.nc_rules.specs.Mappings.{map_begin}
 use Rattle.nc_rules.specs.Copies.{source, ends_of, copy_begin}
@@ -69,7 +69,7 @@ flat_copy (Ok x) (Ok rs) o k l p = by_owned (o rs)
 -- ---- ranges
 
 -- the part of a buffer that an entry names
-abbrev pub part_at : Fixed → SgEntry → Result Span Refusal
+abbrev pub part_at : DriverConfig → SgEntry → Result Span Refusal
 part_at f e = part_of (buffer_of f e.buf) e.off e.len
 
 behind : (have : List Span) (range : Span) (r : Result (List Span) Refusal) → ok_as r (λ rs. (have ++ range ∷ []) ++ rs) ≡ ok_as (r >>= λ rs. Ok (range ∷ rs)) (λ rs. have ++ rs)
@@ -77,7 +77,7 @@ behind have range (Ok rs) = ap Ok (append_assoc have (range ∷ []) rs)
 behind have range (Err e) = refl
 
 -- a range more
-pub ranges_on : (f : Fixed) (es : List SgEntry) (i : ℕ) (d : SgEntry) (have : List Span) (range : Span) (all : Result (List Span) Refusal) → i < length es
+pub ranges_on : (f : DriverConfig) (es : List SgEntry) (i : ℕ) (d : SgEntry) (have : List Span) (range : Span) (all : Result (List Span) Refusal) → i < length es
     → Ok range ≡ part_at f (get_or es i d) → ok_as (ranges_of f (drop i es)) (λ rs. have ++ rs) ≡ all
     → ok_as (ranges_of f (drop (i + 1) es)) (λ rs. (have ++ range ∷ []) ++ rs) ≡ all
 ranges_on f es i d have range all lt ok h =
@@ -87,17 +87,17 @@ ranges_on f es i d have range all lt ok h =
     ∙ h
 
 -- a range that is refused
-pub ranges_refused : (f : Fixed) (es : List SgEntry) (i : ℕ) (d : SgEntry) (have : List Span) (refusal : Refusal) (all : Result (List Span) Refusal) → i < length es
+pub ranges_refused : (f : DriverConfig) (es : List SgEntry) (i : ℕ) (d : SgEntry) (have : List Span) (refusal : Refusal) (all : Result (List Span) Refusal) → i < length es
     → Err refusal ≡ part_at f (get_or es i d) → ok_as (ranges_of f (drop i es)) (λ rs. have ++ rs) ≡ all → Err refusal ≡ all
 ranges_refused f es i d have refusal all lt err h =
     ap (λ (r : Result Span Refusal). ok_as (r >>= λ x. ranges_of f (drop (i + 1) es) >>= λ xs. Ok (x ∷ xs)) (λ rs. have ++ rs)) err
     ∙ sym (at_drop_more (λ (ds : List SgEntry). ok_as (ranges_of f ds) (λ rs. have ++ rs)) es i d lt)
     ∙ h
 
-pub no_parts : (f : Fixed) → AreParts f 0 []
+pub no_parts : (f : DriverConfig) → AreParts f 0 []
 no_parts f = record { count = refl; some = λ k d lt. absurd (omega arith); ends = λ n h k d lt. absurd (omega arith) }
 
-pub parts_more : (f : Fixed) (n : ℕ) (ranges : List Span) (range : Span) → AreParts f n ranges → 0 < range.len
+pub parts_more : (f : DriverConfig) (n : ℕ) (ranges : List Span) (range : Span) → AreParts f n ranges → 0 < range.len
     → ((end : ℕ) → All (λ b. b.at + b.len ≤ end) f.buffers → range.at + range.len ≤ end) → AreParts f (n + 1) (ranges ++ range ∷ [])
 parts_more f n ranges range h some ends = record {
   count = length-append ranges (range ∷ []) ∙ ap (λ k. k + 1) h.count;
@@ -106,31 +106,31 @@ parts_more f n ranges range h some ends = record {
 }
 
 -- a buffer, and one that is not there, ends where all buffers do or before
-pub buffer_ends : (f : Fixed) (buf end : ℕ) → All (λ b. b.at + b.len ≤ end) f.buffers → (buffer_of f buf).at + (buffer_of f buf).len ≤ end
+pub buffer_ends : (f : DriverConfig) (buf end : ℕ) → All (λ b. b.at + b.len ≤ end) f.buffers → (buffer_of f buf).at + (buffer_of f buf).len ≤ end
 buffer_ends f buf end all = elim (cases_lt buf (length f.buffers)) [
   | inl lt ↦ all buf (record { at = 0; len = 0 }) lt
   | inr ge ↦ rw (get_or-eq_default f.buffers (record { at = 0; len = 0 }) ge) (omega arith)
 ]
 
 -- the ranges are those of a scatter list
-pub are_ranges : (f : Fixed) (n : ℕ) (ranges : List Span) → IsSafe f → AreParts f n ranges → All IsRange ranges
+pub are_ranges : (f : DriverConfig) (n : ℕ) (ranges : List Span) → IsSafe f → AreParts f n ranges → All IsRange ranges
 are_ranges f n ranges safe h = λ k d lt. record { some = h.some k d lt; ends = h.ends 1048576 (λ j e less. (safe.buffers j e less).ends) k d lt }
 
 -- ---- whole operations
 
-pub map_is : (f : Fixed) (lots : List Lot) (label : Label) (entry : SgEntry) (dir : Dir) (chan : ChanNo) (owners : List Owner)
+pub map_is : (f : DriverConfig) (lots : List Lot) (label : Label) (entry : SgEntry) (dir : Dir) (chan : ChanNo) (owners : List Owner)
     → list_begin f lots label Single (entry ∷ []) dir chan owners ≡ map_begin f lots label entry dir chan owners
 map_is f lots label entry dir chan owners =
     flat_checks (all_some (entry ∷ [])) (ranges_of f (entry ∷ [])) (unused lots label) (λ rs. owned_from f.me (lot_id label 0) 0 owners rs) (lendable f.effects dir)
     (λ rs. placeable f (ranges_lot f (lot_id label 0) Single dir chan rs ∷ []))
 
-copy_is : (f : Fixed) (src dst : SgEntry) (chan : ChanNo) (owners : List Owner)
+copy_is : (f : DriverConfig) (src dst : SgEntry) (chan : ChanNo) (owners : List Owner)
     → (all_some (src ∷ dst ∷ []) >>= λ _. ranges_of f (src ∷ dst ∷ []) >>= λ rs. may_copy f owners rs >>= λ _. placeable f (ends_of f chan rs)) ≡ copy_begin f src dst chan owners
 copy_is f src dst chan owners =
     flat_copy (all_some (src ∷ dst ∷ [])) (ranges_of f (src ∷ dst ∷ [])) (λ rs. owned_from f.me source 0 owners rs) (lendable f.effects ToDev) (lendable f.effects FromDev) (λ rs. placeable f (ends_of f chan rs))
 
 -- a copy of which each test but that of slots passed
-pub copy_done : (f : Fixed) (src dst : SgEntry) (chan : ChanNo) (owners : List Owner) (ranges : List Span) (u v : Unit {0}) (ends : List Lot) (made : Result (List Lot) Refusal)
+pub copy_done : (f : DriverConfig) (src dst : SgEntry) (chan : ChanNo) (owners : List Owner) (ranges : List Span) (u v : Unit {0}) (ends : List Lot) (made : Result (List Lot) Refusal)
     → Ok u ≡ all_some (src ∷ dst ∷ []) → Ok ranges ≡ ranges_of f (src ∷ dst ∷ []) → Ok v ≡ may_copy f owners ranges → ends ≡ ends_of f chan ranges → made ≡ placeable f ends
     → made ≡ copy_begin f src dst chan owners
 copy_done f src dst chan owners ranges u v ends made a b k e m =

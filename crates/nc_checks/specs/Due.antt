@@ -16,17 +16,17 @@ use Rattle.nc_rules.specs.declared.steps.Step.{Step}
 use Rattle.nc_rules.specs.declared.lots.Kind.{Kind}
 use Rattle.nc_rules.specs.declared.lots.Lot.{Lot}
 use Rattle.nc_rules.specs.declared.lots.LotId.{LotId}
-use Rattle.nc_rules.specs.Lots.{Fixed, lot_id, ranges_lot}
+use Rattle.nc_rules.specs.Lots.{DriverConfig, lot_id, ranges_lot}
 use Rattle.nc_rules.specs.Copies.{source}
 use Rattle.nc_rules.specs.Operations.{step_at}
 use Rattle.nc_rules.specs.Refusals.{◌>>=◌, wanted, some_or, planned, all_some, ranges_of, unused, owned_from, lendable, placeable}
 
-abbrev pub step_of : Fixed → List Lot → ℕ → Option Op → Result (Option Step) Refusal
+abbrev pub step_of : DriverConfig → List Lot → ℕ → Option Op → Result (Option Step) Refusal
 step_of f lots n None = Ok None
 step_of f lots n (Some o) = step_at f lots o n
 
 -- where the hart has these lots and n steps of operation k are done: none at the script's end
-abbrev pub step_due : Fixed → List Lot → ℕ → ℕ → Result (Option Step) Refusal
+abbrev pub step_due : DriverConfig → List Lot → ℕ → ℕ → Result (Option Step) Refusal
 step_due f lots k n = step_of f lots n (slice_get f.script k)
 
 -- what was made, seen by a function of it
@@ -40,18 +40,18 @@ makes_none (Ok _) = Ok []
 makes_none (Err r) = Err r
 
 -- so many ranges, each with bytes, and each ending where its buffer does or before
-pub record AreParts (f : Fixed) (n : ℕ) (ranges : List Span) : Type 0 where
+pub record AreParts (f : DriverConfig) (n : ℕ) (ranges : List Span) : Type 0 where
   pub count : length ranges ≡ n
   pub some : All (λ range. 0 < range.len) ranges
   pub ends : (end : ℕ) → All (λ b. b.at + b.len ≤ end) f.buffers → All (λ range. range.at + range.len ≤ end) ranges
 
 -- the tests of ranges that are to be lent together, but for slots: the label is not in use, the ranges are the hart's
 -- own, and their plans are enabled
-abbrev pub may_lend : Fixed → List Lot → LotId → Dir → List Owner → List Span → Result (Unit {0}) Refusal
+abbrev pub may_lend : DriverConfig → List Lot → LotId → Dir → List Owner → List Span → Result (Unit {0}) Refusal
 may_lend f lots id dir owners ranges = unused lots id.label >>= λ _. owned_from f.me id 0 owners ranges >>= λ _. lendable f.effects dir
 
 -- all tests of a mapping or a list, and the lot that it makes
-abbrev pub list_begin : Fixed → List Lot → Label → Kind → List SgEntry → Dir → ChanNo → List Owner → Result (List Lot) Refusal
+abbrev pub list_begin : DriverConfig → List Lot → Label → Kind → List SgEntry → Dir → ChanNo → List Owner → Result (List Lot) Refusal
 list_begin f lots label kind entries dir chan owners =
     all_some entries
     >>= λ _. ranges_of f entries
@@ -59,7 +59,7 @@ list_begin f lots label kind entries dir chan owners =
     >>= λ _. placeable f (ranges_lot f (lot_id label 0) kind dir chan ranges ∷ [])
 
 -- the tests of an allocation, up to its pages
-abbrev pub calloc_tests : Fixed → List Lot → Label → ℕ → PageMap → Result Span Refusal
+abbrev pub calloc_tests : DriverConfig → List Lot → Label → ℕ → PageMap → Result Span Refusal
 calloc_tests f lots label count pages =
     wanted refusals.Empty (not (count == 0))
     >>= λ _. unused lots label
@@ -68,5 +68,5 @@ calloc_tests f lots label count pages =
     >>= λ _. some_or refusals.NoPage (lowest_span pages count)
 
 -- the tests of a copy between its ranges and its ends
-abbrev pub may_copy : Fixed → List Owner → List Span → Result (Unit {0}) Refusal
+abbrev pub may_copy : DriverConfig → List Owner → List Span → Result (Unit {0}) Refusal
 may_copy f owners ranges = owned_from f.me source 0 owners ranges >>= λ _. lendable f.effects ToDev >>= λ _. lendable f.effects FromDev

@@ -6,7 +6,7 @@ use Rattle.nc_num.specs.declared.places.Span.{Span}
 use Rattle.nc_pte.specs.Words.{IsPteWord}
 use Rattle.nc_ops.specs.declared.ops.Op.{Op}
 use Rattle.nc_ops.specs.declared.ops.Op.TheVariants.{Ld, St, Cbo, Fence, Map, Unmap, ToCpu, ToDev, MapSg, UnmapSg, Calloc, Cgive, Ctake, Cfree, Hand, Take, Claim, Free, Regs, Run, Poll, Regr, Regw, Copy}
-use Rattle.nc_rules.specs.Lots.{Fixed}
+use Rattle.nc_rules.specs.Lots.{DriverConfig}
 
 -- a range of the largest RAM
 pub record IsSmall (range : Span) : Type 0 where
@@ -39,7 +39,7 @@ IsShort (Regr chan off width) = Unit {0}
 IsShort (Regw chan off width value) = Unit {0}
 IsShort (Copy chan src src_off dst dst_off len cfg) = Unit {0}
 
-pub record IsSafe (f : Fixed) : Type 0 where
+pub record IsSafe (f : DriverConfig) : Type 0 where
   pub sized : IsBlockSize f.size
   pub zero_sized : IsBlockSize f.zero_size
   pub buffers : All IsSmall f.buffers

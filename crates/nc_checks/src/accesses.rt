@@ -9,7 +9,7 @@ ghost use Rattle.nc_steps.specs.Mapped.{IsMapped};
 ghost use Rattle.nc_checks.specs.Safe.{IsSafe};
 
 use crate::refusals::{named, part_of, some_bytes};
-use crate::setup::Setup;
+use crate::setup::DriverConfig;
 use crate::steps::hart_step;
 use nc_lots::only_entry;
 use nc_num::MemType;
@@ -30,7 +30,7 @@ fn piece_step(piece: Result<Option<HartOp>, PageFault>) -> Result<Option<Step>, 
     }
 }
 
-impl Setup {
+impl DriverConfig {
     /// Where an access of so many bytes starts. One of a coherent area is of type NC (Svpbmt).
     fn spot_at(&self, lots: &[Lot], spot: Spot, off: u32, len: u32) -> Result<At, Refusal>
         requires { IsSafe self.now }

@@ -16,7 +16,7 @@ ghost use Rattle.nc_checks.specs.Due.{ok_as, makes_none, calloc_tests};
 
 use crate::ranges::{one_lot, wanted_lot};
 use crate::refusals::{named, owned, planned, unused};
-use crate::setup::Setup;
+use crate::setup::DriverConfig;
 use nc_coherent::PagePool;
 use nc_env::{CboOp, Illegal};
 use nc_lots::{lot_named, only_entry};
@@ -109,7 +109,7 @@ pub(crate) fn free_opening(lots: &[Lot], label: Label) -> Turn
     }
 }
 
-impl Setup {
+impl DriverConfig {
     /// The tests of an allocation.
     fn calloc_tests(
         &self,

@@ -8,7 +8,7 @@ ghost use Rattle.nc_rules.specs.Plans as plans;
 ghost use Rattle.nc_checks.specs.Safe.{IsSafe};
 
 use crate::refusals::{legal, part_of};
-use crate::setup::Setup;
+use crate::setup::DriverConfig;
 use crate::steps::hart_step;
 use nc_env::CboOp;
 use nc_num::Block;
@@ -29,7 +29,7 @@ pub(crate) fn fence_step(pred: u8, succ: u8) -> Step
     hart_step(HartOp::Fence { pred, succ })
 }
 
-impl Setup {
+impl DriverConfig {
     /// Block n of a cache operation on the byte at a place.
     fn cbo_block(&self, op: CboOp, at: u32, n: u32) -> Option<Block>
         requires { IsSafe self.now }

@@ -12,7 +12,7 @@ ghost use Rattle.nc_sg.specs.Lists.{segments};
 ghost use Rattle.nc_checks.specs.Safe.{IsSafe};
 
 use crate::refusals::named;
-use crate::setup::Setup;
+use crate::setup::DriverConfig;
 use crate::steps::{hart_step, single};
 use nc_lots::bus_of_lot;
 use nc_num::ChanNo;
@@ -44,7 +44,7 @@ fn segment(slots_at: u32, lot: &Lot, number: u32) -> Result<Segment, Refusal>
     }
 }
 
-impl Setup {
+impl DriverConfig {
     /// What a channel's address register is set to. Each entry that bounces has its slot.
     fn bus_of(&self, lots: &[Lot], arg: BusArg) -> Result<u64, Refusal>
         requires safe { IsSafe self.now }

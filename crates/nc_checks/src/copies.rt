@@ -8,7 +8,7 @@ ghost use Rattle.nc_checks.specs.Safe.{IsSafe};
 
 use crate::ranges::all_some;
 use crate::refusals::{lendable, owned_from, placeable};
-use crate::setup::Setup;
+use crate::setup::DriverConfig;
 use nc_num::{ChanNo, Dir, Label, NoMemory, Span};
 use nc_own::Book;
 use nc_rules::{Kind, Lot, LotId, Refusal};
@@ -18,7 +18,7 @@ use std::alloc::Global;
 /// The label of a copy's ends, which no script can name.
 const ENDS: Label = Label(1000);
 
-impl Setup {
+impl DriverConfig {
     /// The tests of a copy, and its two ends as lots. The error is want of memory.
     pub(crate) fn copy_begin(
         &self,

@@ -5,11 +5,11 @@ ghost use Rattle.nc_rules.specs.declared.steps.Turn.TheVariants as turns;
 ghost use Rattle.nc_rules.specs.Handing as rules;
 ghost use Rattle.nc_rules.specs.Refusals.{buffer_of};
 
-use crate::setup::Setup;
+use crate::setup::DriverConfig;
 use nc_num::HartNo;
 use nc_rules::{Act, Step, Turn};
 
-impl Setup {
+impl DriverConfig {
     /// A take of a buffer, which makes it the hart's own.
     pub(crate) fn take_step(&self, buf: u8) -> Step
         ensures { result ≡ rules.take_step self.now buf }

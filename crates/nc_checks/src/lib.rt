@@ -1,6 +1,6 @@
 //! What a driver knows of its script from the start, and the steps of the operations by their number.
 //!
-//! The contract for the crates above: a `Setup` is nc_rules' `Fixed` of a hart of the scenario; `step_due` is the step
+//! The contract for the crates above: a `DriverConfig` is nc_rules' `DriverConfig` of a hart of the scenario; `step_due` is the step
 //! that is due in the script, or its refusal; `begin` is the definition of that name, the tests of a start step and the
 //! lots that it makes, and `opening` its first turn. A file holds a family of operations, as in nc_rules; `operations`
 //! alone names them all. The driver stands above.
@@ -21,4 +21,4 @@ mod setup;
 mod steps;
 
 pub use operations::has_start;
-pub use setup::Setup;
+pub use setup::DriverConfig;

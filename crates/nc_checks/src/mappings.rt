@@ -10,7 +10,7 @@ ghost use Rattle.nc_checks.specs.Due.{ok_as, makes_none};
 ghost use Rattle.nc_checks.specs.Safe.{IsSafe};
 
 use crate::refusals::named;
-use crate::setup::Setup;
+use crate::setup::DriverConfig;
 use nc_lots::lot_named;
 use nc_num::{ChanNo, Dir, Label, NoMemory};
 use nc_own::Book;
@@ -84,7 +84,7 @@ pub(crate) fn to_dev_opening(lots: &[Lot], label: Label) -> Turn
     }
 }
 
-impl Setup {
+impl DriverConfig {
     /// The tests of a map, and the lot that it makes. The error is want of memory.
     pub(crate) fn map_begin(
         &self,

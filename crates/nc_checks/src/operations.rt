@@ -12,7 +12,7 @@ use crate::cache_ops::fence_step;
 use crate::mappings::{needs_lot, to_cpu_opening, to_dev_opening, unmap_opening};
 use crate::refusals::owned;
 use crate::scatter_lists::{unmap_sg_opening, unmap_sg_tests};
-use crate::setup::Setup;
+use crate::setup::DriverConfig;
 use crate::steps::{control_step, plain, single};
 use nc_coherent::PagePool;
 use nc_num::{Label, NoMemory};
@@ -68,7 +68,7 @@ fn lend(label: Label) -> Turn
     Turn::Lend(LotId { label, first: 0 })
 }
 
-impl Setup {
+impl DriverConfig {
     /// The step that is due where n steps of operation k of the script are done and the hart has these lots, whose
     /// entries that bounce all have their slots: None where the operation has no step n or there is no operation k, or
     /// the refusal of the step. An operation with a start step has none.

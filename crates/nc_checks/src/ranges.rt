@@ -8,7 +8,7 @@ ghost use Rattle.nc_checks.specs.Due.{ok_as, may_lend, list_begin, AreParts};
 ghost use Rattle.nc_checks.specs.Safe.{IsSafe};
 
 use crate::refusals::{lendable, owned_from, part_of, placeable, some_bytes, unused};
-use crate::setup::Setup;
+use crate::setup::DriverConfig;
 use nc_num::{ChanNo, Dir, Label, NoMemory, Span};
 use nc_own::Book;
 use nc_rules::{Kind, Lot, LotId, Refusal, Side};
@@ -40,7 +40,7 @@ pub(crate) fn wanted_lot(id: LotId, kind: Kind, chan: ChanNo, list: SgList) -> L
     }
 }
 
-impl Setup {
+impl DriverConfig {
     /// The ranges of entries, each of which has bytes. The error is want of memory.
     pub(crate) fn ranges_of(
         &self,

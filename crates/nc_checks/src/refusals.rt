@@ -7,7 +7,7 @@ ghost use Rattle.nc_num.specs.declared.places.Span.{Span};
 ghost use Rattle.nc_model.specs.Rights.{is_thread};
 ghost use Rattle.nc_model.specs.declared.owners.Owner.{Owner};
 ghost use Rattle.nc_own.specs.Books.{transferred};
-ghost use Rattle.nc_rules.specs.Lots.{Fixed};
+ghost use Rattle.nc_rules.specs.Lots.{DriverConfig};
 ghost use Rattle.nc_rules.specs.Refusals.{has_big};
 ghost use Rattle.nc_rules.specs.Refusals as rules;
 ghost use Rattle.nc_checks.specs.Due.{ok_as};
@@ -91,7 +91,7 @@ fn small_enough(lots: &[Lot]) -> Result<(), Refusal>
 
 /// Where a slot is wanted there are slots.
 fn slots_there(slots: u32, lots: &[Lot]) -> Result<(), Refusal>
-    ensures { (f : Fixed) → f.slots ≡ slots → result ≡ rules.slots_there f lots.now }
+    ensures { (f : DriverConfig) → f.slots ≡ slots → result ≡ rules.slots_there f lots.now }
 {
     if slots == 0 && some_lot_waits(lots) {
         Err(Refusal::NoSlot)
@@ -102,7 +102,7 @@ fn slots_there(slots: u32, lots: &[Lot]) -> Result<(), Refusal>
 
 /// New lots, where each entry that bounces may get one of so many slots.
 pub(crate) fn placeable(slots: u32, lots: Vec<Lot>) -> Result<Vec<Lot>, Refusal>
-    ensures { (f : Fixed) → f.slots ≡ slots → ok_as result (λ v. v.items) ≡ rules.placeable f lots.items }
+    ensures { (f : DriverConfig) → f.slots ≡ slots → ok_as result (λ v. v.items) ≡ rules.placeable f lots.items }
 {
     small_enough(&lots)?;
     slots_there(slots, &lots)?;

@@ -19,7 +19,7 @@ use std::marker::Model;
 /// bytes of a block and of a zeroed range, how far each channel reaches, the bounce slots, the coherent pool, whether
 /// fences are light, and the script.
 #[derive(Drop)]
-pub struct Setup {
+pub struct DriverConfig {
     me: HartNo,
     effects: Effects,
     pbmte: bool,
@@ -35,17 +35,17 @@ pub struct Setup {
     script: Vec<Op>,
 }
 
-impl Model for Setup {
-    ghost use Rattle.nc_rules.specs.Lots.{Fixed};
+impl Model for DriverConfig {
+    ghost use Rattle.nc_rules.specs.Lots.{DriverConfig};
 
-    ghost Value = { Fixed };
+    ghost Value = { DriverConfig };
 
     ghost view = { λ s. record { me = s.me; effects = s.effects; pbmte = s.pbmte; table = s.table.items; buffers = s.buffers.items; size = s.size; zero_size = s.zero_size; reach = s.reach; slots_at = s.slots_at; slots = s.slots; pool = s.pool; light = s.light; script = s.script.items } };
 }
 
-impl Setup {
+impl DriverConfig {
     /// That of hart `me` of a scenario. The error is want of memory.
-    pub fn of(alloc: Global, me: HartNo, sc: &Scenario) -> Result<Setup, NoMemory>
+    pub fn of(alloc: Global, me: HartNo, sc: &Scenario) -> Result<DriverConfig, NoMemory>
         requires hart { me.0 < length sc.now.harts }
         requires accepted { IsAccepted sc.now }
         ensures { IfOk result (λ s. s ≡ fixed_of sc.now me (hart_spec sc.now me.0)) }
@@ -55,7 +55,7 @@ impl Setup {
         let table = Vec::from_slice(alloc, sc.ptes.as_slice())?;
         let buffers = spans_of(alloc, sc.buffers.as_slice())?;
         let script = script_of(alloc, hart.script.as_slice())?;
-        Ok(Setup {
+        Ok(DriverConfig {
             me,
             effects,
             pbmte: has_pbmte(hart.menvcfg),

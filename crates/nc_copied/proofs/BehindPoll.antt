@@ -29,7 +29,7 @@ use Rattle.nc_rules.specs.declared.steps.Step.{Step}
 use Rattle.nc_rules.specs.Driver.{DriverState, in_hand, next_act, next_of}
 use Rattle.nc_rules.specs.Events.{enabled}
 use Rattle.nc_rules.specs.Flat.{event_marks, flat_after}
-use Rattle.nc_rules.specs.Lots.{Fixed}
+use Rattle.nc_rules.specs.Lots.{DriverConfig}
 use Rattle.nc_rules.specs.Next.{next, event_records}
 use Rattle.nc_rules.specs.Operations.{plan_of}
 use Rattle.nc_rules.specs.Refusals.{buffer_of, part_of}
@@ -71,11 +71,11 @@ part_by b off len range true is =
     record { starts = ap (λ (s : Span). s.at) (sym same); long = ap (λ (s : Span). s.len) (sym same) }
 part_by b off len range false is = absurd cc
 
-range_is : (sc : Scenario) (f : Fixed) (h : HartNo) (buf off len : ℕ) (range : Span) → f ≡ fixed_of sc (hart h.0) (hart_spec sc h.0) → part_of (buffer_of f buf) off len ≡ Ok range → IsPart range (place_in sc buf off) len
+range_is : (sc : Scenario) (f : DriverConfig) (h : HartNo) (buf off len : ℕ) (range : Span) → f ≡ fixed_of sc (hart h.0) (hart_spec sc h.0) → part_of (buffer_of f buf) off len ≡ Ok range → IsPart range (place_in sc buf off) len
 range_is sc f h buf off len range fixed is =
     let b = buffer_of f buf in
     let part = part_by b off len range (nat_le (off + len) b.len) is in
-    record { starts = part.starts ∙ ap (λ (i : Fixed). (buffer_of i buf).at + off) fixed; long = part.long }
+    record { starts = part.starts ∙ ap (λ (i : DriverConfig). (buffer_of i buf).at + off) fixed; long = part.long }
 
 in_part : (range : Span) (at len i : ℕ) → IsPart range at len → i < len → covers range (at + i) ≡ true
 in_part range at len i part lt = covers-from range (at + i) (omega (arith, part.starts)) (omega (arith, part.starts, part.long, lt))
@@ -207,9 +207,9 @@ abbrev pub Stands : Scenario → List Event → WorldState → List ℕ → Hart
 Stands sc es w f h = (k : CopyOp) → in_hand (driver_of w h.0) ≡ Some (copy_op k) → (driver_of w h.0).phase ≡ Work → InPlan sc es w f h k
 
 same_hand : (d e : DriverState) → IsSameOp d e → in_hand e ≡ in_hand d
-same_hand d e same = ap (λ (f : Fixed). slice_get f.script e.op) same.fixed ∙ ap (slice_get d.fixed.script) same.op
+same_hand d e same = ap (λ (f : DriverConfig). slice_get f.script e.op) same.fixed ∙ ap (slice_get d.fixed.script) same.op
 
-begun_plan : (f : Fixed) (lots : List Lot) (k : CopyOp) (rest : List Step) → rest ≡ plan_of f lots (copy_op k) → 0 < length rest → IsCopyPlan rest
+begun_plan : (f : DriverConfig) (lots : List Lot) (k : CopyOp) (rest : List Step) → rest ≡ plan_of f lots (copy_op k) → 0 < length rest → IsCopyPlan rest
 begun_plan f lots k [] is some = absurd (omega (arith, some))
 begun_plan f lots k (s ∷ more) is some = copy_plan f lots k s more is
 

@@ -12,7 +12,7 @@ use Rattle.nc_rules.specs.declared.steps.Phase.TheVariants.{Steps, Search, Work}
 use Rattle.nc_rules.specs.declared.steps.Seen.{Seen}
 use Rattle.nc_rules.specs.declared.steps.Step.{Step}
 use Rattle.nc_rules.specs.Driver.{DriverState, Went, in_hand, went_to, opened, searches, stays, give_up, placed, with_lots, begun, refused_step, steps_done, started, started_of, told, told_of, told_in, told_word, kept, busy, stepped_to, stepped, worked, done, done_of, done_unless, done_in}
-use Rattle.nc_rules.specs.Lots.{Fixed, some_lot_waits, slot_given}
+use Rattle.nc_rules.specs.Lots.{DriverConfig, some_lot_waits, slot_given}
 use Rattle.nc_rules.specs.Operations.{has_start, step_at, begin, opening, plan_of}
 use Rattle.nc_rules.specs.Turns.{lots_after, lots_after_both}
 
@@ -54,7 +54,7 @@ whole d c o lots now saw [] hand like is work = steps_not 0 work
 whole d c o lots now saw (s ∷ rest) hand like is work = Begins o lots hand is (record { op = like.op; fixed = like.fixed })
 
 opens : (d c : DriverState) (o : Op) → in_hand d ≡ Some o → IsLike d c → (opened c o).driver.phase ≡ Work → Came d (opened c o).driver
-opens d c o hand like work = whole d c o c.lots (lots_after (opening c.fixed c.lots o) c.lots) c.saw (plan_of c.fixed c.lots o) hand like (ap (λ (f : Fixed). plan_of f c.lots o) like.fixed) work
+opens d c o hand like work = whole d c o c.lots (lots_after (opening c.fixed c.lots o) c.lots) c.saw (plan_of c.fixed c.lots o) hand like (ap (λ (f : DriverConfig). plan_of f c.lots o) like.fixed) work
 
 place_by : (d c : DriverState) (o : Op) (t : Bool) → in_hand d ≡ Some o → IsLike d c → (if t then stays (searches c 0) else opened c o).driver.phase ≡ Work → Came d (if t then stays (searches c 0) else opened c o).driver
 place_by d c o true hand like work = search_not 0 work

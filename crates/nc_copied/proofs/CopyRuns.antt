@@ -27,14 +27,14 @@ use Rattle.nc_rules.specs.Copies.{copied}
 use Rattle.nc_rules.specs.Driver.{DriverState, in_hand, done}
 use Rattle.nc_rules.specs.Events.{enabled}
 use Rattle.nc_rules.specs.Flat.{AreThere, event_marks, flat_after}
-use Rattle.nc_rules.specs.Lots.{Fixed}
+use Rattle.nc_rules.specs.Lots.{DriverConfig}
 use Rattle.nc_rules.specs.Next.{next, after_outcome, counted}
 use Rattle.nc_rules.specs.Outcomes.{Outcome, outcome}
 use Rattle.nc_rules.specs.Plans.{control_step}
 use Rattle.nc_rules.specs.Run.{after}
 use Rattle.nc_rules.specs.Start.{first_driver, hart_spec}
 use Rattle.nc_rules.specs.View.{view}
-use Rattle.nc_rules.specs.Watched.{owner_of}
+use Rattle.nc_rules.specs.EventTouches.{owner_of}
 use Rattle.nc_rules.specs.World.{WorldState, driver_of, start, hart, owners_moved}
 use Rattle.nc_scripts.specs.Drivers.{IsEndName}
 use Rattle.nc_scripts.proofs.Lists.{all_left, all_right}
@@ -114,7 +114,7 @@ poll_channel (acts.Claim chan) is = absurd (false≢true is)
 poll_channel (acts.Take buf) is = absurd (false≢true is)
 
 -- it is no poll
-not_poll : (f : Fixed) (lots : List Lot) (s : Step) (t : Bool) → is_poll s.act ≡ t → PlanGoes f lots (s ∷ []) → t ≡ false
+not_poll : (f : DriverConfig) (lots : List Lot) (s : Step) (t : Bool) → is_poll s.act ≡ t → PlanGoes f lots (s ∷ []) → t ≡ false
 not_poll f lots s false is goes = refl
 not_poll f lots s true is goes = elim (channel_step f lots s [] (poll_channel s.act is) goes.0) [
   | inl r ↦ no_poll s.act r.chan r.off r.width r.value (ap (λ (t : Step). t.act) r.step) is
@@ -240,7 +240,7 @@ is_done sc es e h n k t l =
 hand_of : (sc : Scenario) (es : List Event) (e : Event) (h : HartNo) (n : ℕ) (o : Op) → IsAtEvent sc es e h → (driver_of (after (start sc) es) h.0).op ≡ n → op_at sc h n ≡ Some o → in_hand (driver_of (after (start sc) es) h.0) ≡ Some o
 hand_of sc es e h n o at number is =
     let d = driver_of (after (start sc) es) h.0 in
-    ap (λ (f : Fixed). slice_get f.script d.op) (at.flat.world.fixed h.0 at.lt) ∙ ap (slice_get (hart_spec sc h.0).script) number ∙ is
+    ap (λ (f : DriverConfig). slice_get f.script d.op) (at.flat.world.fixed h.0 at.lt) ∙ ap (slice_get (hart_spec sc h.0).script) number ∙ is
 
 done_of : (sc : Scenario) (es : List Event) (e : Event) (h : HartNo) (n : ℕ) → IsToldAt sc es e h n answers.CopyDone → TellsCopied sc (es ++ e ∷ []) h n answers.CopyDone
 done_of sc es e h n t chan src src_off dst dst_off len cfg is =

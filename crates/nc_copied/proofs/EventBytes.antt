@@ -27,7 +27,7 @@ use Rattle.nc_rules.specs.declared.records.Record.TheVariants as records
 use Rattle.nc_rules.specs.declared.steps.Next.{Next}
 use Rattle.nc_rules.specs.declared.steps.Next.TheVariants as nexts
 use Rattle.nc_rules.specs.declared.steps.Phase.TheVariants.{Steps}
-use Rattle.nc_rules.specs.Calls.{issue_next, issue_answer, claim_next, control_of, take_next, leaving, fill_next, fill_answer, evict_next, evict_answer, chan_read_next, chan_read_told, chan_write_told, chan_write_next, drain_transfers}
+use Rattle.nc_rules.specs.Calls.{issue_next, issue_answer, claim_next, control_of, take_next, leaving, fill_next, fill_answer, evict_next, evict_answer, chan_read_next, chan_read_step, chan_write_step, chan_write_next, drain_transfers}
 use Rattle.nc_rules.specs.declared.steps.Seen.TheVariants as seen
 use Rattle.nc_rules.specs.Driver.{next_of, searching, is_script, started, told, done, lent}
 use Rattle.nc_rules.specs.Events.{enabled}
@@ -36,7 +36,7 @@ use Rattle.nc_rules.specs.Machine.{MachineState, grantee_of}
 use Rattle.nc_rules.specs.Next.{event_records}
 use Rattle.nc_rules.specs.Outcomes.{Outcome, runs, at_word, leaves, outcome, step_outcome, start_outcome, op_outcome, claim_outcome, poll_outcome, take_outcome, try_outcome, told_outcome, drain_outcome, seen_of, claim_seen, told_slots, got_word}
 use Rattle.nc_rules.specs.Records.{op_records, try_records, told_records, drain_records, transfer_records, read_records, write_records, place, answer_records}
-use Rattle.nc_rules.specs.Watched.{owner_of, issue_touch, poll_touch, transaction_touch}
+use Rattle.nc_rules.specs.EventTouches.{owner_of, issue_touch, poll_touch, transaction_touch}
 use Rattle.nc_rules.specs.World.{WorldState, driver_of}
 use Rattle.nc_calls.specs.PlaceLaws.{RamAfter}
 use Rattle.nc_calls.proofs.SoundSteps.{shape_chan_write}
@@ -146,7 +146,7 @@ other_channel sc f w h k c x z flat of other u same =
     let its = end_chan sc f w h k of.now.from of.now.to m.is.lot flat of.now.ends here (m.is.label ∙ own.1) in
     other (sym u.chan ∙ ap (λ (d : ChanNo). d.0) (chan ∙ its))
 
-write_by : (sc : Scenario) (f : List ℕ) (w : WorldState) (h : ℕ) (k : CopyOp) (c : ChanNo) (x : ℕ) (t : ChanStep) → Flatness sc f w → c.0 < 4 → IsOfCopy sc f w h k x → c.0 ≢ k.chan.0 → chan_write_told w.machine c.0 ≡ t → transaction_touch w c Write t ≡ None
+write_by : (sc : Scenario) (f : List ℕ) (w : WorldState) (h : ℕ) (k : CopyOp) (c : ChanNo) (x : ℕ) (t : ChanStep) → Flatness sc f w → c.0 < 4 → IsOfCopy sc f w h k x → c.0 ≢ k.chan.0 → chan_write_step w.machine c.0 ≡ t → transaction_touch w c Write t ≡ None
     → Leaves f (all_marks w.machine.size w.grants (write_records c t)) x
 write_by sc f w h k c x Idle flat four of other is none = refl
 write_by sc f w h k c x (Error bus len) flat four of other is none = refl
@@ -185,7 +185,7 @@ write_leaves : (sc : Scenario) (f : List ℕ) (w : WorldState) (h : ℕ) (k : Co
 unfolding outcome
 write_leaves sc f w h k c x flat four of may untouched =
     let m = w.machine in
-    let t = chan_write_told m c.0 in
+    let t = chan_write_step m c.0 in
     let next = chan_write_next m c.0 in
     let plain = runs_marks w m.size w.grants next (transaction_touch w c Write t) (write_records c t) untouched in
     elim (cases_eq c.0 k.chan.0) [
@@ -210,7 +210,7 @@ on_by sc f w (events.Fill g b) h k x now of untouched =
 on_by sc f w (events.Evict g b) h k x now of untouched =
     inl (leaves_as f _ _ x ((runs_marks w w.machine.size w.grants (evict_next w.machine g.0 b.0) None (answer_records w.machine.size (evict_answer w.machine g.0 b.0)) untouched).same ∙ answer_silent w.machine.size w.machine.size w.grants (evict_answer w.machine g.0 b.0)) refl)
 on_by sc f w (events.ChanRead c) h k x now of untouched =
-    inl (leaves_as f _ _ x (runs_marks w w.machine.size w.grants (chan_read_next w.machine c.0) (transaction_touch w c Read (chan_read_told w.machine c.0)) (read_records c (chan_read_told w.machine c.0)) untouched).same (read_leaves f w.machine.size w.grants c x (chan_read_told w.machine c.0)))
+    inl (leaves_as f _ _ x (runs_marks w w.machine.size w.grants (chan_read_next w.machine c.0) (transaction_touch w c Read (chan_read_step w.machine c.0)) (read_records c (chan_read_step w.machine c.0)) untouched).same (read_leaves f w.machine.size w.grants c x (chan_read_step w.machine c.0)))
 on_by sc f w (events.ChanWrite c) h k x now of untouched = write_leaves sc f w h k c x now.flat now.there of now.may untouched
 
 -- an event that may happen

@@ -32,7 +32,7 @@ use Rattle.nc_rules.specs.Machine.{MachineState, hart_of}
 use Rattle.nc_rules.specs.Records.{transfer_records, op_records, load_record}
 use Rattle.nc_rules.specs.Sound.{OpIsThere}
 use Rattle.nc_rules.specs.View.{bytes_seen}
-use Rattle.nc_rules.specs.Watched.{owner_of, op_touch, issue_touch}
+use Rattle.nc_rules.specs.EventTouches.{owner_of, op_touch, issue_touch}
 use Rattle.nc_rules.specs.World.{WorldState, driver_of}
 use Rattle.nc_flatness.specs.Books.{book_of}
 use Rattle.nc_flatness.specs.Copying.{IsItsOwn}

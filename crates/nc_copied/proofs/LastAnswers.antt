@@ -27,7 +27,7 @@ use Rattle.nc_rules.specs.Lots.{slot_given}
 use Rattle.nc_rules.specs.Machine.{MachineState, grantee_of}
 use Rattle.nc_rules.specs.Outcomes.{Outcome, goes, seen_of, claim_seen, got_word, at_word, outcome, step_outcome, start_outcome, op_outcome, claim_outcome, poll_outcome, take_outcome, try_outcome, told_outcome}
 use Rattle.nc_rules.specs.Records.{op_records}
-use Rattle.nc_rules.specs.Watched.{issue_touch, poll_touch}
+use Rattle.nc_rules.specs.EventTouches.{issue_touch, poll_touch}
 use Rattle.nc_rules.specs.World.{WorldState, driver_of}
 use Rattle.nc_scripts.specs.Drivers.{AreMade, IsPhase, IsSearching}
 use Rattle.nc_scripts.specs.Scripts.{is_act}

@@ -30,13 +30,13 @@ use Rattle.nc_rules.specs.declared.steps.Step.{Step}
 use Rattle.nc_rules.specs.declared.steps.Turn.{Turn}
 use Rattle.nc_rules.specs.declared.steps.Turn.TheVariants as turns
 use Rattle.nc_rules.specs.Driver.{DriverState, Went, in_hand, kept, busy, worked, done, done_of, done_unless, done_in, answered}
-use Rattle.nc_rules.specs.Lots.{Fixed, is_lot, map_id, owner_of_side}
+use Rattle.nc_rules.specs.Lots.{DriverConfig, is_lot, map_id, owner_of_side}
 use Rattle.nc_rules.specs.Machine.{MachineState}
 use Rattle.nc_rules.specs.Next.{after_outcome, counted}
 use Rattle.nc_rules.specs.Outcomes.{goes}
 use Rattle.nc_rules.specs.Turns.{is_area, last_owner, of_those, to_side, to_end, lots_after, transfers_of, turned_by}
 use Rattle.nc_rules.specs.View.{view}
-use Rattle.nc_rules.specs.Watched.{owner_of}
+use Rattle.nc_rules.specs.EventTouches.{owner_of}
 use Rattle.nc_rules.specs.World.{WorldState, driver_of, owners_moved}
 use Rattle.nc_scripts.specs.Drivers.{IsLotIn, IsEndName}
 use Rattle.nc_scripts.proofs.LotLaws.{lots_stay}
@@ -70,17 +70,17 @@ sided_own h me lots side id u own end here =
     let e = of_each me r.lot.id 0 (λ n d. (d.span, owner_of_side n side)) r.lot.list.entries u r.is in
     subst (λ (t : Span × Owner). IsItsOwn h t.1) e.is (side_own h (map_id me r.lot.id (0 + e.j)) side own (end_label id r.lot r.named end))
 
-last_own : (ram : ℕ) (f : Fixed) (h : ℕ) (lot : Lot) (t : Bool) → is_area lot.kind ≡ t → f.me.0 ≡ h → IsLotIn ram f lot → IsEndName lot.id → IsItsOwn h (if t then owners.Pool else owners.Thread f.me)
+last_own : (ram : ℕ) (f : DriverConfig) (h : ℕ) (lot : Lot) (t : Bool) → is_area lot.kind ≡ t → f.me.0 ≡ h → IsLotIn ram f lot → IsEndName lot.id → IsItsOwn h (if t then owners.Pool else owners.Thread f.me)
 last_own ram f h lot true area own is end = absurd (area_unended f.pool lot.kind lot.id lot.list.entries area is.kind end)
 last_own ram f h lot false area own is end = own
 
-ended_own : (ram : ℕ) (f : Fixed) (h : ℕ) (lots : List Lot) (id : LotId) (u : Span × Owner) → f.me.0 ≡ h → All (IsLotIn ram f) lots → IsEndName id → In u (of_those (to_end f.me) id lots) → IsItsOwn h u.1
+ended_own : (ram : ℕ) (f : DriverConfig) (h : ℕ) (lots : List Lot) (id : LotId) (u : Span × Owner) → f.me.0 ≡ h → All (IsLotIn ram f) lots → IsEndName id → In u (of_those (to_end f.me) id lots) → IsItsOwn h u.1
 ended_own ram f h lots id u own all end here =
     let r = of_named (to_end f.me) id lots u here in
     let e = of_map (λ (d : Entry). (d.span, last_owner f.me r.lot)) u r.lot.list.entries r.is in
     subst (λ (t : Span × Owner). IsItsOwn h t.1) e.2 (last_own ram f h r.lot (is_area r.lot.kind) refl own (all_at (IsLotIn ram f) lots r.lot all r.here) (end_label id r.lot r.named end))
 
-turn_own : (ram : ℕ) (f : Fixed) (h : ℕ) (lots : List Lot) (t : Turn) (u : Span × Owner) → f.me.0 ≡ h → All (IsLotIn ram f) lots → OfEnd t → In u (transfers_of f.me lots t) → IsItsOwn h u.1
+turn_own : (ram : ℕ) (f : DriverConfig) (h : ℕ) (lots : List Lot) (t : Turn) (u : Span × Owner) → f.me.0 ≡ h → All (IsLotIn ram f) lots → OfEnd t → In u (transfers_of f.me lots t) → IsItsOwn h u.1
 turn_own ram f h lots turns.Stay u own all end here = absurd here
 turn_own ram f h lots (turns.Pass range to) u own all end here = absurd end
 turn_own ram f h lots (turns.Own range) u own all end here = absurd end
@@ -91,7 +91,7 @@ turn_own ram f h lots (turns.Sync id) u own all end here = sided_own h f.me lots
 turn_own ram f h lots (turns.Settle id) u own all end here = sided_own h f.me lots sides.Own id u own end here
 turn_own ram f h lots (turns.End id) u own all end here = ended_own ram f h lots id u own all end here
 
-both_own : (ram : ℕ) (f : Fixed) (h : ℕ) (lots : List Lot) (s : Step) (a : Option Answer) (ws : List Owner) (x : ℕ) → f.me.0 ≡ h → All (IsLotIn ram f) lots → TurnsEnds s → IsItsOwn h (owner_in ws x)
+both_own : (ram : ℕ) (f : DriverConfig) (h : ℕ) (lots : List Lot) (s : Step) (a : Option Answer) (ws : List Owner) (x : ℕ) → f.me.0 ≡ h → All (IsLotIn ram f) lots → TurnsEnds s → IsItsOwn h (owner_in ws x)
     → IsItsOwn h (owner_in (owners_moved ws (turned_by f.me f.slots_at lots s.first s.last a).transfers) x)
 unfolding turned_by
 both_own ram f h lots s a ws x own all ends before =

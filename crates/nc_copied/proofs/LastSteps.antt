@@ -20,7 +20,7 @@ use Rattle.nc_rules.specs.declared.steps.Phase.TheVariants.{Steps, Search, Work}
 use Rattle.nc_rules.specs.declared.steps.Seen.{Seen}
 use Rattle.nc_rules.specs.declared.steps.Seen.TheVariants as seen
 use Rattle.nc_rules.specs.declared.steps.Step.{Step}
-use Rattle.nc_rules.specs.Lots.{Fixed, is_lot, lot_named, slot_given, some_lot_waits}
+use Rattle.nc_rules.specs.Lots.{DriverConfig, is_lot, lot_named, slot_given, some_lot_waits}
 use Rattle.nc_rules.specs.Accesses as accesses
 use Rattle.nc_rules.specs.CacheOps as cache_ops
 use Rattle.nc_rules.specs.Channels.{poll_answer, value_answer}
@@ -61,15 +61,15 @@ record IsCopySaw (o : Op) (saw : Seen) (b : Option Answer) : Type 0 where
   saw_is : saw ≡ seen.Control control
   answer : b ≡ Some (copied control)
 
-mapped_tells : (f : Fixed) (o : Option Lot) → tells (mapped_answer f o) ≡ false
+mapped_tells : (f : DriverConfig) (o : Option Lot) → tells (mapped_answer f o) ≡ false
 mapped_tells f None = refl
 mapped_tells f (Some lot) = refl
 
-segments_tells : (f : Fixed) (o : Option Lot) → tells (segments_answer f o) ≡ false
+segments_tells : (f : DriverConfig) (o : Option Lot) → tells (segments_answer f o) ≡ false
 segments_tells f None = refl
 segments_tells f (Some lot) = refl
 
-allocated_tells : (f : Fixed) (o : Option Lot) → tells (allocated_answer f o) ≡ false
+allocated_tells : (f : DriverConfig) (o : Option Lot) → tells (allocated_answer f o) ≡ false
 allocated_tells f None = refl
 allocated_tells f (Some lot) = refl
 
@@ -101,7 +101,7 @@ copy_tells k seen.Claimed t = absurd (false≢true t)
 copy_tells k (seen.Busy g) t = absurd (false≢true t)
 copy_tells k (seen.Value value) t = absurd (false≢true t)
 
-good_tells : (f : Fixed) (lots : List Lot) (o : Op) (saw : Seen) → tells (good_answer f lots o saw) ≡ true → IsCopySaw o saw (good_answer f lots o saw)
+good_tells : (f : DriverConfig) (lots : List Lot) (o : Op) (saw : Seen) → tells (good_answer f lots o saw) ≡ true → IsCopySaw o saw (good_answer f lots o saw)
 unfolding good_answer meaning accesses.load accesses.store cache_ops.cache_operation cache_ops.fence handing.take handing.hand channels.claim channels.free channels.set_up channels.run channels.poll channels.read_register channels.write_register mappings.map_single mappings.unmap_single mappings.sync_for_cpu mappings.sync_for_device lists.map_sg lists.unmap_sg areas.calloc areas.give_area areas.take_area areas.free_area copies.copy
 good_tells f lots (ops.Map label buf off len dir chan) saw t = not_both _ (mapped_tells f (lot_named lots label kinds.Single)) t
 good_tells f lots (ops.MapSg label entries dir chan) saw t = not_both _ (segments_tells f (lot_named lots label kinds.List)) t
@@ -112,7 +112,7 @@ good_tells f lots (ops.Copy chan src src_off dst dst_off len cfg) saw t =
     copy_tells (record { chan = chan; src = src; src_off = src_off; dst = dst; dst_off = dst_off; len = len; config = cfg }) saw t
 good_tells f lots _ saw t = absurd (false≢true t)
 
-bad_tells : (f : Fixed) (lots : List Lot) (o : Op) (r : Refusal) → tells_copy (bad_answer f lots o r) ≡ false
+bad_tells : (f : DriverConfig) (lots : List Lot) (o : Op) (r : Refusal) → tells_copy (bad_answer f lots o r) ≡ false
 unfolding bad_answer meaning accesses.load accesses.store cache_ops.cache_operation cache_ops.fence handing.take handing.hand channels.claim channels.free channels.set_up channels.run channels.poll channels.read_register channels.write_register mappings.map_single mappings.unmap_single mappings.sync_for_cpu mappings.sync_for_device lists.map_sg lists.unmap_sg areas.calloc areas.give_area areas.take_area areas.free_area copies.copy
 bad_tells f lots (ops.MapSg label entries dir chan) r = refl
 bad_tells f lots _ r = refl
@@ -133,7 +133,7 @@ found_id id [] here = absurd here
 found_id id (lot ∷ lots) (inl same) = found_by id lot lots (is_lot id lot) refl (inl same)
 found_id id (lot ∷ lots) (inr here) = found_by id lot lots (is_lot id lot) refl (inr (found_id id lots here))
 
-plan_empty : (f : Fixed) (lots : List Lot) (k : CopyOp) (s t : Lot) → find (is_lot source) lots ≡ Some s → find (is_lot target) lots ≡ Some t → plan_of f lots (copy_op k) ≡ [] → ⊥
+plan_empty : (f : DriverConfig) (lots : List Lot) (k : CopyOp) (s t : Lot) → find (is_lot source) lots ≡ Some s → find (is_lot target) lots ≡ Some t → plan_of f lots (copy_op k) ≡ [] → ⊥
 unfolding plan_of meaning copies.copy
 plan_empty f lots k s t first second e = some (subst (λ (o : Option Lot). copy_steps_of f k.chan k.config (Some s) o ≡ []) second (subst (λ (o : Option Lot). copy_steps_of f k.chan k.config o (find (is_lot target) lots) ≡ []) first e))
   where
@@ -149,7 +149,7 @@ made_ids lots k id made here =
     among [] h = h
     among (x ∷ old) h = inr (among old h)
 
-no_empty_plan : (f : Fixed) (lots : List Lot) (k : CopyOp) → AreMade (copy_op k) lots → plan_of f lots (copy_op k) ≡ [] → ⊥
+no_empty_plan : (f : DriverConfig) (lots : List Lot) (k : CopyOp) → AreMade (copy_op k) lots → plan_of f lots (copy_op k) ≡ [] → ⊥
 no_empty_plan f lots k made e =
     let s = found_id source lots (made_ids lots k source made (inl refl)) in
     let t = found_id target lots (made_ids lots k target made (inr (inl refl))) in

@@ -15,7 +15,7 @@ use Rattle.nc_rules.specs.declared.steps.Turn.{Turn}
 use Rattle.nc_rules.specs.declared.steps.Turn.TheVariants as turns
 use Rattle.nc_rules.specs.Copies as copies
 use Rattle.nc_rules.specs.Copies.{source, target, copy_step, claim_step, back_steps, end_part, copy_steps, copy_steps_of}
-use Rattle.nc_rules.specs.Lots.{Fixed, is_lot, parts}
+use Rattle.nc_rules.specs.Lots.{DriverConfig, is_lot, parts}
 use Rattle.nc_rules.specs.Operations.{meaning, plan_of}
 use Rattle.nc_rules.specs.Plans.{hart_step, op_steps, turning, ending, carried, token_steps, lending_end, lend_steps, return_steps}
 use Rattle.nc_scripts.specs.Drivers.{IsEndName}
@@ -51,11 +51,11 @@ end_by : (lot : Lot) (light : Bool) → IsEndName lot.id → All TurnsEnds (if l
 end_by lot true end = All-cons TurnsEnds _ (_ ∷ []) (record { first = tt; last = tt }) (one _ (record { first = tt; last = tt }))
 end_by lot false end = one (turning (turns.Give lot.id) (hart_step full)) (record { first = tt; last = end })
 
-lend_turns : (f : Fixed) (lot : Lot) → IsEndName lot.id → All TurnsEnds (lend_steps f lot)
+lend_turns : (f : DriverConfig) (lot : Lot) → IsEndName lot.id → All TurnsEnds (lend_steps f lot)
 lend_turns f lot end =
     All-append TurnsEnds (op_steps (carried f.effects f.size (parts f lot))) (lending_end f lot) (quiet_turns (op_steps (carried f.effects f.size (parts f lot))) (carried_steps_quiet OfEnd f lot tt)) (end_by lot f.light end)
 
-back_turns : (f : Fixed) (lot : Lot) → IsEndName lot.id → All TurnsEnds (back_steps f lot)
+back_turns : (f : DriverConfig) (lot : Lot) → IsEndName lot.id → All TurnsEnds (back_steps f lot)
 back_turns f lot end =
     quiet_turns (back_steps f lot)
     (beginning_quiet OfEnd (turns.Return lot.id) (ending (turns.End lot.id) (return_steps f lot)) end (ending_quiet OfEnd (turns.End lot.id) (return_steps f lot) end (return_quiet OfEnd f lot tt)))
@@ -68,10 +68,10 @@ transfer_turns : (chan : ChanNo) (cs : List CopyStep) → All TurnsEnds (map (co
 transfer_turns chan [] = All-nil TurnsEnds
 transfer_turns chan (c ∷ cs) = All-cons TurnsEnds (copy_step chan c) (map (copy_step chan) cs) (copied_turns chan c) (transfer_turns chan cs)
 
-abbrev set_steps : Fixed → ChanNo → ℕ → Lot → Lot → List Step
+abbrev set_steps : DriverConfig → ChanNo → ℕ → Lot → Lot → List Step
 set_steps f chan cfg src dst = map (copy_step chan) (transfer chan (end_part f src) (end_part f dst) cfg)
 
-steps_turns : (f : Fixed) (chan : ChanNo) (cfg : ℕ) (src dst : Lot) → IsEndName src.id → IsEndName dst.id → All TurnsEnds (copy_steps f chan cfg src dst)
+steps_turns : (f : DriverConfig) (chan : ChanNo) (cfg : ℕ) (src dst : Lot) → IsEndName src.id → IsEndName dst.id → All TurnsEnds (copy_steps f chan cfg src dst)
 steps_turns f chan cfg src dst from to =
     let set = set_steps f chan cfg src dst in
     let lends = All-append TurnsEnds (lend_steps f src) (lend_steps f dst) (lend_turns f src from) (lend_turns f dst to) in
@@ -98,7 +98,7 @@ polls_right : (xs ys : List Step) → polls ys ≡ true → polls (xs ++ ys) ≡
 polls_right [] ys is = is
 polls_right (x ∷ xs) ys is = or_more (is_poll x.act) (polls (xs ++ ys)) (polls_right xs ys is)
 
-steps_poll : (f : Fixed) (chan : ChanNo) (cfg : ℕ) (src dst : Lot) → polls (copy_steps f chan cfg src dst) ≡ true
+steps_poll : (f : DriverConfig) (chan : ChanNo) (cfg : ℕ) (src dst : Lot) → polls (copy_steps f chan cfg src dst) ≡ true
 steps_poll f chan cfg src dst =
     let set = set_steps f chan cfg src dst in
     let run : polls ((lend_steps f src ++ lend_steps f dst) ++ set) ≡ true = polls_right (lend_steps f src ++ lend_steps f dst) set refl in
@@ -116,13 +116,13 @@ named_end id lots lot end e =
     let k = found (λ (l : Lot). Unit {0}) (is_lot id) lots lot (all_in (λ (l : Lot). Unit {0}) lots (λ l here. tt)) e in
     eqb-true lot.id.label.0 id.label.0 (and_parts (lot.id.label.0 == id.label.0) (lot.id.first == id.first) k.passes).0 ∙ end
 
-plan_by : (f : Fixed) (lots : List Lot) (k : CopyOp) (s t : Option Lot) (first : Step) (more : List Step) → find (is_lot source) lots ≡ s → find (is_lot target) lots ≡ t → first ∷ more ≡ copy_steps_of f k.chan k.config s t → IsCopyPlan (copy_steps_of f k.chan k.config s t)
+plan_by : (f : DriverConfig) (lots : List Lot) (k : CopyOp) (s t : Option Lot) (first : Step) (more : List Step) → find (is_lot source) lots ≡ s → find (is_lot target) lots ≡ t → first ∷ more ≡ copy_steps_of f k.chan k.config s t → IsCopyPlan (copy_steps_of f k.chan k.config s t)
 plan_by f lots k None t first more from to is = absurd cc
 plan_by f lots k (Some src) None first more from to is = absurd cc
 plan_by f lots k (Some src) (Some dst) first more from to is =
     record { turns = steps_turns f k.chan k.config src dst (named_end source lots src refl from) (named_end target lots dst refl to); polls = steps_poll f k.chan k.config src dst }
 
-pub copy_plan : (f : Fixed) (lots : List Lot) (k : CopyOp) (s : Step) (more : List Step) → s ∷ more ≡ plan_of f lots (copy_op k) → IsCopyPlan (s ∷ more)
+pub copy_plan : (f : DriverConfig) (lots : List Lot) (k : CopyOp) (s : Step) (more : List Step) → s ∷ more ≡ plan_of f lots (copy_op k) → IsCopyPlan (s ∷ more)
 unfolding plan_of meaning copies.copy
 copy_plan f lots k s more is =
     subst IsCopyPlan (sym is) (plan_by f lots k (find (is_lot source) lots) (find (is_lot target) lots) s more refl refl is)

@@ -18,7 +18,7 @@ use Rattle.nc_rules.specs.declared.records.Record.{Record}
 use Rattle.nc_rules.specs.declared.records.Record.TheVariants as records
 use Rattle.nc_rules.specs.declared.steps.Next.{Next}
 use Rattle.nc_rules.specs.declared.steps.Next.TheVariants as nexts
-use Rattle.nc_rules.specs.Calls.{fill_next, fill_answer, evict_next, evict_answer, chan_read_next, chan_read_told, chan_write_next, chan_write_told, leaving, drain_next}
+use Rattle.nc_rules.specs.Calls.{fill_next, fill_answer, evict_next, evict_answer, chan_read_next, chan_read_step, chan_write_next, chan_write_step, leaving, drain_next}
 use Rattle.nc_rules.specs.Driver.{Went, next_of, searching, is_script, lent}
 use Rattle.nc_rules.specs.Events.{enabled}
 use Rattle.nc_rules.specs.Machine.{MachineState}
@@ -26,7 +26,7 @@ use Rattle.nc_rules.specs.Next.{event_records}
 use Rattle.nc_rules.specs.Outcomes.{Outcome, goes, runs, at_word, leaves, outcome, step_outcome, start_outcome, op_outcome, claim_outcome, poll_outcome, take_outcome, try_outcome, told_outcome, drain_outcome}
 use Rattle.nc_rules.specs.Records.{touch_records, owner_records, back_records, answered, op_records, drain_records, answer_records, read_records, write_records, try_records, told_records}
 use Rattle.nc_rules.specs.Turns.{turned_by}
-use Rattle.nc_rules.specs.Watched.{drain_touch, transaction_touch}
+use Rattle.nc_rules.specs.EventTouches.{drain_touch, transaction_touch}
 use Rattle.nc_rules.specs.World.{WorldState, driver_of}
 use Rattle.nc_counts.proofs.Plain.{is_plain, ArePlain, plain_op, plain_drain, plain_answer, plain_read, plain_write, plain_backs}
 use Rattle.nc_refusals.specs.Refused.{maker}
@@ -161,10 +161,10 @@ outcome_answer w (events.Fill g b) h n a here =
 outcome_answer w (events.Evict g b) h n a here =
     let rs = answer_records w.machine.size (evict_answer w.machine g.0 b.0) in runs_answer w (evict_next w.machine g.0 b.0) None rs h n a (plain_none rs (plain_answer w.machine.size (evict_answer w.machine g.0 b.0))) here
 outcome_answer w (events.ChanRead chan) h n a here =
-    let t = chan_read_told w.machine chan.0 in
+    let t = chan_read_step w.machine chan.0 in
     runs_answer w (chan_read_next w.machine chan.0) (transaction_touch w chan Read t) (read_records chan t) h n a (plain_none (read_records chan t) (plain_read chan t)) here
 outcome_answer w (events.ChanWrite chan) h n a here =
-    let t = chan_write_told w.machine chan.0 in
+    let t = chan_write_step w.machine chan.0 in
     runs_answer w (chan_write_next w.machine chan.0) (transaction_touch w chan Write t) (write_records chan t) h n a (plain_none (write_records chan t) (plain_write chan t)) here
 
 -- the event may happen

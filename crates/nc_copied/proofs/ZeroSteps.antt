@@ -27,9 +27,9 @@ use Rattle.nc_rules.specs.declared.steps.Step.{Step}
 use Rattle.nc_rules.specs.declared.steps.Turn.TheVariants as turns
 use Rattle.nc_rules.specs.Driver.{DriverState, in_hand}
 use Rattle.nc_rules.specs.Handing.{hand_steps}
-use Rattle.nc_rules.specs.Lots.{Fixed, map_id, owner_of_side}
+use Rattle.nc_rules.specs.Lots.{DriverConfig, map_id, owner_of_side}
 use Rattle.nc_rules.specs.Turns.{is_area}
-use Rattle.nc_rules.specs.Watched.{owner_of}
+use Rattle.nc_rules.specs.EventTouches.{owner_of}
 use Rattle.nc_rules.specs.World.{WorldState, driver_of, hart}
 use Rattle.nc_scripts.specs.Drivers.{IsEndName, FitsKind}
 use Rattle.nc_flatness.specs.Copying.{IsItsOwn}
@@ -76,7 +76,7 @@ first_zeroes (s ∷ rest) = zeroes s.act
 claims_not : {A : Type 0} (s t : Step) (rest more : List Step) → s ∷ rest ≡ t ∷ more → zeroes s.act ≡ true → zeroes t.act ≡ false → A
 claims_not s t rest more same is off = absurd (false≢true (sym off ∙ sym (ap first_zeroes same) ∙ is))
 
-pub zero_step : (f : Fixed) (lots : List Lot) (s : Step) (rest : List Step) → zeroes s.act ≡ true → StepGoes f lots s rest → IsZero f lots s rest
+pub zero_step : (f : DriverConfig) (lots : List Lot) (s : Step) (rest : List Step) → zeroes s.act ≡ true → StepGoes f lots s rest → IsZero f lots s rest
 zero_step f lots s rest is (Zeroes z) = z
 zero_step f lots s rest is (Loads z) = zero_not s _ z.step is refl
 zero_step f lots s rest is (Stores z) = absurd (false≢true (ap zeroes (sym z.act) ∙ is))

@@ -24,8 +24,8 @@ use Rattle.nc_rules.specs.declared.steps.Next.{Next}
 use Rattle.nc_rules.specs.declared.steps.Next.TheVariants as nexts
 use Rattle.nc_rules.specs.declared.steps.Seen.TheVariants as seen
 use Rattle.nc_rules.specs.Machine.{MachineState, grantee_of}
-use Rattle.nc_rules.specs.Calls.{drain_next, leaving, issue_next, issue_answer, control_of, claim_next, take_next, fill_next, fill_answer, evict_next, evict_answer, chan_read_next, chan_read_told, chan_write_next, chan_write_told}
-use Rattle.nc_rules.specs.Watched.{issue_touch, poll_touch, drain_touch, transaction_touch}
+use Rattle.nc_rules.specs.Calls.{drain_next, leaving, issue_next, issue_answer, control_of, claim_next, take_next, fill_next, fill_answer, evict_next, evict_answer, chan_read_next, chan_read_step, chan_write_next, chan_write_step}
+use Rattle.nc_rules.specs.EventTouches.{issue_touch, poll_touch, drain_touch, transaction_touch}
 use Rattle.nc_rules.specs.Driver.{Went, next_of, searching, is_script, started, told, done, lent}
 use Rattle.nc_rules.specs.Records.{touch_records, op_records, drain_records, answer_records, read_records, write_records, try_records, told_records, owner_records, back_records, answered}
 use Rattle.nc_rules.specs.Outcomes.{Outcome, goes, runs, seen_of, claim_seen, got_word, told_slots, step_outcome, start_outcome, op_outcome, claim_outcome, poll_outcome, take_outcome, try_outcome, told_outcome, at_word, leaves, drain_outcome, outcome}
@@ -192,6 +192,6 @@ outcome_tells w (events.Drain h i) = drain_tells w h i (leaving w.machine h.0 i)
 outcome_tells w (events.Fill h b) = runs_tells w (fill_next w.machine h.0 b.0) None (answer_records w.machine.size (fill_answer w.machine h.0 b.0)) (plain_calm _ (plain_answer w.machine.size (fill_answer w.machine h.0 b.0)))
 outcome_tells w (events.Evict h b) = runs_tells w (evict_next w.machine h.0 b.0) None (answer_records w.machine.size (evict_answer w.machine h.0 b.0)) (plain_calm _ (plain_answer w.machine.size (evict_answer w.machine h.0 b.0)))
 outcome_tells w (events.ChanRead chan) =
-    runs_tells w (chan_read_next w.machine chan.0) (transaction_touch w chan Read (chan_read_told w.machine chan.0)) (read_records chan (chan_read_told w.machine chan.0)) (plain_calm _ (plain_read chan (chan_read_told w.machine chan.0)))
+    runs_tells w (chan_read_next w.machine chan.0) (transaction_touch w chan Read (chan_read_step w.machine chan.0)) (read_records chan (chan_read_step w.machine chan.0)) (plain_calm _ (plain_read chan (chan_read_step w.machine chan.0)))
 outcome_tells w (events.ChanWrite chan) =
-    runs_tells w (chan_write_next w.machine chan.0) (transaction_touch w chan Write (chan_write_told w.machine chan.0)) (write_records chan (chan_write_told w.machine chan.0)) (plain_calm _ (plain_write chan (chan_write_told w.machine chan.0)))
+    runs_tells w (chan_write_next w.machine chan.0) (transaction_touch w chan Write (chan_write_step w.machine chan.0)) (write_records chan (chan_write_step w.machine chan.0)) (plain_calm _ (plain_write chan (chan_write_step w.machine chan.0)))

@@ -5,7 +5,7 @@ use Rattle.nc_pte.specs.Words.{IsPteWord}
 use Rattle.nc_ops.specs.Fits.{FitsOp}
 use Rattle.nc_ops.specs.declared.ops.Op.{Op}
 use Rattle.nc_ops.specs.declared.ops.Op.TheVariants.{St, MapSg}
-use Rattle.nc_rules.specs.Lots.{Fixed}
+use Rattle.nc_rules.specs.Lots.{DriverConfig}
 use Rattle.nc_scripts.specs.Scripts.{IsRangeIn}
 use Rattle.nc_scripts.specs.Drivers.{IsFixed}
 use Rattle.nc_checks.specs.Safe.{IsSmall, IsShort, IsSafe}
@@ -28,7 +28,7 @@ wide_word ram word le is = record {
   in_ram = omega (arith, is.in_ram);
 }
 
-pub safe_of : (ram harts : ℕ) (f : Fixed) → IsFixed ram harts f → IsSafe f
+pub safe_of : (ram harts : ℕ) (f : DriverConfig) → IsFixed ram harts f → IsSafe f
 safe_of ram harts f is = record {
   sized = is.sized;
   zero_sized = is.zero_sized;
@@ -39,7 +39,7 @@ safe_of ram harts f is = record {
   script = λ k d lt. short_op harts (length f.buffers) _ (is.script k d lt);
 }
 
-pub fit_of : (ram harts : ℕ) (f : Fixed) → IsFixed ram harts f → IsFit f
+pub fit_of : (ram harts : ℕ) (f : DriverConfig) → IsFixed ram harts f → IsFit f
 fit_of ram harts f is = record {
   safe = safe_of ram harts f is;
   short = is.short;

@@ -18,7 +18,7 @@ use Rattle.nc_rules.specs.declared.steps.Step.{Step}
 use Rattle.nc_rules.specs.declared.answers.Answer.{Answer}
 use Rattle.nc_rules.specs.declared.steps.Turn.{Turn}
 use Rattle.nc_rules.specs.declared.steps.Turn.TheVariants as turns
-use Rattle.nc_rules.specs.Lots.{Fixed, some_lot_waits, slot_given}
+use Rattle.nc_rules.specs.Lots.{DriverConfig, some_lot_waits, slot_given}
 use Rattle.nc_rules.specs.Turns.{lots_after, lots_after_both, turned}
 use Rattle.nc_rules.specs.Operations.{has_start, begin, step_at, opening, plan_of}
 use Rattle.nc_rules.specs.Driver.{DriverState, Went, in_hand, next_of, next_of_op, next_in, next_rest, next_act, over, stands, stays, searches, kept, give_up, went_to, answered, opened, placed, with_lots, begun, refused_step, steps_done, started, started_of, told, told_of, told_in, missed, busy, stepped_to, step_answer, stepped, worked, done, done_of, done_unless, done_in}
@@ -27,7 +27,7 @@ use Rattle.nc_scripts.specs.Drivers.{AreThere, IsAtWork, IsPhase}
 use Rattle.nc_scripts.proofs.DriverLaws.{next_step_is, both_stay, stepped_to_fixed, went_fixed}
 use Rattle.nc_scripts.proofs.EveryDriver.{in_hand_is, step_of as step_of_script}
 use Rattle.nc_checks.specs.Due.{step_of, step_due}
-use Rattle.nc_driver.specs.Kept.{IsKept, IsDue, IsDueIn, IsSound, due_of}
+use Rattle.nc_driver.specs.Kept.{DriverInvariant, IsDue, IsDueIn, IsSound, due_of}
 use Rattle.nc_driver.specs.Rests.{is_more, made_first, made_last}
 
 -- ---- the operation in hand
@@ -120,7 +120,7 @@ steps_start d o (Steps n) h e = (n, refl)
 steps_start d o (Search k) h e = absurd (cc)
 steps_start d o Work h e = absurd (next_rest_not d.rest h.some e)
 
-pub start_at : (d : DriverState) (o : Op) → IsKept d → in_hand d ≡ Some o → next_of d ≡ nexts.Start → (n : ℕ) × (d.phase ≡ Steps n)
+pub start_at : (d : DriverState) (o : Op) → DriverInvariant d → in_hand d ≡ Some o → next_of d ≡ nexts.Start → (n : ℕ) × (d.phase ≡ Steps n)
 unfolding next_of
 start_at d o k e start = steps_start d o d.phase k.driver.phase (subst (λ (x : Option Op). next_of_op d x ≡ nexts.Start) e start)
 
@@ -132,7 +132,7 @@ due_in d n Work due e at = absurd (cc)
 pub due_at : (d : DriverState) (n : ℕ) (due : Result (Option Step) Refusal) → d.phase ≡ Steps n → IsDue d due → due ≡ step_due d.fixed d.lots d.op n
 due_at d n due e at = due_in d n d.phase due e at
 
-pub due_start : (d : DriverState) (o : Op) (due : Result (Option Step) Refusal) → IsKept d → in_hand d ≡ Some o → next_of d ≡ nexts.Start → IsDue d due → due_of d ≡ due
+pub due_start : (d : DriverState) (o : Op) (due : Result (Option Step) Refusal) → DriverInvariant d → in_hand d ≡ Some o → next_of d ≡ nexts.Start → IsDue d due → due_of d ≡ due
 due_start d o due k e start at =
     let s = start_at d o k e start in
     ap (λ (p : Phase). step_due d.fixed d.lots d.op (steps_done p)) s.1 ∙ sym (due_at d s.0 due s.1 at)
@@ -206,7 +206,7 @@ pub record IsMade (d : DriverState) (n : ℕ) : Type 0 where
   pub few : n < 4096
   pub lots : lots_after_both step.first step.last d.lots ≡ d.lots
 
-pub made_at : (d : DriverState) (o : Op) (n : ℕ) → IsKept d → d.phase ≡ Steps n → in_hand d ≡ Some o → is_act (next_of d) ≡ true → IsMade d n
+pub made_at : (d : DriverState) (o : Op) (n : ℕ) → DriverInvariant d → d.phase ≡ Steps n → in_hand d ≡ Some o → is_act (next_of d) ≡ true → IsMade d n
 made_at d o n k p e act =
     let s = next_step_is d o n (subst (λ (q : Phase). is_act (next_in d o q) ≡ true) p (act_in d o e act)) in
     let is = step_of_script k.ram k.harts d o n s.0 k.driver (in_hand_is k.ram k.harts d o k.driver.fixed e) s.1 in
@@ -242,7 +242,7 @@ pub step_there : (d : DriverState) (o : Op) (n : ℕ) (saw : Seen) (due after : 
 step_there d o n saw due after t u a m e b k first last is sound =
     let s = subst (λ (w : Went). IsSound w) (step_done d o n saw due after m e b k) sound in
     let fixed = stepped_to_fixed d (n + 1) d.lots saw after in
-    (s.ram, rw (first, last, is) (subst (λ (f : Fixed). AreThere s.ram f (turned d.fixed d.lots (made_first due) (made_last due) (step_answer d o saw after))) fixed s.moves))
+    (s.ram, rw (first, last, is) (subst (λ (f : DriverConfig). AreThere s.ram f (turned d.fixed d.lots (made_first due) (made_last due) (step_answer d o saw after))) fixed s.moves))
 
 pub more_left : (d : DriverState) (n : ℕ) (lots : List Lot) (saw : Seen) (step : Result (Option Step) Refusal) → is_more step ≡ true → stepped_to d n lots saw step ≡ stands d (Steps n) [] lots saw
 more_left d n lots saw (Err r) m = refl
@@ -273,7 +273,7 @@ work_in d (Steps n) e h = absurd (cc)
 work_in d (Search k) e h = absurd (cc)
 work_in d Work e h = h
 
-pub at_work : (d : DriverState) → IsKept d → d.phase ≡ Work → IsAtWork d
+pub at_work : (d : DriverState) → DriverInvariant d → d.phase ≡ Work → IsAtWork d
 at_work d k e = work_in d d.phase e k.driver.phase
 
 pub work_there : (d : DriverState) (o : Op) (saw : Seen) (s : Step) (a : Option Answer) → 0 < length d.rest → s ≡ slice_index_or d.rest 0 s → a ≡ answered d o saw (drop 1 d.rest) → IsSound (worked d o saw d.rest)
@@ -281,13 +281,13 @@ pub work_there : (d : DriverState) (o : Op) (saw : Seen) (s : Step) (a : Option 
 work_there d o saw s a some first is sound =
     let k = subst (λ (w : Went). IsSound w) (work_done d o saw s (drop 1 d.rest) (first_is d.rest s some first)) sound in
     let fixed = went_fixed d (lots_after_both s.first s.last d.lots) saw (drop 1 d.rest) in
-    (k.ram, rw is (subst (λ (f : Fixed). AreThere k.ram f (turned d.fixed d.lots s.first s.last (answered d o saw (drop 1 d.rest)))) fixed k.moves))
+    (k.ram, rw is (subst (λ (f : DriverConfig). AreThere k.ram f (turned d.fixed d.lots s.first s.last (answered d o saw (drop 1 d.rest)))) fixed k.moves))
 
 -- what an opening moves is there
 pub open_there : (d : DriverState) (o : Op) (t : Turn) (a : Option Answer) → t ≡ opening d.fixed d.lots o → a ≡ answered d o d.saw (plan_of d.fixed d.lots o) → IsSound (opened d o) → (ram : ℕ) × AreThere ram d.fixed (turned d.fixed d.lots t turns.Stay a)
 open_there d o t a first is k =
     let fixed = went_fixed d (lots_after (opening d.fixed d.lots o) d.lots) d.saw (plan_of d.fixed d.lots o) in
-    (k.ram, rw (first, is) (subst (λ (f : Fixed). AreThere k.ram f (turned d.fixed d.lots (opening d.fixed d.lots o) turns.Stay (answered d o d.saw (plan_of d.fixed d.lots o)))) fixed k.moves))
+    (k.ram, rw (first, is) (subst (λ (f : DriverConfig). AreThere k.ram f (turned d.fixed d.lots (opening d.fixed d.lots o) turns.Stay (answered d o d.saw (plan_of d.fixed d.lots o)))) fixed k.moves))
 
 -- ---- the lots before a step are of no account behind it
 

@@ -7,14 +7,14 @@ use Rattle.nc_rules.specs.declared.lots.Lot.{Lot}
 use Rattle.nc_rules.specs.declared.steps.Phase.{Phase}
 use Rattle.nc_rules.specs.declared.steps.Phase.TheVariants.{Steps, Search, Work}
 use Rattle.nc_rules.specs.declared.steps.Step.{Step}
-use Rattle.nc_rules.specs.Lots.{Fixed, lot_waits}
+use Rattle.nc_rules.specs.Lots.{DriverConfig, lot_waits}
 use Rattle.nc_rules.specs.Driver.{DriverState, Went, steps_done}
 use Rattle.nc_scripts.specs.Drivers.{IsDriver, AreThere}
 use Rattle.nc_checks.specs.Due.{step_due}
 use Rattle.nc_checks.specs.Safe.{IsSafe}
 use Rattle.nc_driver.specs.declared.course.Course.{Course}
 
-pub record IsKept (d : DriverState) : Type 0 where
+pub record DriverInvariant (d : DriverState) : Type 0 where
   pub ram : ℕ
   pub harts : ℕ
   pub driver : IsDriver ram harts d
@@ -34,7 +34,7 @@ abbrev pub IsDue : DriverState → Result (Option Step) Refusal → Type 0
 IsDue d due = IsDueIn d d.phase due
 
 pub record IsReady (d : DriverState) (step : Result (Option Step) Refusal) : Type 0 where
-  pub kept : IsKept d
+  pub kept : DriverInvariant d
   pub due : IsDue d step
 
 -- ---- what the code needs
@@ -44,7 +44,7 @@ abbrev pub state : Course → DriverState
 state c = record { fixed = c.setup; op = c.op; phase = c.phase; rest = c.rest.items; lots = c.lots.items; saw = c.saw }
 
 -- what is known from the start
-pub record IsFit (f : Fixed) : Type 0 where
+pub record IsFit (f : DriverConfig) : Type 0 where
   pub safe : IsSafe f
   pub short : length f.script ≤ 4096
   pub slots : f.slots ≤ 64

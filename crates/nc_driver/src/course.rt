@@ -10,7 +10,7 @@ ghost use Rattle.nc_driver.specs.Kept.{state, IsReady, IsDue, IsFit, ArePlaced};
 ghost use Rattle.nc_driver.specs.Rests.{is_nil};
 
 use crate::coming::{next_rest, next_step};
-use nc_checks::{Setup, has_start};
+use nc_checks::{DriverConfig, has_start};
 use nc_num::{HartNo, NoMemory};
 use nc_rules::{Lot, Next, Phase, Refusal, Seen, Step};
 use nc_scen::{Op, Scenario};
@@ -23,7 +23,7 @@ use std::collections::VecDeque;
 #[derive(Drop)]
 pub(crate) struct Course {
     pub(crate) alloc: Global,
-    pub(crate) setup: Setup,
+    pub(crate) setup: DriverConfig,
     pub(crate) op: u32,
     pub(crate) phase: Phase,
     pub(crate) rest: VecDeque<Step>,
@@ -41,7 +41,7 @@ impl Course {
         ensures state { IfOk result (λ c. state c ≡ first_driver sc.now me) }
         ensures ready { IfOk result (λ c. IsReady (state c) c.due) }
     {
-        let setup = Setup::of(alloc, me, sc)?;
+        let setup = DriverConfig::of(alloc, me, sc)?;
         let lots = Vec::new(alloc);
         let due = setup.step_due(&lots, 0, 0);
         Ok(Course {

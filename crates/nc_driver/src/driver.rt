@@ -8,8 +8,8 @@ ghost use Rattle.nc_rules.specs.Lots.{lot_id};
 ghost use Rattle.nc_rules.specs.Start.{first_driver};
 ghost use Rattle.nc_scripts.specs.Scripts.{is_act};
 ghost use Rattle.nc_scripts.specs.Drivers.{ArePagesOf, IsSeenAt, IsLentAt};
-ghost use Rattle.nc_driver.specs.Kept.{IsKept, IsOver};
-ghost use Rattle.nc_moves.specs.Shown.{seen_as};
+ghost use Rattle.nc_driver.specs.Kept.{DriverInvariant, IsOver};
+ghost use Rattle.nc_moves.specs.MovesView.{moves_view};
 
 use crate::course::Course;
 use nc_coherent::PagePool;
@@ -55,14 +55,14 @@ impl Driver {
     /// What the driver does next. It takes no memory and changes nothing.
     pub fn next(&self, _book: &Book) -> Next
         ensures next { result ≡ due.next_of self.now }
-        ensures there { IsKept self.now }
+        ensures there { DriverInvariant self.now }
     {
         self.course.next()
     }
 
     /// Does nothing: its clause says that every driver is one of an accepted scenario.
     pub fn sound(&self)
-        ensures { IsKept self.now }
+        ensures { DriverInvariant self.now }
     {
         let _course = &self.course;
     }
@@ -116,7 +116,7 @@ impl Driver {
         requires book { IsOver book.now.owners self.old }
         requires pages { ArePagesOf self.old.fixed pages.now }
         ensures driver { IfOk result (λ m. self.new ≡ (due.started self.old book.now.owners pages.now).driver) }
-        ensures moves { IfOk result (λ m. seen_as m ≡ (due.started self.old book.now.owners pages.now).moves) }
+        ensures moves { IfOk result (λ m. moves_view m ≡ (due.started self.old book.now.owners pages.now).moves) }
         ensures fixed { self.new.fixed ≡ self.old.fixed }
         ensures err { OnErr result (self.new ≡ self.old) }
     {
@@ -127,7 +127,7 @@ impl Driver {
     /// want of memory, and the driver is as before.
     pub fn told(&mut self, got: bool) -> Result<Moves, NoMemory>
         ensures driver { IfOk result (λ m. self.new ≡ (due.told self.old got).driver) }
-        ensures moves { IfOk result (λ m. seen_as m ≡ (due.told self.old got).moves) }
+        ensures moves { IfOk result (λ m. moves_view m ≡ (due.told self.old got).moves) }
         ensures fixed { self.new.fixed ≡ self.old.fixed }
         ensures err { OnErr result (self.new ≡ self.old) }
     {
@@ -140,7 +140,7 @@ impl Driver {
         requires next { is_act (due.next_of self.old) ≡ true }
         requires seen { IsSeenAt (due.next_of self.old) seen }
         ensures driver { IfOk result (λ m. self.new ≡ (due.done self.old seen).driver) }
-        ensures moves { IfOk result (λ m. seen_as m ≡ (due.done self.old seen).moves) }
+        ensures moves { IfOk result (λ m. moves_view m ≡ (due.done self.old seen).moves) }
         ensures fixed { self.new.fixed ≡ self.old.fixed }
         ensures err { OnErr result (self.new ≡ self.old) }
     {
@@ -152,7 +152,7 @@ impl Driver {
     pub fn lent(&mut self, label: Label, first: u8, count: u8) -> Result<Moves, NoMemory>
         requires lent { IsLentAt self.old.lots (lot_id label first) }
         ensures driver { IfOk result (λ m. self.new ≡ (due.lent self.old label first).driver) }
-        ensures moves { IfOk result (λ m. seen_as m ≡ (due.lent self.old label first).moves) }
+        ensures moves { IfOk result (λ m. moves_view m ≡ (due.lent self.old label first).moves) }
         ensures fixed { self.new.fixed ≡ self.old.fixed }
         ensures err { OnErr result (self.new ≡ self.old) }
     {

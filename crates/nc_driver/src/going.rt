@@ -10,7 +10,7 @@ ghost use Rattle.nc_rules.specs.Turns.{lots_after_both, turned};
 ghost use Rattle.nc_scripts.specs.Scripts.{is_act};
 ghost use Rattle.nc_scripts.specs.Drivers.{AreThere, IsSeenAt, IsLentAt};
 ghost use Rattle.nc_checks.specs.Due.{step_due};
-ghost use Rattle.nc_moves.specs.Shown.{seen_as};
+ghost use Rattle.nc_moves.specs.MovesView.{moves_view};
 ghost use Rattle.nc_driver.specs.Kept.{state, IsReady, IsDue, IsFit, ArePlaced, AreNamed, IsSound};
 ghost use Rattle.nc_driver.specs.Rests.{made_first, made_last};
 
@@ -29,7 +29,7 @@ impl Course {
         requires next { is_act (due.next_of (state self.old)) ≡ true }
         requires seen { IsSeenAt (due.next_of (state self.old)) seen }
         ensures driver { IfOk result (λ m. state self.new ≡ (due.done (state self.old) seen).driver) }
-        ensures moves { IfOk result (λ m. seen_as m ≡ (due.done (state self.old) seen).moves) }
+        ensures moves { IfOk result (λ m. moves_view m ≡ (due.done (state self.old) seen).moves) }
         ensures err { OnErr result (state self.new ≡ state self.old) }
         ensures due { IsDue (state self.new) self.new.due }
     {
@@ -51,7 +51,7 @@ impl Course {
         requires next { is_act (due.next_of (state self.old)) ≡ true }
         requires sound { (o : Op) → due.in_hand (state self.old) ≡ Some o → IsSound (due.done_in (state self.old) o saw (Steps n)) }
         ensures driver { (o : Op) → due.in_hand (state self.old) ≡ Some o → IfOk result (λ m. state self.new ≡ (due.done_in (state self.old) o saw (Steps n)).driver) }
-        ensures moves { (o : Op) → due.in_hand (state self.old) ≡ Some o → IfOk result (λ m. seen_as m ≡ (due.done_in (state self.old) o saw (Steps n)).moves) }
+        ensures moves { (o : Op) → due.in_hand (state self.old) ≡ Some o → IfOk result (λ m. moves_view m ≡ (due.done_in (state self.old) o saw (Steps n)).moves) }
         ensures err { OnErr result (state self.new ≡ state self.old) }
         ensures due { IsDue (state self.new) self.new.due }
     {
@@ -105,7 +105,7 @@ impl Course {
         requires named { AreNamed self.old.lots.items }
         requires sound { (o : Op) → due.in_hand (state self.old) ≡ Some o → IsSound (due.worked (state self.old) o saw self.old.rest.items) }
         ensures driver { (o : Op) → due.in_hand (state self.old) ≡ Some o → IfOk result (λ m. state self.new ≡ (due.worked (state self.old) o saw self.old.rest.items).driver) }
-        ensures moves { (o : Op) → due.in_hand (state self.old) ≡ Some o → IfOk result (λ m. seen_as m ≡ (due.worked (state self.old) o saw self.old.rest.items).moves) }
+        ensures moves { (o : Op) → due.in_hand (state self.old) ≡ Some o → IfOk result (λ m. moves_view m ≡ (due.worked (state self.old) o saw self.old.rest.items).moves) }
         ensures err { OnErr result (state self.new ≡ state self.old) }
         ensures due { IsDue (state self.new) self.new.due }
     {
@@ -143,7 +143,7 @@ impl Course {
         requires fit { IsFit self.now.setup }
         requires named { AreNamed self.now.lots.items }
         requires few { (ram : ℕ) × AreThere ram self.now.setup (turned self.now.setup self.now.lots.items first last answer) }
-        ensures { IfOk result (λ m. seen_as m ≡ turned self.now.setup self.now.lots.items first last answer) }
+        ensures { IfOk result (λ m. moves_view m ≡ turned self.now.setup self.now.lots.items first last answer) }
     {
         let setup = &self.setup;
         Moves::turn(
@@ -162,7 +162,7 @@ impl Course {
         requires ready { IsReady (state self.old) self.old.due }
         requires lent { IsLentAt self.old.lots.items (lot_id label first) }
         ensures driver { IfOk result (λ m. state self.new ≡ (due.lent (state self.old) label first).driver) }
-        ensures moves { IfOk result (λ m. seen_as m ≡ (due.lent (state self.old) label first).moves) }
+        ensures moves { IfOk result (λ m. moves_view m ≡ (due.lent (state self.old) label first).moves) }
         ensures err { OnErr result (state self.new ≡ state self.old) }
         ensures due { IsDue (state self.new) self.new.due }
     {

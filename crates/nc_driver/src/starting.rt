@@ -7,7 +7,7 @@ ghost use Rattle.nc_rules.specs.Driver as due;
 ghost use Rattle.nc_rules.specs.Lots.{some_lot_waits, slot_given};
 ghost use Rattle.nc_rules.specs.Operations as rules;
 ghost use Rattle.nc_scripts.specs.Drivers.{ArePagesOf};
-ghost use Rattle.nc_moves.specs.Shown.{seen_as};
+ghost use Rattle.nc_moves.specs.MovesView.{moves_view};
 ghost use Rattle.nc_planned.specs.Lenders.{lender_of};
 ghost use Rattle.nc_driver.specs.Kept.{state, IsReady, IsDue, IsFit, ArePlaced, AreNamed, IsSound, IsOver};
 
@@ -31,7 +31,7 @@ impl Course {
         requires book { IsOver book.now.owners (state self.old) }
         requires pages { ArePagesOf self.old.setup pages.now }
         ensures driver { IfOk result (λ m. state self.new ≡ (due.started (state self.old) book.now.owners pages.now).driver) }
-        ensures moves { IfOk result (λ m. seen_as m ≡ (due.started (state self.old) book.now.owners pages.now).moves) }
+        ensures moves { IfOk result (λ m. moves_view m ≡ (due.started (state self.old) book.now.owners pages.now).moves) }
         ensures err { OnErr result (state self.new ≡ state self.old) }
         ensures due { IsDue (state self.new) self.new.due }
     {
@@ -56,7 +56,7 @@ impl Course {
         requires book { IsOver book.now.owners (state self.old) }
         requires pages { ArePagesOf self.old.setup pages.now }
         ensures driver { (o : Op) → due.in_hand (state self.old) ≡ Some o → IfOk result (λ m. state self.new ≡ (due.started (state self.old) book.now.owners pages.now).driver) }
-        ensures moves { (o : Op) → due.in_hand (state self.old) ≡ Some o → IfOk result (λ m. seen_as m ≡ (due.started (state self.old) book.now.owners pages.now).moves) }
+        ensures moves { (o : Op) → due.in_hand (state self.old) ≡ Some o → IfOk result (λ m. moves_view m ≡ (due.started (state self.old) book.now.owners pages.now).moves) }
         ensures err { OnErr result (state self.new ≡ state self.old) }
         ensures due { IsDue (state self.new) self.new.due }
     {
@@ -78,7 +78,7 @@ impl Course {
         requires named { AreNamed (self.old.lots.items ++ new.items) }
         requires sound { (o : Op) → due.in_hand (state self.old) ≡ Some o → IsSound (due.placed (due.with_lots (state self.old) (self.old.lots.items ++ new.items)) o) }
         ensures driver { (o : Op) → due.in_hand (state self.old) ≡ Some o → IfOk result (λ m. state self.new ≡ (due.placed (due.with_lots (state self.old) (self.old.lots.items ++ new.items)) o).driver) }
-        ensures moves { (o : Op) → due.in_hand (state self.old) ≡ Some o → IfOk result (λ m. seen_as m ≡ (due.placed (due.with_lots (state self.old) (self.old.lots.items ++ new.items)) o).moves) }
+        ensures moves { (o : Op) → due.in_hand (state self.old) ≡ Some o → IfOk result (λ m. moves_view m ≡ (due.placed (due.with_lots (state self.old) (self.old.lots.items ++ new.items)) o).moves) }
         ensures err { OnErr result (state self.new ≡ state self.old) }
         ensures due { IsDue (state self.new) self.new.due }
     {
@@ -100,7 +100,7 @@ impl Course {
         requires named { AreNamed self.old.lots.items }
         requires sound { (o : Op) → due.in_hand (state self.old) ≡ Some o → IsSound (due.placed (state self.old) o) }
         ensures driver { (o : Op) → due.in_hand (state self.old) ≡ Some o → IfOk result (λ m. state self.new ≡ (due.placed (state self.old) o).driver) }
-        ensures moves { (o : Op) → due.in_hand (state self.old) ≡ Some o → IfOk result (λ m. seen_as m ≡ (due.placed (state self.old) o).moves) }
+        ensures moves { (o : Op) → due.in_hand (state self.old) ≡ Some o → IfOk result (λ m. moves_view m ≡ (due.placed (state self.old) o).moves) }
         ensures err { OnErr result (state self.new ≡ state self.old) }
         ensures err_due { OnErr result (self.new.due ≡ self.old.due) }
         ensures due { OnOk result (IsDue (state self.new) self.new.due) }
@@ -120,7 +120,7 @@ impl Course {
         requires named { AreNamed self.old.lots.items }
         requires sound { (o : Op) → due.in_hand (state self.old) ≡ Some o → IsSound (due.opened (state self.old) o) }
         ensures driver { (o : Op) → due.in_hand (state self.old) ≡ Some o → IfOk result (λ m. state self.new ≡ (due.opened (state self.old) o).driver) }
-        ensures moves { (o : Op) → due.in_hand (state self.old) ≡ Some o → IfOk result (λ m. seen_as m ≡ (due.opened (state self.old) o).moves) }
+        ensures moves { (o : Op) → due.in_hand (state self.old) ≡ Some o → IfOk result (λ m. moves_view m ≡ (due.opened (state self.old) o).moves) }
         ensures err { OnErr result (state self.new ≡ state self.old) }
         ensures err_due { OnErr result (self.new.due ≡ self.old.due) }
         ensures due { OnOk result (IsDue (state self.new) self.new.due) }
@@ -169,7 +169,7 @@ impl Course {
         requires here { self.old.op < length self.old.setup.script }
         requires sound { (o : Op) → due.in_hand (state self.old) ≡ Some o → IsSound (due.give_up (state self.old) o refusal) }
         ensures driver { (o : Op) → due.in_hand (state self.old) ≡ Some o → IfOk result (λ m. state self.new ≡ (due.give_up (state self.old) o refusal).driver) }
-        ensures moves { (o : Op) → due.in_hand (state self.old) ≡ Some o → IfOk result (λ m. seen_as m ≡ (due.give_up (state self.old) o refusal).moves) }
+        ensures moves { (o : Op) → due.in_hand (state self.old) ≡ Some o → IfOk result (λ m. moves_view m ≡ (due.give_up (state self.old) o refusal).moves) }
         ensures err { OnErr result (state self.new ≡ state self.old) }
         ensures err_due { OnErr result (self.new.due ≡ self.old.due) }
         ensures due { OnOk result (IsDue (state self.new) self.new.due) }
@@ -188,7 +188,7 @@ impl Course {
     pub(crate) fn told(&mut self, got: bool) -> Result<Moves, NoMemory>
         requires ready { IsReady (state self.old) self.old.due }
         ensures driver { IfOk result (λ m. state self.new ≡ (due.told (state self.old) got).driver) }
-        ensures moves { IfOk result (λ m. seen_as m ≡ (due.told (state self.old) got).moves) }
+        ensures moves { IfOk result (λ m. moves_view m ≡ (due.told (state self.old) got).moves) }
         ensures err { OnErr result (state self.new ≡ state self.old) }
         ensures due { IsDue (state self.new) self.new.due }
     {
@@ -214,7 +214,7 @@ impl Course {
         requires named { AreNamed (slot_given k self.old.lots.items) }
         requires sound { (o : Op) → due.in_hand (state self.old) ≡ Some o → IsSound (due.placed (due.with_lots (state self.old) (slot_given k self.old.lots.items)) o) }
         ensures driver { (o : Op) → due.in_hand (state self.old) ≡ Some o → IfOk result (λ m. state self.new ≡ (due.placed (due.with_lots (state self.old) (slot_given k self.old.lots.items)) o).driver) }
-        ensures moves { (o : Op) → due.in_hand (state self.old) ≡ Some o → IfOk result (λ m. seen_as m ≡ (due.placed (due.with_lots (state self.old) (slot_given k self.old.lots.items)) o).moves) }
+        ensures moves { (o : Op) → due.in_hand (state self.old) ≡ Some o → IfOk result (λ m. moves_view m ≡ (due.placed (due.with_lots (state self.old) (slot_given k self.old.lots.items)) o).moves) }
         ensures err { OnErr result (state self.new ≡ state self.old) }
         ensures due { IsDue (state self.new) self.new.due }
     {
@@ -236,7 +236,7 @@ impl Course {
         requires slot { k < 64 }
         requires sound { (o : Op) → due.in_hand (state self.old) ≡ Some o → IsSound (due.missed (state self.old) o k) }
         ensures driver { (o : Op) → due.in_hand (state self.old) ≡ Some o → IfOk result (λ m. state self.new ≡ (due.missed (state self.old) o k).driver) }
-        ensures moves { (o : Op) → due.in_hand (state self.old) ≡ Some o → IfOk result (λ m. seen_as m ≡ (due.missed (state self.old) o k).moves) }
+        ensures moves { (o : Op) → due.in_hand (state self.old) ≡ Some o → IfOk result (λ m. moves_view m ≡ (due.missed (state self.old) o k).moves) }
         ensures err { OnErr result (state self.new ≡ state self.old) }
         ensures due { IsDue (state self.new) self.new.due }
     {

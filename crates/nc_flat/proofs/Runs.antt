@@ -26,7 +26,7 @@ use Rattle.nc_rules.specs.Next.{next, event_records}
 use Rattle.nc_rules.specs.Run.{after}
 use Rattle.nc_rules.specs.Start.{memory}
 use Rattle.nc_rules.specs.View.{middle, view, seen}
-use Rattle.nc_rules.specs.Watched.{owner_of}
+use Rattle.nc_rules.specs.EventTouches.{owner_of}
 use Rattle.nc_rules.specs.World.{WorldState, start}
 use Rattle.nc_rows.specs.Places.{given, ThreadRow, PoolRow}
 use Rattle.nc_rows.specs.Rows.{Book, Loan, SyncedRow, Row}

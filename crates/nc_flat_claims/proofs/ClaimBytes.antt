@@ -26,11 +26,11 @@ use Rattle.nc_rules.specs.Copies.{source, target}
 use Rattle.nc_rules.specs.Driver.{DriverState, Went, stands}
 use Rattle.nc_rules.specs.declared.steps.Phase.TheVariants.{Work}
 use Rattle.nc_rules.specs.declared.steps.Seen.TheVariants as seen
-use Rattle.nc_rules.specs.Lots.{Fixed, is_lot, map_id, owner_of_side}
+use Rattle.nc_rules.specs.Lots.{DriverConfig, is_lot, map_id, owner_of_side}
 use Rattle.nc_rules.specs.Machine.{MachineState, hart_of}
 use Rattle.nc_rules.specs.Outcomes.{goes, outcome}
 use Rattle.nc_rules.specs.Turns.{of_those, to_side, lots_after_both}
-use Rattle.nc_rules.specs.Watched.{owner_of}
+use Rattle.nc_rules.specs.EventTouches.{owner_of}
 use Rattle.nc_rules.specs.World.{WorldState, driver_of, owners_moved}
 use Rattle.nc_scripts.proofs.LotLaws.{its_name}
 use Rattle.nc_holds.proofs.ListsA.{of_append}
@@ -120,7 +120,7 @@ claimed_bytes sc f w h o s rest m went k next free lent is =
     let fixed : went.driver.fixed ≡ fx = ap (λ (j : DriverState). j.fixed) lent.driver in
     let lots : went.driver.lots ≡ both_lent d.lots = ap (λ (j : DriverState). j.lots) lent.driver in
     let left : went.driver.rest ≡ rest = ap (λ (j : DriverState). j.rest) lent.driver in
-    let me : went.driver.fixed.me ≡ h = ap (λ (x : Fixed). x.me) fixed ∙ me_of w h (its_holds sc f w h o s rest k).me in
+    let me : went.driver.fixed.me ≡ h = ap (λ (x : DriverConfig). x.me) fixed ∙ me_of w h (its_holds sc f w h o s rest k).me in
     let place_so : (i : ℕ) (e : Entry) (x : ℕ) → IsPlace both i e x → EndPlace h c.reads c.writes i e x = λ i e x place. end_place h c.reads c.writes a i e x place in
     let end : (lot : Lot) → (lot ≡ c.reads) ⊎ (lot ≡ c.writes) → IsEndLot sc f w h rest went lot = λ lot which. its_end sc f w h o s rest went lot k lent which in
     let known : (lot : Lot) (e : Entry) → (lot ≡ c.reads) ⊎ (lot ≡ c.writes) → slice_get lot.list.entries 0 ≡ Some e → (book_of v).loan (map_id h lot.id 0) ≡ Some (loan_for fx h lot 0 e) =
@@ -130,7 +130,7 @@ claimed_bytes sc f w h o s rest m went k next free lent is =
     loan_hart w h m went (map_id h lot.id 0) lt refl
     ∙ loan_here went.driver.fixed h went.driver.lots now 0 e (record { lot_in = g.behind; entry = there }) refl
     (λ other here named. entry_one (length m.cache.ram) went.driver.fixed went.driver.lots other now (map_id h lot.id 0) b.there b.names here g.behind named (own_entry h now 0 e there))
-    ∙ ap (λ (x : Fixed). Some (loan_for x h lot 0 e)) fixed in
+    ∙ ap (λ (x : DriverConfig). Some (loan_for x h lot 0 e)) fixed in
     let rest_now : (book_of v).rest h.0 ≡ rest = rest_hart w h m went h.0 lt refl ∙ left in
     let on : (i : ℕ) (e : Entry) (x : ℕ) → IsPlace both i e x → owner_in (owners_moved w.owners went.moves.transfers) x ≡ Lending (map_id h both.id i) =
     λ i e x place.
@@ -174,7 +174,7 @@ claimed_bytes sc f w h o s rest m went k next free lent is =
       drives = subst (λ (j : DriverState). Drives j) (sym lent.driver) (its_drives sc f w h o s rest k);
       lasting = last_none (book_of v) f h.0 (hart_of m h.0).last (rest_last went.driver.rest) (ap rest_last left ∙ c.next);
       queue = claim_queued sc f w h o s rest m (book_of v) (owner_of v) k next;
-      tokens = λ light. absurd (both_ways fx.light (its_full sc f w h o s rest k) (sym (ap (λ (x : Fixed). x.light) fixed) ∙ light));
+      tokens = λ light. absurd (both_ways fx.light (its_full sc f w h o s rest k) (sym (ap (λ (x : DriverConfig). x.light) fixed) ∙ light));
       passes = λ x u there unslotted beside off row. stays_row (book_of w) (owner_of w x) u w.machine m x next.shape next.stays row;
       lies = λ i e x n there place mapped.
           let p = place_so i e x place in

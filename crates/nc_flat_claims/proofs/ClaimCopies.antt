@@ -23,10 +23,10 @@ use Rattle.nc_rules.specs.declared.steps.Step.{Step}
 use Rattle.nc_rules.specs.declared.steps.Turn.TheVariants as turns
 use Rattle.nc_rules.specs.Copies.{source, target}
 use Rattle.nc_rules.specs.Driver.{DriverState, Went, in_hand}
-use Rattle.nc_rules.specs.Lots.{Fixed, is_lot, no_entry, only_entry}
+use Rattle.nc_rules.specs.Lots.{DriverConfig, is_lot, no_entry, only_entry}
 use Rattle.nc_rules.specs.Machine.{MachineState, queue_of, channel_of, grantee_of}
 use Rattle.nc_rules.specs.Refusals.{part_of}
-use Rattle.nc_rules.specs.Watched.{owner_of}
+use Rattle.nc_rules.specs.EventTouches.{owner_of}
 use Rattle.nc_rules.specs.World.{WorldState, driver_of}
 use Rattle.nc_scripts.proofs.LotLaws.{its_name}
 use Rattle.nc_scripts.proofs.LotMoves.{IsPartIn, entry_part}
@@ -56,7 +56,7 @@ ok_by false x r e is = absurd cc
 part_long : (range : Span) (off len : ℕ) (r : Span) → part_of range off len ≡ Ok r → r.len ≡ len
 part_long range off len r is = sym (ap (λ (s : Span). s.len) (ok_by (nat_le (off + len) range.len) (record { at = range.at + off; len = len }) r _ is))
 
-device_by : (f : Fixed) (e : Entry) (t : Bool) → e.bounced ≡ t → (device_of f e).len ≡ e.span.len
+device_by : (f : DriverConfig) (e : Entry) (t : Bool) → e.bounced ≡ t → (device_of f e).len ≡ e.span.len
 device_by f e true is = rw is refl
 device_by f e false is = rw is refl
 
@@ -79,7 +79,7 @@ ranges_apart a b some_a some_b none = elim (cases_lt a.at b.at) [
 -- ---- an end
 
 -- an end of these lots, by its range
-record IsEndIn (sc : Scenario) (f : Fixed) (lots : List Lot) (lot : Lot) (range : Span) : Type 0 where
+record IsEndIn (sc : Scenario) (f : DriverConfig) (lots : List Lot) (lot : Lot) (range : Span) : Type 0 where
   entry : Entry
   only : lot.list.entries ≡ entry ∷ []
   range_is : entry.span ≡ range
@@ -127,11 +127,11 @@ its_stage sc f w h o s rest chan m e k free =
 
 -- ---- the copy
 
-abbrev copy_ends : Fixed → Span → Span → Entry → Entry → ℕ → Ends
+abbrev copy_ends : DriverConfig → Span → Span → Entry → Entry → ℕ → Ends
 copy_ends f from to a b config = record { source = from.at; target = to.at; reads_at = (device_of f a).at; writes_at = (device_of f b).at; len = from.len; config = config }
 
 -- those of the plan are those of the ranges
-ends_same : (f : Fixed) (src dst : Lot) (from to : Span) (a b : Entry) (config : ℕ) → only_entry src ≡ a → only_entry dst ≡ b → (device_of f a).len ≡ from.len → plan_ends f config src dst from.at to.at ≡ copy_ends f from to a b config
+ends_same : (f : DriverConfig) (src dst : Lot) (from to : Span) (a b : Entry) (config : ℕ) → only_entry src ≡ a → only_entry dst ≡ b → (device_of f a).len ≡ from.len → plan_ends f config src dst from.at to.at ≡ copy_ends f from to a b config
 ends_same f src dst from to a b config is_a is_b long =
     let mk : ℕ → ℕ → ℕ → Ends = λ reads writes len. record { source = from.at; target = to.at; reads_at = reads; writes_at = writes; len = len; config = config } in
     ap (λ (x : Entry). mk (device_of f x).at (device_of f (only_entry dst)).at (device_of f x).len) is_a
@@ -173,7 +173,7 @@ under_way sc f w h o s rest m went op k lent free now =
       from_is = refl;
       to_is = ap (λ (n : ℕ). span_of now.to.at n) long;
       source_at =
-          subst (λ (x : Fixed). IsEndAt x (driver_of v h.0).lots source ToDev op.chan now.from (span_of ends.reads_at ends.len)) (sym fixed)
+          subst (λ (x : DriverConfig). IsEndAt x (driver_of v h.0).lots source ToDev op.chan now.from (span_of ends.reads_at ends.len)) (sym fixed)
           (subst (λ (ls : List Lot). IsEndAt fx ls source ToDev op.chan now.from (span_of ends.reads_at ends.len)) (sym lots) (record {
             lot = turned_lot sides.Lending c.reads;
             is = record { here = source_behind d.lots c.reads c.source_is.here c.source_is.id_is; id_is = c.source_is.id_is; kind = c.source_is.kind; dir_is = c.source_is.dir_is; chan_is = one_s.chan_is };
@@ -184,7 +184,7 @@ under_way sc f w h o s rest m went op k lent free now =
             device_is = src.device_is;
           }));
       target_at =
-          subst (λ (x : Fixed). IsEndAt x (driver_of v h.0).lots target FromDev op.chan now.to (span_of ends.writes_at ends.len)) (sym fixed)
+          subst (λ (x : DriverConfig). IsEndAt x (driver_of v h.0).lots target FromDev op.chan now.to (span_of ends.writes_at ends.len)) (sym fixed)
           (subst (λ (ls : List Lot). IsEndAt fx ls target FromDev op.chan now.to (span_of ends.writes_at ends.len)) (sym lots) (record {
             lot = turned_lot sides.Lending c.writes;
             is = record { here = target_behind d.lots c.writes c.target_is.here c.target_is.id_is; id_is = c.target_is.id_is; kind = c.target_is.kind; dir_is = c.target_is.dir_is; chan_is = one_t.chan_is };
@@ -216,8 +216,8 @@ claimed_copy sc f w h o s rest m went k lent free owned op hand begun =
     record {
       from = now.from;
       to = now.to;
-      from_is = subst (λ (x : Fixed). source_range x op now.from) (sym fixed) now.from_is;
-      to_is = subst (λ (x : Fixed). target_range x op now.to) (sym fixed) now.to_is;
+      from_is = subst (λ (x : DriverConfig). source_range x op now.from) (sym fixed) now.from_is;
+      to_is = subst (λ (x : DriverConfig). target_range x op now.to) (sym fixed) now.to_is;
       ends = subst (λ (ls : List Lot). AreItsEnds op now.from now.to ls) (sym lots) (ends_kept op now.from now.to (turns.Lend source) (turns.Lend target) d.lots now.ends);
       under = λ moves. under_way sc f w h o s rest m went op k lent free now;
       polled = λ work none. absurd (both_ways (polls (driver_of v h.0).rest) none (ap polls left ∙ polled sc f w h o s rest k));

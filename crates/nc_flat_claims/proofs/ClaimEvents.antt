@@ -16,7 +16,7 @@ use Rattle.nc_rules.specs.declared.steps.Phase.TheVariants.{Work}
 use Rattle.nc_rules.specs.Calls.{claim_next, io_waits}
 use Rattle.nc_rules.specs.Driver.{Went, in_hand, next_act, next_of, done, done_of, give_up}
 use Rattle.nc_rules.specs.Events.{may_go_on}
-use Rattle.nc_rules.specs.Lots.{Fixed}
+use Rattle.nc_rules.specs.Lots.{DriverConfig}
 use Rattle.nc_rules.specs.Machine.{grantee_of, queue_of}
 use Rattle.nc_rules.specs.Outcomes.{claim_seen, goes, claim_outcome, step_outcome, outcome}
 use Rattle.nc_rules.specs.World.{WorldState, driver_of}
@@ -108,7 +108,7 @@ lots_kind s t same is lots = absurd (lots_claim (sym lots ∙ ap (λ (k : Step).
 channel_kind : {A : Type 0} (s t : Step) → s ≡ t → kind_of_act s.act ≡ OfClaim → kind_of_act t.act ≡ OfChannel → A
 channel_kind s t same is channel = absurd (channel_claim (sym channel ∙ ap (λ (k : Step). kind_of_act k.act) (sym same) ∙ is))
 
-claiming_step : (f : Fixed) (lots : List Lot) (s : Step) (rest : List Step) → kind_of_act s.act ≡ OfClaim → StepGoes f lots s rest → IsClaim f lots s rest
+claiming_step : (f : DriverConfig) (lots : List Lot) (s : Step) (rest : List Step) → kind_of_act s.act ≡ OfClaim → StepGoes f lots s rest → IsClaim f lots s rest
 claiming_step f lots s rest kind (Claims is) = is
 claiming_step f lots s rest kind (Registers is) = channel_kind s _ is.step kind refl
 claiming_step f lots s rest kind (Polls is) = channel_kind s _ is.step kind refl

@@ -20,7 +20,7 @@ use Rattle.nc_rules.specs.declared.steps.Step.{Step}
 use Rattle.nc_rules.specs.declared.steps.Turn.{Turn}
 use Rattle.nc_rules.specs.declared.steps.Turn.TheVariants as turns
 use Rattle.nc_rules.specs.Copies.{copy_step, claim_step, back_steps, end_part, copy_steps}
-use Rattle.nc_rules.specs.Lots.{Fixed, parts}
+use Rattle.nc_rules.specs.Lots.{DriverConfig, parts}
 use Rattle.nc_rules.specs.Plans.{hart_step, op_steps, beginning, ending, lend_steps, return_steps}
 use Rattle.nc_rows.specs.Ahead.{op_coming, act_coming}
 use Rattle.nc_row_plans.proofs.LendingPlans.{is_plain, Are, are_flat, copies_plain, if_plain, cbos_are}
@@ -33,19 +33,19 @@ use Rattle.nc_flat_claims.proofs.EndsAhead.{lending_ops, give_step, lending_plai
 
 -- ---- the step, and what is behind it
 
-abbrev pub moves_steps : Fixed → ChanNo → ℕ → Lot → Lot → List Step
+abbrev pub moves_steps : DriverConfig → ChanNo → ℕ → Lot → Lot → List Step
 moves_steps f chan cfg src dst = map (copy_step chan) (transfer chan (end_part f src) (end_part f dst) cfg)
 
-abbrev pub behind_target : Fixed → ChanNo → ℕ → Lot → Lot → List Step
+abbrev pub behind_target : DriverConfig → ChanNo → ℕ → Lot → Lot → List Step
 behind_target f chan cfg src dst = moves_steps f chan cfg src dst ++ (back_steps f dst ++ back_steps f src)
 
-abbrev pub behind_source : Fixed → ChanNo → ℕ → Lot → Lot → List Step
+abbrev pub behind_source : DriverConfig → ChanNo → ℕ → Lot → Lot → List Step
 behind_source f chan cfg src dst = lend_steps f dst ++ behind_target f chan cfg src dst
 
-abbrev pub behind_claim : Fixed → ChanNo → ℕ → Lot → Lot → List Step
+abbrev pub behind_claim : DriverConfig → ChanNo → ℕ → Lot → Lot → List Step
 behind_claim f chan cfg src dst = lend_steps f src ++ behind_source f chan cfg src dst
 
-plan_lined : (f : Fixed) (chan : ChanNo) (cfg : ℕ) (src dst : Lot) → copy_steps f chan cfg src dst ≡ claim_step chan ∷ behind_claim f chan cfg src dst
+plan_lined : (f : DriverConfig) (chan : ChanNo) (cfg : ℕ) (src dst : Lot) → copy_steps f chan cfg src dst ≡ claim_step chan ∷ behind_claim f chan cfg src dst
 plan_lined f chan cfg src dst =
     let a = lend_steps f src in
     let b = lend_steps f dst in
@@ -62,10 +62,10 @@ abbrev tail_of : List Step → List Step
 tail_of [] = []
 tail_of (s ∷ rest) = rest
 
-pub step_is : (f : Fixed) (lots : List Lot) (s : Step) (rest : List Step) → (c : IsClaim f lots s rest) → s ≡ claim_step c.chan
+pub step_is : (f : DriverConfig) (lots : List Lot) (s : Step) (rest : List Step) → (c : IsClaim f lots s rest) → s ≡ claim_step c.chan
 step_is f lots s rest c = ap (first_step c.chan) c.steps
 
-pub rest_is : (f : Fixed) (lots : List Lot) (s : Step) (rest : List Step) → (c : IsClaim f lots s rest) → rest ≡ behind_claim f c.chan c.config c.reads c.writes
+pub rest_is : (f : DriverConfig) (lots : List Lot) (s : Step) (rest : List Step) → (c : IsClaim f lots s rest) → rest ≡ behind_claim f c.chan c.config c.reads c.writes
 rest_is f lots s rest c = ap tail_of (c.steps ∙ plan_lined f c.chan c.config c.reads c.writes)
 
 -- ---- the poll
@@ -73,7 +73,7 @@ rest_is f lots s rest c = ap tail_of (c.steps ∙ plan_lined f c.chan c.config c
 any_behind : (p : Step → Bool) (xs ys : List Step) → list_any p ys ≡ true → list_any p (xs ++ ys) ≡ true
 any_behind p xs ys some = list_any-append p xs ys ∙ or_right (list_any p xs) (list_any p ys) some
 
-pub its_poll : (f : Fixed) (chan : ChanNo) (cfg : ℕ) (src dst : Lot) → polls (behind_claim f chan cfg src dst) ≡ true
+pub its_poll : (f : DriverConfig) (chan : ChanNo) (cfg : ℕ) (src dst : Lot) → polls (behind_claim f chan cfg src dst) ≡ true
 its_poll f chan cfg src dst = any_behind (λ (s : Step). is_poll s.act) (lend_steps f src) (behind_source f chan cfg src dst) (any_behind (λ (s : Step). is_poll s.act) (lend_steps f dst) (behind_target f chan cfg src dst) refl)
 
 -- ---- its registers
@@ -94,7 +94,7 @@ dry_ops (o ∷ ops) rest all =
     coming_by (hart_step o) (op_steps ops ++ rest) ∙ ap (λ (es : List QueueEntry). es ++ registers_coming (op_steps ops ++ rest)) (dry o (All-head (λ (k : HartOp). is_plain k ≡ true) o ops all))
     ∙ dry_ops ops rest (All-tail (λ (k : HartOp). is_plain k ≡ true) o ops all)
 
-dry_lending : (f : Fixed) (lot : Lot) (rest : List Step) → f.light ≡ false → registers_coming (lend_steps f lot ++ rest) ≡ registers_coming rest
+dry_lending : (f : DriverConfig) (lot : Lot) (rest : List Step) → f.light ≡ false → registers_coming (lend_steps f lot ++ rest) ≡ registers_coming rest
 dry_lending f lot rest unlight = ap registers_coming (lending_is f lot rest unlight) ∙ dry_ops (lending_ops f lot) (give_step lot.id ∷ rest) (lending_plain f lot) ∙ coming_by (give_step lot.id) rest
 
 -- the way back of an end
@@ -115,7 +115,7 @@ none_behind [] all = refl
 none_behind (o ∷ ops) all =
     coming_by (hart_step o) (op_steps ops) ∙ ap (λ (es : List QueueEntry). es ++ registers_coming (op_steps ops)) (dry o (All-head (λ (k : HartOp). is_plain k ≡ true) o ops all)) ∙ none_behind ops (All-tail (λ (k : HartOp). is_plain k ≡ true) o ops all)
 
-dry_returning : (f : Fixed) (lot : Lot) → registers_coming (return_steps f lot) ≡ []
+dry_returning : (f : DriverConfig) (lot : Lot) → registers_coming (return_steps f lot) ≡ []
 unfolding returning
 dry_returning f lot =
     let ps = parts f lot in
@@ -135,7 +135,7 @@ beginning_dry : (turn : Turn) (steps : List Step) → registers_coming (beginnin
 beginning_dry turn [] = refl
 beginning_dry turn (s ∷ rest) = refl
 
-dry_back : (f : Fixed) (lot : Lot) → registers_coming (back_steps f lot) ≡ []
+dry_back : (f : DriverConfig) (lot : Lot) → registers_coming (back_steps f lot) ≡ []
 dry_back f lot = beginning_dry (turns.Return lot.id) (ending (turns.End lot.id) (return_steps f lot)) ∙ ending_dry (turns.End lot.id) (return_steps f lot) ∙ dry_returning f lot
 
 coming_append : (a b : List Step) → registers_coming (a ++ b) ≡ registers_coming a ++ registers_coming b
@@ -149,10 +149,10 @@ coming_append (s ∷ a) b =
     append_entries (e ∷ x) y z = ap (λ (es : List QueueEntry). e ∷ es) (append_entries x y z)
 
 -- the ends as the plan has them
-abbrev pub plan_ends : Fixed → ℕ → Lot → Lot → ℕ → ℕ → Ends
+abbrev pub plan_ends : DriverConfig → ℕ → Lot → Lot → ℕ → ℕ → Ends
 plan_ends f cfg src dst source target = record { source = source; target = target; reads_at = (end_part f src).device.at; writes_at = (end_part f dst).device.at; len = (end_part f src).device.len; config = cfg }
 
-pub its_registers : (f : Fixed) (chan : ChanNo) (cfg : ℕ) (src dst : Lot) (source target : ℕ) → f.light ≡ false → registers_coming (behind_claim f chan cfg src dst) ≡ register_entries chan (plan_ends f cfg src dst source target)
+pub its_registers : (f : DriverConfig) (chan : ChanNo) (cfg : ℕ) (src dst : Lot) (source target : ℕ) → f.light ≡ false → registers_coming (behind_claim f chan cfg src dst) ≡ register_entries chan (plan_ends f cfg src dst source target)
 its_registers f chan cfg src dst source target unlight =
     let last = back_steps f dst ++ back_steps f src in
     let none : registers_coming last ≡ [] = coming_append (back_steps f dst) (back_steps f src) ∙ ap (λ (es : List QueueEntry). es ++ registers_coming (back_steps f src)) (dry_back f dst) ∙ dry_back f src in

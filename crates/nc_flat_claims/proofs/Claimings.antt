@@ -28,7 +28,7 @@ use Rattle.nc_rules.specs.Driver.{in_hand}
 use Rattle.nc_rules.specs.Lots.{is_lot, is_wanted, lot_waits}
 use Rattle.nc_rules.specs.Machine.{queue_of}
 use Rattle.nc_rules.specs.Turns.{is_area, lots_after_both}
-use Rattle.nc_rules.specs.Watched.{owner_of}
+use Rattle.nc_rules.specs.EventTouches.{owner_of}
 use Rattle.nc_rules.specs.World.{WorldState, driver_of}
 use Rattle.nc_scripts.specs.Drivers.{FitsKind, IsAtWork, IsPhase}
 use Rattle.nc_scripts.proofs.Lists.{all_to}

@@ -24,7 +24,7 @@ use Rattle.nc_rules.specs.declared.lots.LotId.{LotId}
 use Rattle.nc_rules.specs.declared.lots.Side.TheVariants as sides
 use Rattle.nc_rules.specs.declared.steps.Step.{Step}
 use Rattle.nc_rules.specs.declared.steps.Turn.TheVariants as turns
-use Rattle.nc_rules.specs.Lots.{Fixed, is_lot, parts}
+use Rattle.nc_rules.specs.Lots.{DriverConfig, is_lot, parts}
 use Rattle.nc_rules.specs.Machine.{MachineState}
 use Rattle.nc_rules.specs.Plans.{hart_step, op_steps, turning, carried, token_steps, lending_end, lend_steps}
 use Rattle.nc_rules.specs.Turns.{is_area}
@@ -46,14 +46,14 @@ use Rattle.nc_flat_starts.proofs.PlansGo.{Lends, lend_so}
 use Rattle.nc_flat_starts.proofs.Sides.{turned_lot}
 
 -- a rest lends the lot: behind what gives a byte of it, or a block, comes a write-back, and then a marker, before its token
-pub record LendsEnd (f : Fixed) (m : MachineState) (lot : Lot) (rest : List Step) : Type 0 where
+pub record LendsEnd (f : DriverConfig) (m : MachineState) (lot : Lot) (rest : List Step) : Type 0 where
   pub ended : list_any (ends lot.id) rest ≡ true
   pub to : (n : MapId) (p : Part) (y : ℕ) → IsEntryOf n lot → IsPlaceOf f lot p y → LendsAhead (gives_here m y) (back m y) n (coming n lot.id rest)
   pub from : (n : MapId) (p : Part) (y : ℕ) → IsEntryOf n lot → IsPlaceOf f lot p y → LendsAhead (gives_block m y) (back m y) n (coming n lot.id rest)
   pub stores : (n : MapId) (i : ℕ) (e : Entry) (y : ℕ) → slice_get lot.list.entries i ≡ Some e → e.bounced ≡ true → covers (device_of f e) y ≡ true → list_any (gives_at f.size y) (coming n lot.id rest) ≡ true
 
 -- what is known of the hart and its machine
-pub record MayLend (f : Fixed) (m : MachineState) : Type 0 where
+pub record MayLend (f : DriverConfig) (m : MachineState) : Type 0 where
   pub block : IsBlockSize m.size
   pub size : f.size ≡ m.size
   pub writes : WritesBack f.effects
@@ -70,25 +70,25 @@ unfolding written_back
 back_plain e size p = cbos_are is_plain (lend_op e p.dir) (blocks size p.device) (λ b. refl)
 
 -- loads, stores and cache operations, and then a full fence
-abbrev pub lending_ops : Fixed → Lot → List HartOp
+abbrev pub lending_ops : DriverConfig → Lot → List HartOp
 lending_ops f lot = carried f.effects f.size (parts f lot)
 
 abbrev pub give_step : LotId → Step
 give_step id = turning (turns.Give id) (hart_step full)
 
-pub lending_plain : (f : Fixed) (lot : Lot) → Are is_plain (lending_ops f lot)
+pub lending_plain : (f : DriverConfig) (lot : Lot) → Are is_plain (lending_ops f lot)
 lending_plain f lot =
     let ps = parts f lot in
     are_append is_plain (flat_map copied_in ps) (flat_map (written_back f.effects f.size) ps) (are_flat is_plain copied_in ps in_plain) (are_flat is_plain (written_back f.effects f.size) ps (back_plain f.effects f.size))
 
-pub lending_is : (f : Fixed) (lot : Lot) (more : List Step) → f.light ≡ false → lend_steps f lot ++ more ≡ op_steps (lending_ops f lot) ++ (give_step lot.id ∷ more)
+pub lending_is : (f : DriverConfig) (lot : Lot) (more : List Step) → f.light ≡ false → lend_steps f lot ++ more ≡ op_steps (lending_ops f lot) ++ (give_step lot.id ∷ more)
 lending_is f lot more unlight =
     append_steps (op_steps (lending_ops f lot)) (lending_end f lot) more ∙ ap (λ (ss : List Step). op_steps (lending_ops f lot) ++ (ss ++ more)) (cond-false f.light (token_steps lot) (give_step lot.id ∷ []) unlight)
 
 -- ---- the lot that is lent first
 
 -- as the one lot of a hart it is lent
-lent_alone : (f : Fixed) (lot : Lot) → is_area lot.kind ≡ false → IsPlanned f lot → WritesBack f.effects → Lends f (turned_lot sides.Lending lot ∷ []) (turned_lot sides.Lending lot) (lend_steps f lot)
+lent_alone : (f : DriverConfig) (lot : Lot) → is_area lot.kind ≡ false → IsPlanned f lot → WritesBack f.effects → Lends f (turned_lot sides.Lending lot ∷ []) (turned_lot sides.Lending lot) (lend_steps f lot)
 lent_alone f lot plain is writes =
     let now = turned_lot sides.Lending lot in
     let never : (other : Lot) → In other (now ∷ []) → is_lot now.id other ≡ false → ⊥ =
@@ -99,7 +99,7 @@ lent_alone f lot plain is writes =
     (λ other there named. elim there [ inl same ↦ ap (λ (l : Lot). l.side) (sym same) | inr none ↦ absurd none ])
     (record { size = is.size; some = is.some; off = is.off; slots = is.slots; buffers = is.buffers }) writes
 
-pub first_lent : (f : Fixed) (m : MachineState) (lot : Lot) (more : List Step) → MayLend f m → is_area lot.kind ≡ false → IsPlanned f lot → LendsEnd f m lot (lend_steps f lot ++ more)
+pub first_lent : (f : DriverConfig) (m : MachineState) (lot : Lot) (more : List Step) → MayLend f m → is_area lot.kind ≡ false → IsPlanned f lot → LendsEnd f m lot (lend_steps f lot ++ more)
 first_lent f m lot more k plain is =
     let ended = lend_ends f lot in
     let front : (n : MapId) → coming n lot.id (lend_steps f lot) ≡ coming n lot.id (lend_steps f lot ++ more) = λ n. sym (coming_front n lot.id (lend_steps f lot) more ended) in
@@ -133,7 +133,7 @@ record PutsFirst (n : MapId) (id : LotId) (steps rest : List Step) : Type 0 wher
   comes : coming n id (steps ++ rest) ≡ puts ++ coming n id rest
   unnamed : list_any (names n) puts ≡ false
 
-puts_first : (f : Fixed) (lot : Lot) (n : MapId) (id : LotId) (rest : List Step) → f.light ≡ false → ends id (give_step lot.id) ≡ false → list_any (ends id) rest ≡ true → PutsFirst n id (lend_steps f lot) rest
+puts_first : (f : DriverConfig) (lot : Lot) (n : MapId) (id : LotId) (rest : List Step) → f.light ≡ false → ends id (give_step lot.id) ≡ false → list_any (ends id) rest ≡ true → PutsFirst n id (lend_steps f lot) rest
 puts_first f lot n id rest unlight off ended =
     let ops = lending_ops f lot in
     let give = give_step lot.id in
@@ -160,7 +160,7 @@ ahead_behind p w n q c none is = record {
 
 -- ---- the lot that is lent behind another
 
-pub later_lent : (f : Fixed) (m : MachineState) (first lot : Lot) (rest : List Step) → MayLend f m → ends lot.id (give_step first.id) ≡ false → LendsEnd f m lot rest → LendsEnd f m lot (lend_steps f first ++ rest)
+pub later_lent : (f : DriverConfig) (m : MachineState) (first lot : Lot) (rest : List Step) → MayLend f m → ends lot.id (give_step first.id) ≡ false → LendsEnd f m lot rest → LendsEnd f m lot (lend_steps f first ++ rest)
 later_lent f m first lot rest k off l =
     let put : (n : MapId) → PutsFirst n lot.id (lend_steps f first) rest = λ n. puts_first f first n lot.id rest k.unlight off l.ended in
     record {

@@ -19,7 +19,7 @@ use Rattle.nc_rules.specs.Driver.{give_up}
 use Rattle.nc_rules.specs.Lots.{is_wanted}
 use Rattle.nc_rules.specs.Machine.{MachineState}
 use Rattle.nc_rules.specs.Turns.{without_wanted}
-use Rattle.nc_rules.specs.Watched.{owner_of}
+use Rattle.nc_rules.specs.EventTouches.{owner_of}
 use Rattle.nc_rules.specs.World.{WorldState, driver_of}
 use Rattle.nc_scripts.proofs.Lists.{all_in}
 use Rattle.nc_holds.proofs.ListsA.{of_filter}

@@ -15,10 +15,10 @@ use Rattle.nc_pdma.specs.Steps.{read_next, write_next}
 use Rattle.nc_model.specs.declared.owners.Access.TheVariants.{Read, Write}
 use Rattle.nc_model.proofs.Faults.{covers-from, covers-low, covers-high}
 use Rattle.nc_scen.specs.declared.scenario.Scenario.{Scenario}
-use Rattle.nc_rules.specs.Calls.{chan_read_told, chan_read_next, chan_write_told, chan_write_next}
+use Rattle.nc_rules.specs.Calls.{chan_read_step, chan_read_next, chan_write_step, chan_write_next}
 use Rattle.nc_rules.specs.Copies.{source, target}
 use Rattle.nc_rules.specs.Machine.{MachineState, queue_of, channel_of, grantee_of}
-use Rattle.nc_rules.specs.Watched.{transaction_touch}
+use Rattle.nc_rules.specs.EventTouches.{transaction_touch}
 use Rattle.nc_rules.specs.World.{WorldState, driver_of}
 use Rattle.nc_calls.specs.PlaceLaws.{ChannelIs, RamAfter}
 use Rattle.nc_calls.proofs.SoundSteps.{shape_chan_write}
@@ -84,7 +84,7 @@ channel_by m k c chan s P is own other = elim (cases_eq c chan) [
 -- ---- a read
 
 shows_source : (sc : Scenario) (f : List ℕ) (w : WorldState) (h : ℕ) (c : CopyOp) (from to : Span) (chan : ChanNo) (s : Span) (bytes : List ℕ) (done : Bool) → Flatness sc f w → chan.0 < 4 → (u : IsUnderWay sc f w h c from to)
-    → IsCopying u.ends f u.stores (channel_of w.machine chan.0) → chan_read_told w.machine chan.0 ≡ Moved s bytes done → transaction_touch w chan Read (chan_read_told w.machine chan.0) ≡ None → ShowsSource u.ends f w.machine.cache.ram s
+    → IsCopying u.ends f u.stores (channel_of w.machine chan.0) → chan_read_step w.machine chan.0 ≡ Moved s bytes done → transaction_touch w chan Read (chan_read_step w.machine chan.0) ≡ None → ShowsSource u.ends f w.machine.cache.ram s
 shows_source sc f w h c from to chan s bytes done flat four u stage told none = λ z low high.
     let m = w.machine in
     let untouched = ap (transaction_touch w chan Read) (sym told) ∙ none in
@@ -92,13 +92,13 @@ shows_source sc f w h c from to chan s bytes done flat four u stage told none = 
     let k = used sc f w chan Read s z flat untouched (covers-from s z low high) in
     read_byte sc f w chan z flat k ∙ ap (byte f) (k.name ∙ source_place sc f w h c from to chan z flat u k (omega (arith, low, within.0)) (omega (arith, high, within.1)))
 
-read_under : (sc : Scenario) (f : List ℕ) (w : WorldState) (chan : ChanNo) (h : ℕ) (c : CopyOp) (from to : Span) → Flatness sc f w → chan.0 < 4 → transaction_touch w chan Read (chan_read_told w.machine chan.0) ≡ None → IsUnderWay sc f w h c from to
+read_under : (sc : Scenario) (f : List ℕ) (w : WorldState) (chan : ChanNo) (h : ℕ) (c : CopyOp) (from to : Span) → Flatness sc f w → chan.0 < 4 → transaction_touch w chan Read (chan_read_step w.machine chan.0) ≡ None → IsUnderWay sc f w h c from to
     → IsUnderWay sc f (ran w (chan_read_next w.machine chan.0)) h c from to
 read_under sc f w chan h c from to flat four none u =
     let m = w.machine in
     let k = chan_read_next m chan.0 in
     let sound = flat.world.machine in
-    let by = channel_by m k c.chan.0 chan.0 (read_next (channel_of m chan.0) (chan_read_told m chan.0)) (IsCopying u.ends f u.stores) (chan_read_is m chan.0 sound four)
+    let by = channel_by m k c.chan.0 chan.0 (read_next (channel_of m chan.0) (chan_read_step m chan.0)) (IsCopying u.ends f u.stores) (chan_read_is m chan.0 sound four)
     (λ same.
     let stage = subst (λ (j : ℕ). IsCopying u.ends f u.stores (channel_of m j)) same u.stage in
     copies_go_on.read u.ends f (channel_of m chan.0) u.stores m.cache.ram u.few (in_ram sc f w u.ends flat u.are) (sound.granted chan.0 four).channel
@@ -106,7 +106,7 @@ read_under sc f w chan h c from to flat four none u =
     (λ ne. u.stage) in
     under_by sc f f w k h c from to u ((chan_read_stays m chan.0).queues h) by.0 by.1
 
-pub copies_read_on : (sc : Scenario) (f : List ℕ) (w : WorldState) (chan : ChanNo) → Flatness sc f w → chan.0 < 4 → transaction_touch w chan Read (chan_read_told w.machine chan.0) ≡ None → (h : ℕ) → h < length sc.harts → CopyStands sc f (ran w (chan_read_next w.machine chan.0)) h
+pub copies_read_on : (sc : Scenario) (f : List ℕ) (w : WorldState) (chan : ChanNo) → Flatness sc f w → chan.0 < 4 → transaction_touch w chan Read (chan_read_step w.machine chan.0) ≡ None → (h : ℕ) → h < length sc.harts → CopyStands sc f (ran w (chan_read_next w.machine chan.0)) h
 copies_read_on sc f w chan flat four none h lt = copy_ran sc f f w (chan_read_next w.machine chan.0) h (λ c from to hand t u. read_under sc f w chan h c from to flat four none u) (flat.bytes.copying h lt)
 
 -- ---- a write
@@ -121,7 +121,7 @@ queue_written : (m : MachineState) (c h : ℕ) → queue_of (chan_write_next m c
 unfolding chan_write_next
 queue_written m c h = refl
 
-writes_of : (sc : Scenario) (f : List ℕ) (w : WorldState) (chan : ChanNo) (span : Span) (bytes : List ℕ) (done : Bool) → Flatness sc f w → chan.0 < 4 → chan_write_told w.machine chan.0 ≡ Moved span bytes done → transaction_touch w chan Write (Moved span bytes done) ≡ None
+writes_of : (sc : Scenario) (f : List ℕ) (w : WorldState) (chan : ChanNo) (span : Span) (bytes : List ℕ) (done : Bool) → Flatness sc f w → chan.0 < 4 → chan_write_step w.machine chan.0 ≡ Moved span bytes done → transaction_touch w chan Write (Moved span bytes done) ≡ None
     → IsWrite sc f w (chan_write_next w.machine chan.0) chan span bytes
 writes_of sc f w chan span bytes done flat four is none =
     let m = w.machine in
@@ -167,7 +167,7 @@ same_ends sc f w h c from to chan s bytes is u ne =
           ne (end_channel sc f w chan Write z h target FromDev c.chan to (span_of u.ends.writes_at u.ends.len) is.flat u.target_at n here));
     }
 
-own_write : (sc : Scenario) (f : List ℕ) (w : WorldState) (chan : ChanNo) (h : ℕ) (c : CopyOp) (from to : Span) (t : ChanStep) → Flatness sc f w → chan.0 < 4 → chan_write_told w.machine chan.0 ≡ t → transaction_touch w chan Write t ≡ None → (u : IsUnderWay sc f w h c from to)
+own_write : (sc : Scenario) (f : List ℕ) (w : WorldState) (chan : ChanNo) (h : ℕ) (c : CopyOp) (from to : Span) (t : ChanStep) → Flatness sc f w → chan.0 < 4 → chan_write_step w.machine chan.0 ≡ t → transaction_touch w chan Write t ≡ None → (u : IsUnderWay sc f w h c from to)
     → IsCopying u.ends f u.stores (channel_of w.machine chan.0) → IsFlatAfter u.ends f (flat_after w chan f t) t
 own_write sc f w chan h c from to Idle flat four is none u stage = record { source = λ i lt. refl; target = λ i lt. refl }
 own_write sc f w chan h c from to (Error bus len) flat four is none u stage = tt
@@ -175,18 +175,18 @@ own_write sc f w chan h c from to (Moved s bytes done) flat four is none u stage
     gets_bytes sc f w h c from to chan s bytes done (writes_of sc f w chan s bytes done flat four is none) u
     (copies_stay_within.writes u.ends f (channel_of w.machine chan.0) u.stores (length w.machine.cache.ram) s bytes done u.few (flat.world.machine.granted chan.0 four).channel stage is)
 
-other_write : (sc : Scenario) (f : List ℕ) (w : WorldState) (chan : ChanNo) (h : ℕ) (c : CopyOp) (from to : Span) (t : ChanStep) → Flatness sc f w → chan.0 < 4 → chan_write_told w.machine chan.0 ≡ t → transaction_touch w chan Write t ≡ None → (u : IsUnderWay sc f w h c from to)
+other_write : (sc : Scenario) (f : List ℕ) (w : WorldState) (chan : ChanNo) (h : ℕ) (c : CopyOp) (from to : Span) (t : ChanStep) → Flatness sc f w → chan.0 < 4 → chan_write_step w.machine chan.0 ≡ t → transaction_touch w chan Write t ≡ None → (u : IsUnderWay sc f w h c from to)
     → c.chan.0 ≢ chan.0 → SameEnds u.ends f (flat_after w chan f t)
 other_write sc f w chan h c from to Idle flat four is none u ne = record { source = λ i lt. refl; target = λ i lt. refl }
 other_write sc f w chan h c from to (Error bus len) flat four is none u ne = record { source = λ i lt. refl; target = λ i lt. refl }
 other_write sc f w chan h c from to (Moved s bytes done) flat four is none u ne = same_ends sc f w h c from to chan s bytes (writes_of sc f w chan s bytes done flat four is none) u ne
 
-write_under : (sc : Scenario) (f : List ℕ) (w : WorldState) (chan : ChanNo) (h : ℕ) (c : CopyOp) (from to : Span) → Flatness sc f w → chan.0 < 4 → transaction_touch w chan Write (chan_write_told w.machine chan.0) ≡ None → IsUnderWay sc f w h c from to
-    → IsUnderWay sc (flat_after w chan f (chan_write_told w.machine chan.0)) (ran w (chan_write_next w.machine chan.0)) h c from to
+write_under : (sc : Scenario) (f : List ℕ) (w : WorldState) (chan : ChanNo) (h : ℕ) (c : CopyOp) (from to : Span) → Flatness sc f w → chan.0 < 4 → transaction_touch w chan Write (chan_write_step w.machine chan.0) ≡ None → IsUnderWay sc f w h c from to
+    → IsUnderWay sc (flat_after w chan f (chan_write_step w.machine chan.0)) (ran w (chan_write_next w.machine chan.0)) h c from to
 write_under sc f w chan h c from to flat four none u =
     let m = w.machine in
     let k = chan_write_next m chan.0 in
-    let t = chan_write_told m chan.0 in
+    let t = chan_write_step m chan.0 in
     let g = flat_after w chan f t in
     let sound = flat.world.machine in
     let by = channel_by m k c.chan.0 chan.0 (write_next (channel_of m chan.0) t) (IsCopying u.ends g u.stores) (chan_write_is m chan.0 sound four)
@@ -197,7 +197,7 @@ write_under sc f w chan h c from to flat four none u =
     (λ ne. copies_go_on.stays u.ends f g (channel_of m c.chan.0) u.stores (other_write sc f w chan h c from to t flat four refl none u ne) u.stage) in
     under_by sc f g w k h c from to u (queue_written m chan.0 h) by.0 by.1
 
-pub copies_write_on : (sc : Scenario) (f : List ℕ) (w : WorldState) (chan : ChanNo) → Flatness sc f w → chan.0 < 4 → transaction_touch w chan Write (chan_write_told w.machine chan.0) ≡ None → (h : ℕ) → h < length sc.harts
-    → CopyStands sc (flat_after w chan f (chan_write_told w.machine chan.0)) (ran w (chan_write_next w.machine chan.0)) h
+pub copies_write_on : (sc : Scenario) (f : List ℕ) (w : WorldState) (chan : ChanNo) → Flatness sc f w → chan.0 < 4 → transaction_touch w chan Write (chan_write_step w.machine chan.0) ≡ None → (h : ℕ) → h < length sc.harts
+    → CopyStands sc (flat_after w chan f (chan_write_step w.machine chan.0)) (ran w (chan_write_next w.machine chan.0)) h
 copies_write_on sc f w chan flat four none h lt =
-    copy_ran sc f (flat_after w chan f (chan_write_told w.machine chan.0)) w (chan_write_next w.machine chan.0) h (λ c from to hand t u. write_under sc f w chan h c from to flat four none u) (flat.bytes.copying h lt)
+    copy_ran sc f (flat_after w chan f (chan_write_step w.machine chan.0)) w (chan_write_next w.machine chan.0) h (λ c from to hand t u. write_under sc f w chan h c from to flat four none u) (flat.bytes.copying h lt)

@@ -13,11 +13,11 @@ use Rattle.nc_model.specs.declared.owners.Grant.{Grant}
 use Rattle.nc_scen.specs.declared.events.Event.TheVariants as events
 use Rattle.nc_scen.specs.declared.scenario.Scenario.{Scenario}
 use Rattle.nc_rules.specs.Machine.{MachineState, channel_of}
-use Rattle.nc_rules.specs.Calls.{chan_read_told, chan_read_next, chan_write_told, chan_write_next}
+use Rattle.nc_rules.specs.Calls.{chan_read_step, chan_read_next, chan_write_step, chan_write_next}
 use Rattle.nc_rules.specs.Flat.{all_marks}
 use Rattle.nc_rules.specs.Outcomes.{outcome}
 use Rattle.nc_rules.specs.Records.{read_records, write_records}
-use Rattle.nc_rules.specs.Watched.{transaction_touch}
+use Rattle.nc_rules.specs.EventTouches.{transaction_touch}
 use Rattle.nc_rules.specs.World.{WorldState}
 use Rattle.nc_calls.specs.MachineLaws.{SameShape}
 use Rattle.nc_calls.specs.PlaceLaws.{RamAfter}
@@ -33,7 +33,7 @@ use Rattle.nc_flat_moves.proofs.Granted.{used}
 
 -- ---- a read
 
-read_by : (sc : Scenario) (f : List ℕ) (w : WorldState) (chan : ChanNo) (k : MachineState) (t : ChanStep) → Flatness sc f w → chan.0 < 4 → chan_read_told w.machine chan.0 ≡ t → BytesStand sc f (ran w k) → transaction_touch w chan Read t ≡ None
+read_by : (sc : Scenario) (f : List ℕ) (w : WorldState) (chan : ChanNo) (k : MachineState) (t : ChanStep) → Flatness sc f w → chan.0 < 4 → chan_read_step w.machine chan.0 ≡ t → BytesStand sc f (ran w k) → transaction_touch w chan Read t ≡ None
     → GoesTo sc f (all_marks w.machine.size w.grants (read_records chan t)) (ran w k)
 read_by sc f w chan k Idle flat four told bytes none = goes_silent sc f _ (ran w k) refl bytes
 read_by sc f w chan k (Error bus len) flat four told bytes none = goes_silent sc f _ (ran w k) refl bytes
@@ -50,7 +50,7 @@ pub read_goes : (sc : Scenario) (f : List ℕ) (w : WorldState) (chan : ChanNo) 
 unfolding outcome
 read_goes sc f w chan now =
     let m = w.machine in
-    let told = chan_read_told m chan.0 in
+    let told = chan_read_step m chan.0 in
     runs_go sc f w (events.ChanRead chan) (chan_read_next m chan.0) (transaction_touch w chan Read told) (read_records chan told) now.may refl
     (λ none. read_by sc f w chan (chan_read_next m chan.0) told now.flat now.there refl (stay_bytes sc f w (chan_read_next m chan.0) now.flat (shape_chan_read m chan.0) (chan_read_stays m chan.0) (copies_read_on sc f w chan now.flat now.there none)) none)
 
@@ -76,6 +76,6 @@ unfolding outcome
 write_goes sc f w chan now =
     let m = w.machine in
     let sound = now.flat.world.machine in
-    let told = chan_write_told m chan.0 in
+    let told = chan_write_step m chan.0 in
     runs_go sc f w (events.ChanWrite chan) (chan_write_next m chan.0) (transaction_touch w chan Write told) (write_records chan told) now.may refl
     (λ none. write_by sc f w chan (chan_write_next m chan.0) told now.flat (shape_chan_write m chan.0 sound now.there) (chan_write_ram m chan.0 sound now.there) none (copies_write_on sc f w chan now.flat now.there none))

@@ -14,7 +14,7 @@ use Rattle.nc_scen.specs.declared.scenario.Scenario.{Scenario}
 use Rattle.nc_rules.specs.Calls.{drain_next}
 use Rattle.nc_rules.specs.Driver.{in_hand}
 use Rattle.nc_rules.specs.Machine.{MachineState, queue_of, channel_of, grantee_of}
-use Rattle.nc_rules.specs.Watched.{drain_touch}
+use Rattle.nc_rules.specs.EventTouches.{drain_touch}
 use Rattle.nc_rules.specs.World.{WorldState, driver_of, hart}
 use Rattle.nc_calls.specs.MachineLaws.{SameDevices}
 use Rattle.nc_calls.specs.PlaceLaws.{QueueLoses, BoxIs}

@@ -24,7 +24,7 @@ use Rattle.nc_rules.specs.Flat.{all_marks}
 use Rattle.nc_rules.specs.Driver.{lent}
 use Rattle.nc_rules.specs.Outcomes.{goes, runs, leaves, drain_outcome, outcome}
 use Rattle.nc_rules.specs.Records.{transfer_records, drain_records}
-use Rattle.nc_rules.specs.Watched.{owner_of, drain_touch}
+use Rattle.nc_rules.specs.EventTouches.{owner_of, drain_touch}
 use Rattle.nc_rules.specs.World.{WorldState, driver_of}
 use Rattle.nc_holds.specs.Tokens.{token_of}
 use Rattle.nc_holds.proofs.ListsA.{all_at, at_get}

@@ -26,9 +26,9 @@ use Rattle.nc_rules.specs.declared.lots.Side.TheVariants as sides
 use Rattle.nc_rules.specs.declared.steps.Turn.TheVariants as turns
 use Rattle.nc_rules.specs.Calls.{drain_next}
 use Rattle.nc_rules.specs.Driver.{DriverState, with_lots, lent}
-use Rattle.nc_rules.specs.Lots.{Fixed, is_lot, is_wanted, lot_id, map_id, owner_of_side}
+use Rattle.nc_rules.specs.Lots.{DriverConfig, is_lot, is_wanted, lot_id, map_id, owner_of_side}
 use Rattle.nc_rules.specs.Turns.{to_side, of_those, with_side, lots_after, turned_by}
-use Rattle.nc_rules.specs.Watched.{owner_of}
+use Rattle.nc_rules.specs.EventTouches.{owner_of}
 use Rattle.nc_rules.specs.World.{WorldState, driver_of, hart, owners_moved}
 use Rattle.nc_holds.specs.Held.{IsEntryOf, OwnersAgree}
 use Rattle.nc_holds.proofs.ListsC.{nothing_behind}
@@ -77,17 +77,17 @@ lent_transfers d label first = nothing_behind (of_those (to_side d.fixed.me side
 
 -- ---- the book
 
-abbrev loan_in : Fixed → List Lot → MapId → Option Loan
+abbrev loan_in : DriverConfig → List Lot → MapId → Option Loan
 loan_in f lots n = option_map (loan_by f n) (find (is_entry_of n) lots)
 
 entry_same : (n : MapId) (lot : Lot) → is_wanted lot.side ≡ false → is_entry_of n (record lot { side = sides.Device }) ≡ is_entry_of n lot
 entry_same n lot was = ap (λ (t : Bool). not t && (lot.id.label.0 == n.label.0 && (nat_le lot.id.first n.entry && nat_lt n.entry (lot.id.first + length lot.list.entries)))) (sym was)
 
-found_same : (f : Fixed) (n : MapId) (a b : Lot) (xs ys : List Lot) (t : Bool) → is_entry_of n a ≡ t → is_entry_of n b ≡ t → loan_by f n a ≡ loan_by f n b → loan_in f xs n ≡ loan_in f ys n → loan_in f (a ∷ xs) n ≡ loan_in f (b ∷ ys) n
+found_same : (f : DriverConfig) (n : MapId) (a b : Lot) (xs ys : List Lot) (t : Bool) → is_entry_of n a ≡ t → is_entry_of n b ≡ t → loan_by f n a ≡ loan_by f n b → loan_in f xs n ≡ loan_in f ys n → loan_in f (a ∷ xs) n ≡ loan_in f (b ∷ ys) n
 found_same f n a b xs ys true p q loan more = rw (p, q) (ap (λ (l : Loan). Some l) loan)
 found_same f n a b xs ys false p q loan more = rw (p, q) more
 
-loans_given : (f : Fixed) (n : MapId) (id : LotId) (lots : List Lot) → AreLending id lots → loan_in f (lent_lots id lots) n ≡ loan_in f lots n
+loans_given : (f : DriverConfig) (n : MapId) (id : LotId) (lots : List Lot) → AreLending id lots → loan_in f (lent_lots id lots) n ≡ loan_in f lots n
 loans_given f n id [] lending = refl
 loans_given f n id (lot ∷ lots) lending =
     let more = loans_given f n id lots (All-tail (λ (l : Lot). is_lot id l ≡ true → l.side ≡ sides.Lending) lot lots lending) in

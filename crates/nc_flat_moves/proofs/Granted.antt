@@ -22,7 +22,7 @@ use Rattle.nc_scen.specs.Regions.{slots_of}
 use Rattle.nc_scen.specs.declared.scenario.Scenario.{Scenario}
 use Rattle.nc_rules.specs.Lots.{map_id, grant_of}
 use Rattle.nc_rules.specs.Turns.{is_area}
-use Rattle.nc_rules.specs.Watched.{owner_of}
+use Rattle.nc_rules.specs.EventTouches.{owner_of}
 use Rattle.nc_rules.specs.World.{WorldState, driver_of, hart}
 use Rattle.nc_scripts.proofs.Lists.{found}
 use Rattle.nc_holds.specs.Holds.{IsHeldGrant}

@@ -17,9 +17,9 @@ use Rattle.nc_model.specs.declared.owners.Owner.TheVariants.{Thread, Passing, Le
 use Rattle.nc_scen.specs.Regions.{slots_of}
 use Rattle.nc_scen.specs.declared.scenario.Scenario.{Scenario}
 use Rattle.nc_rules.specs.Machine.{MachineState, queue_of}
-use Rattle.nc_rules.specs.Watched.{owner_of}
+use Rattle.nc_rules.specs.EventTouches.{owner_of}
 use Rattle.nc_rules.specs.World.{WorldState}
-use Rattle.nc_calls.specs.PlaceLaws.{LosesNone, parts}
+use Rattle.nc_calls.specs.PlaceLaws.{KeepsCoherence, may_leave_stale_copy}
 use Rattle.nc_rows.specs.Rows.{Loan, device_place, ByDir}
 use Rattle.nc_rows.specs.Parts.{IsDropped, IsQueued}
 use Rattle.nc_row_moves.specs.Laws.{LosesFrom, LosesLent, LosesDevice, LosesNoRow}
@@ -33,7 +33,7 @@ use Rattle.nc_flat_moves.proofs.Pooled.{either_by, one_loan, loan_pooled, pool_l
 -- ---- what an entry loses
 
 abbrev LosesNowhere : MachineState → Entry → Type 0
-LosesNowhere m e = (x : ℕ) → LosesNone m e x
+LosesNowhere m e = (x : ℕ) → KeepsCoherence m e x
 
 -- a block that hart h drops
 abbrev DropsBlock : WorldState → ℕ → ℕ → Type 0
@@ -43,7 +43,7 @@ DropsBlock w h b = IsDropped (book_of w) (owner_of w) w.machine.size h b
 record LosesBlock (w : WorldState) (h : ℕ) (e : Entry) : Type 0 where
   block : ℕ
   dropped : DropsBlock w h block
-  only : (x : ℕ) → parts w.machine.size e x ≡ true → x / w.machine.size ≡ block
+  only : (x : ℕ) → may_leave_stale_copy w.machine.size e x ≡ true → x / w.machine.size ≡ block
 
 loses_where : (sc : Scenario) (f : List ℕ) (w : WorldState) (h : ℕ) (e : Entry) → Flatness sc f w → In e (queue_of w.machine h) → IsQueued (book_of w) (owner_of w) w.machine.pool w.machine.size h e → LosesNowhere w.machine e ⊎ LosesBlock w h e
 loses_where sc f w h (Store span bytes Pma) flat here queued = inl (λ x over. absurd cc)
@@ -113,7 +113,7 @@ dropped_here sc f w h b x flat l lt off at =
     ]
 
 -- at a place of another owner
-other_loses : (sc : Scenario) (f : List ℕ) (w : WorldState) (h : ℕ) (e : Entry) (x : ℕ) → Flatness sc f w → x < sc.ram → covers (slots_of sc) x ≡ false → (l : LosesBlock w h e) → (owner_of w x ≡ Returning l.dropped.id → ⊥) → LosesNone w.machine e x
+other_loses : (sc : Scenario) (f : List ℕ) (w : WorldState) (h : ℕ) (e : Entry) (x : ℕ) → Flatness sc f w → x < sc.ram → covers (slots_of sc) x ≡ false → (l : LosesBlock w h e) → (owner_of w x ≡ Returning l.dropped.id → ⊥) → KeepsCoherence w.machine e x
 other_loses sc f w h e x flat lt off l other = λ over. absurd (other (dropped_here sc f w h l.block x flat l.dropped lt off (l.only x over)).owner)
 
 -- a place of a mapping that is being lent, and where it is seen
@@ -132,16 +132,16 @@ by_dir Both p q first second = second
 by_dir FromDev p q first second = second
 
 -- a place of one that the device has, or that is taken back
-device_loses : (sc : Scenario) (f : List ℕ) (w : WorldState) (e : Entry) (x : ℕ) (n : MapId) (o : Option Loan) → Flatness sc f w → (book_of w).loan n ≡ o → ((loan : Loan) → o ≡ Some loan → loan.area ≡ true → LosesNone w.machine e x)
-    → ((loan : Loan) → o ≡ Some loan → comes_back loan.grant.dir ≡ false → LosesNone w.machine e x) → ((loan : Loan) → o ≡ Some loan → LosesFrom w.machine e x (device_place loan x)) → LosesDevice o w.machine e x
+device_loses : (sc : Scenario) (f : List ℕ) (w : WorldState) (e : Entry) (x : ℕ) (n : MapId) (o : Option Loan) → Flatness sc f w → (book_of w).loan n ≡ o → ((loan : Loan) → o ≡ Some loan → loan.area ≡ true → KeepsCoherence w.machine e x)
+    → ((loan : Loan) → o ≡ Some loan → comes_back loan.grant.dir ≡ false → KeepsCoherence w.machine e x) → ((loan : Loan) → o ≡ Some loan → LosesFrom w.machine e x (device_place loan x)) → LosesDevice o w.machine e x
 device_loses sc f w e x n None flat is area to from = tt
 device_loses sc f w e x n (Some loan) flat is area to from =
-    either_by loan.area (LosesNone w.machine e x) (ByDir loan.grant.dir (LosesNone w.machine e x) (LosesFrom w.machine e x (device_place loan x))) (area loan refl)
-    (λ single. by_dir loan.grant.dir (LosesNone w.machine e x) (LosesFrom w.machine e x (device_place loan x)) (to loan refl) (from loan refl))
+    either_by loan.area (KeepsCoherence w.machine e x) (ByDir loan.grant.dir (KeepsCoherence w.machine e x) (LosesFrom w.machine e x (device_place loan x))) (area loan refl)
+    (λ single. by_dir loan.grant.dir (KeepsCoherence w.machine e x) (LosesFrom w.machine e x (device_place loan x)) (to loan refl) (from loan refl))
 
 -- a place that is taken back, where its device reads it only, and where it may write it
 back_to : (sc : Scenario) (f : List ℕ) (w : WorldState) (h : ℕ) (e : Entry) (x : ℕ) (n : MapId) (loan : Loan) → Flatness sc f w → x < sc.ram → covers (slots_of sc) x ≡ false → (l : LosesBlock w h e) → owner_of w x ≡ Returning n → (book_of w).loan n ≡ Some loan
-    → comes_back loan.grant.dir ≡ false → LosesNone w.machine e x
+    → comes_back loan.grant.dir ≡ false → KeepsCoherence w.machine e x
 back_to sc f w h e x n loan flat lt off l own is to = other_loses sc f w h e x flat lt off l (λ back.
     let id : n ≡ l.dropped.id = let both = sym own ∙ back in cc in
     let same = one_loan ((book_of w).loan n) loan l.dropped.loan is (ap (book_of w).loan id ∙ l.dropped.lent) in

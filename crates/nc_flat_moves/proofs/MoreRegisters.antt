@@ -8,7 +8,7 @@ use Rattle.nc_queue.specs.declared.entry.Entry.{Entry}
 use Rattle.nc_rules.specs.declared.lots.Lot.{Lot}
 use Rattle.nc_rules.specs.declared.steps.Step.{Step}
 use Rattle.nc_rules.specs.Copies.{claim_step}
-use Rattle.nc_rules.specs.Lots.{Fixed}
+use Rattle.nc_rules.specs.Lots.{DriverConfig}
 use Rattle.nc_rules.specs.Plans.{control_step}
 use Rattle.nc_rules.specs.Turns.{lots_after_both}
 use Rattle.nc_rows.specs.Ahead.{act_coming}
@@ -26,7 +26,7 @@ never b p on off = absurd (both_ways b off on)
 first_step : (s t : Step) (rest more : List Step) → s ∷ rest ≡ t ∷ more → s ≡ t
 first_step s t rest more same = cc
 
-polled : (f : Fixed) (lots : List Lot) (s : Step) (rest : List Step) → StepGoes f lots s rest → is_poll s.act ≡ true → IsReleased rest
+polled : (f : DriverConfig) (lots : List Lot) (s : Step) (rest : List Step) → StepGoes f lots s rest → is_poll s.act ≡ true → IsReleased rest
 polled f lots s rest (Polls is) on = record { chan = is.chan; more = is.more; is = is.release }
 polled f lots s rest (Loads is) on = never _ _ on (ap (λ (t : Step). is_poll t.act) is.step)
 polled f lots s rest (Stores is) on = never _ _ on (ap is_poll is.act)
@@ -61,7 +61,7 @@ later_polls : (b c : Bool) → (b || c) ≡ true → b ≡ false → c ≡ true
 later_polls true c on off = absurd (false≢true (sym off))
 later_polls false c on off = on
 
-pub more_registers : (f : Fixed) (lots : List Lot) (rest : List Step) → PlanGoes f lots rest → polls rest ≡ true → registers_coming rest ≡ [] → ⊥
+pub more_registers : (f : DriverConfig) (lots : List Lot) (rest : List Step) → PlanGoes f lots rest → polls rest ≡ true → registers_coming rest ≡ [] → ⊥
 more_registers f lots [] goes on none = false≢true on
 more_registers f lots (s ∷ rest) goes on none =
     let behind = none_behind (filter is_register (act_coming s.act)) (registers_coming rest) (sym (later s rest) ∙ none) in

@@ -29,7 +29,7 @@ use Rattle.nc_rules.specs.declared.lots.LotId.{LotId}
 use Rattle.nc_rules.specs.declared.steps.Act.{Act}
 use Rattle.nc_rules.specs.declared.steps.Act.TheVariants as acts
 use Rattle.nc_rules.specs.declared.steps.Step.{Step}
-use Rattle.nc_rules.specs.Lots.{Fixed}
+use Rattle.nc_rules.specs.Lots.{DriverConfig}
 use Rattle.nc_rules.specs.Machine.{MachineState, hart_of, no_hart, with_hart}
 use Rattle.nc_rules.specs.Calls.{has_loaded}
 use Rattle.nc_rules.specs.Sound.{IsPieceIn}
@@ -47,7 +47,7 @@ loaded_long : (m : MachineState) (n : ℕ) → 0 < length m.harts → length (ha
 loaded_long m n some =
     ap (λ (s : HartState). length s.last) (get_or-set_same m.harts 0 (has_loaded (hart_of m 0) (replicate n 0)) no_hart some) ∙ length-replicate {A = ℕ} n 0
 
-loaded_driven : (ram harts : ℕ) (f : Fixed) (m : MachineState) (n : ℕ) → IsDriven ram harts f m → IsDriven ram harts f (loaded m n)
+loaded_driven : (ram harts : ℕ) (f : DriverConfig) (m : MachineState) (n : ℕ) → IsDriven ram harts f m → IsDriven ram harts f (loaded m n)
 loaded_driven ram harts f m n is = record {
   memory = is.memory;
   block = is.block;
@@ -59,7 +59,7 @@ fits_last : (n : ℕ) (span : Span) (kind : MemType) (bytes : Payload) → n ≡
 fits_last n span kind payloads.Last e = e
 fits_last n span kind (payloads.Given bytes) e = tt
 
-store_piece : (ram harts : ℕ) (f : Fixed) (m : MachineState) (span : Span) (kind : MemType) (bytes : Payload) → IsDriven ram harts f m → 0 < length m.harts → HartOpIsThere ram harts f (hart.Store span kind bytes) → IsPieceIn (length m.cache.ram) span
+store_piece : (ram harts : ℕ) (f : DriverConfig) (m : MachineState) (span : Span) (kind : MemType) (bytes : Payload) → IsDriven ram harts f m → 0 < length m.harts → HartOpIsThere ram harts f (hart.Store span kind bytes) → IsPieceIn (length m.cache.ram) span
 store_piece ram harts f m span kind bytes is some there =
     (there (loaded m span.len) 0 (loaded_driven ram harts f m span.len is) (fits_last (length (hart_of (loaded m span.len) 0).last) span kind bytes (loaded_long m span.len some))).piece
 
@@ -94,12 +94,12 @@ one : (m : MachineState) (y : ℕ) (e : Entry) → InBlock m y e → All (InBloc
 one m y e is = All-cons (InBlock m y) e [] is (All-nil (InBlock m y))
 
 -- what is known of the machine
-record Knows (ram harts : ℕ) (f : Fixed) (m : MachineState) : Type 0 where
+record Knows (ram harts : ℕ) (f : DriverConfig) (m : MachineState) : Type 0 where
   driven : IsDriven ram harts f m
   some : 0 < length m.harts
   size : IsBlockSize m.size
 
-op_comes : (ram harts : ℕ) (f : Fixed) (m : MachineState) (y : ℕ) (op : HartOp) → Knows ram harts f m → HartOpIsThere ram harts f op → All (InBlock m y) (op_coming op)
+op_comes : (ram harts : ℕ) (f : DriverConfig) (m : MachineState) (y : ℕ) (op : HartOp) → Knows ram harts f m → HartOpIsThere ram harts f op → All (InBlock m y) (op_coming op)
 op_comes ram harts f m y (hart.Load span kind) k there = All-nil (InBlock m y)
 op_comes ram harts f m y (hart.Store span kind bytes) k there =
     one m y (entries.Store span [] kind) (store_in m y span kind k.size (store_piece ram harts f m span kind bytes k.driven k.some there) (covers span y) refl)
@@ -109,7 +109,7 @@ op_comes ram harts f m y (hart.IoLoad chan off width) k there = All-nil (InBlock
 op_comes ram harts f m y (hart.IoStore target) k there = one m y (io_entry target) (io_in m y target)
 op_comes ram harts f m y (hart.Mark pred succ) k there = one m y (marker pred succ) (fence_in m y true pred succ)
 
-act_comes : (ram harts : ℕ) (f : Fixed) (m : MachineState) (y : ℕ) (act : Act) → Knows ram harts f m → ActIsThere ram harts f act → All (InBlock m y) (act_coming act)
+act_comes : (ram harts : ℕ) (f : DriverConfig) (m : MachineState) (y : ℕ) (act : Act) → Knows ram harts f m → ActIsThere ram harts f act → All (InBlock m y) (act_coming act)
 act_comes ram harts f m y (acts.Op op) k there = op_comes ram harts f m y op k there
 act_comes ram harts f m y (acts.Claim chan) k there = All-nil (InBlock m y)
 act_comes ram harts f m y (acts.Poll chan) k there = All-nil (InBlock m y)
@@ -121,7 +121,7 @@ token_comes m y n false = All-nil (InBlock m y)
 
 -- ---- a plan
 
-upto_there : (ram harts : ℕ) (f : Fixed) (p : Step → Bool) (rest : List Step) → All (StepIsThere ram harts f) rest → All (StepIsThere ram harts f) (upto p rest)
+upto_there : (ram harts : ℕ) (f : DriverConfig) (p : Step → Bool) (rest : List Step) → All (StepIsThere ram harts f) rest → All (StepIsThere ram harts f) (upto p rest)
 upto_there ram harts f p [] there = there
 upto_there ram harts f p (s ∷ rest) there =
     let P = StepIsThere ram harts f in
@@ -135,7 +135,7 @@ upto_there ram harts f p (s ∷ rest) there =
           ]
     ]
 
-steps_come : (ram harts : ℕ) (f : Fixed) (m : MachineState) (y : ℕ) (n : MapId) (lot : LotId) (steps : List Step) → Knows ram harts f m → All (StepIsThere ram harts f) steps → All (InBlock m y) (flat_map (step_coming n lot) steps)
+steps_come : (ram harts : ℕ) (f : DriverConfig) (m : MachineState) (y : ℕ) (n : MapId) (lot : LotId) (steps : List Step) → Knows ram harts f m → All (StepIsThere ram harts f) steps → All (InBlock m y) (flat_map (step_coming n lot) steps)
 steps_come ram harts f m y n lot [] k there = All-nil (InBlock m y)
 steps_come ram harts f m y n lot (s ∷ steps) k there =
     let first = All-head (StepIsThere ram harts f) s steps there in
@@ -143,6 +143,6 @@ steps_come ram harts f m y n lot (s ∷ steps) k there =
     (All-append (InBlock m y) (act_coming s.act) (if gives_lot lot s.last then token n ∷ [] else []) (act_comes ram harts f m y s.act k first.act) (token_comes m y n (gives_lot lot s.last)))
     (steps_come ram harts f m y n lot steps k (All-tail (StepIsThere ram harts f) s steps there))
 
-pub comes_in_block : (ram harts : ℕ) (f : Fixed) (m : MachineState) (y : ℕ) (n : MapId) (lot : LotId) (rest : List Step) → IsDriven ram harts f m → 0 < length m.harts → IsBlockSize m.size → All (StepIsThere ram harts f) rest → All (InBlock m y) (coming n lot rest)
+pub comes_in_block : (ram harts : ℕ) (f : DriverConfig) (m : MachineState) (y : ℕ) (n : MapId) (lot : LotId) (rest : List Step) → IsDriven ram harts f m → 0 < length m.harts → IsBlockSize m.size → All (StepIsThere ram harts f) rest → All (InBlock m y) (coming n lot rest)
 comes_in_block ram harts f m y n lot rest driven some size there =
     steps_come ram harts f m y n lot (upto (ends lot) rest) (record { driven = driven; some = some; size = size }) (upto_there ram harts f (ends lot) rest there)

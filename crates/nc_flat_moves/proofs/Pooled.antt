@@ -12,9 +12,9 @@ use Rattle.nc_model.specs.declared.owners.Owner.{Owner}
 use Rattle.nc_model.specs.declared.owners.Owner.TheVariants.{Thread, Passing, Lending, Device, Returning, Synced, Pool}
 use Rattle.nc_scen.specs.declared.scenario.Scenario.{Scenario}
 use Rattle.nc_rules.specs.Machine.{MachineState, queue_of}
-use Rattle.nc_rules.specs.Watched.{owner_of}
+use Rattle.nc_rules.specs.EventTouches.{owner_of}
 use Rattle.nc_rules.specs.World.{WorldState}
-use Rattle.nc_calls.specs.PlaceLaws.{NotHeld, LosesNone, parts}
+use Rattle.nc_calls.specs.PlaceLaws.{NotHeld, KeepsCoherence, may_leave_stale_copy}
 use Rattle.nc_holds.proofs.ListsA.{none_at}
 use Rattle.nc_rows.specs.Rows.{Loan, Book, Either, AllocatingRow, LentRow, Row, ahead_of}
 use Rattle.nc_rows.specs.Parts.{IsAllocating, MayBeHeld}
@@ -61,15 +61,15 @@ allocating_row a n l v m x known is row = first_of _ _ _ is.1 (first_of l.area _
 
 -- has no store past the caches queued
 allocating_whole : (sc : Scenario) (f : List ℕ) (w : WorldState) (h : ℕ) (e : Entry) (x : ℕ) (n : MapId) (o : Option Loan) → Flatness sc f w → In e (queue_of w.machine h) → owner_of w x ≡ Lending n → (book_of w).loan n ≡ o → IsAllocating (book_of w) n o
-    → parts w.machine.size e x ≡ false
+    → may_leave_stale_copy w.machine.size e x ≡ false
 allocating_whole sc f w h e x n None flat here own known is = absurd is
 allocating_whole sc f w h e x n (Some l) flat here own known is =
     let m = w.machine in
     let mine = ap mapping_in own in
     let row = subst (λ (k : Owner). Row (book_of w) k (byte f x) m x) own (flat.bytes.rows x (owned_ram sc f w x n flat mine) (mapped_unslotted sc f w n x flat mine)) in
-    none_at (λ (d : Entry). parts m.size d x) (queue_of m h) e ((allocating_row (book_of w) n l (byte f x) m x known is row).whole h) here
+    none_at (λ (d : Entry). may_leave_stale_copy m.size d x) (queue_of m h) e ((allocating_row (book_of w) n l (byte f x) m x known is row).whole h) here
 
-held_whole : (sc : Scenario) (f : List ℕ) (w : WorldState) (h : ℕ) (e : Entry) (x : ℕ) (o : Owner) → Flatness sc f w → In e (queue_of w.machine h) → owner_of w x ≡ o → MayBeHeld (book_of w) o → parts w.machine.size e x ≡ false
+held_whole : (sc : Scenario) (f : List ℕ) (w : WorldState) (h : ℕ) (e : Entry) (x : ℕ) (o : Owner) → Flatness sc f w → In e (queue_of w.machine h) → owner_of w x ≡ o → MayBeHeld (book_of w) o → may_leave_stale_copy w.machine.size e x ≡ false
 held_whole sc f w h e x (Lending n) flat here own may = allocating_whole sc f w h e x n ((book_of w).loan n) flat here own refl may
 held_whole sc f w h e x (Thread g) flat here own may = absurd may
 held_whole sc f w h e x (Passing g k) flat here own may = absurd may
@@ -79,8 +79,8 @@ held_whole sc f w h e x (Synced n) flat here own may = absurd may
 held_whole sc f w h e x Pool flat here own may = absurd may
 
 -- so no entry that is queued parts a place of the pool from its copies
-pub pool_loses : (sc : Scenario) (f : List ℕ) (w : WorldState) (h : ℕ) (e : Entry) (x : ℕ) → Flatness sc f w → In e (queue_of w.machine h) → covers w.machine.pool x ≡ true → LosesNone w.machine e x
+pub pool_loses : (sc : Scenario) (f : List ℕ) (w : WorldState) (h : ℕ) (e : Entry) (x : ℕ) → Flatness sc f w → In e (queue_of w.machine h) → covers w.machine.pool x ≡ true → KeepsCoherence w.machine e x
 pool_loses sc f w h e x flat here on = elim (flat.bytes.uncached x on) [
   | inl free ↦ λ over. free
-  | inr may ↦ λ over. absurd (both_ways (parts w.machine.size e x) (held_whole sc f w h e x (owner_of w x) flat here refl may) over)
+  | inr may ↦ λ over. absurd (both_ways (may_leave_stale_copy w.machine.size e x) (held_whole sc f w h e x (owner_of w x) flat here refl may) over)
 ]

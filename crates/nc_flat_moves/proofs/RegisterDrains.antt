@@ -22,7 +22,7 @@ use Rattle.nc_rules.specs.Machine.{queue_of, channel_of, grantee_of}
 use Rattle.nc_rules.specs.World.{WorldState, driver_of}
 use Rattle.nc_calls.specs.PlaceLaws.{ChannelIs}
 use Rattle.nc_calls.proofs.ViewPlaces.{queues_keep_order}
-use Rattle.nc_rules.specs.Watched.{drain_touch}
+use Rattle.nc_rules.specs.EventTouches.{drain_touch}
 use Rattle.nc_holds.specs.Rests.{RestAt}
 use Rattle.nc_holds.specs.Tokens.{token_of}
 use Rattle.nc_row_moves.specs.Laws.{IsDrain}

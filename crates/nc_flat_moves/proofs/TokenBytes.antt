@@ -15,9 +15,9 @@ use Rattle.nc_scen.specs.Regions.{slots_of}
 use Rattle.nc_scen.specs.declared.scenario.Scenario.{Scenario}
 use Rattle.nc_rules.specs.Calls.{drain_next}
 use Rattle.nc_rules.specs.Driver.{DriverState, in_hand, lent}
-use Rattle.nc_rules.specs.Lots.{Fixed, lot_id}
+use Rattle.nc_rules.specs.Lots.{DriverConfig, lot_id}
 use Rattle.nc_rules.specs.Machine.{queue_of}
-use Rattle.nc_rules.specs.Watched.{owner_of}
+use Rattle.nc_rules.specs.EventTouches.{owner_of}
 use Rattle.nc_rules.specs.World.{WorldState, driver_of}
 use Rattle.nc_calls.specs.PlaceLaws.{NotHeld}
 use Rattle.nc_rows.specs.Ahead.{is_full, settling}
@@ -94,7 +94,7 @@ copying_behind sc f w h i label first count k g lt c hand begun =
       | inr ne ↦ ap in_hand (driver_away w h m went k ne)
     ] in
     let full = copy_full sc w k c.chan c.src c.src_off c.dst c.dst_off c.len c.config g.covered g.flat.world lt (sym same ∙ hand) in
-    let light : (driver_of w k).fixed.light ≡ (driver_of w h.0).fixed.light = ap (λ (x : Fixed). x.light) (g.flat.world.fixed k lt) ∙ sym (ap (λ (x : Fixed). x.light) (g.flat.world.fixed h.0 g.lt)) in
+    let light : (driver_of w k).fixed.light ≡ (driver_of w h.0).fixed.light = ap (λ (x : DriverConfig). x.light) (g.flat.world.fixed k lt) ∙ sym (ap (λ (x : DriverConfig). x.light) (g.flat.world.fixed h.0 g.lt)) in
     absurd (both_ways (driver_of w k).fixed.light full (light ∙ g.sent.light))
 
 -- ---- rows

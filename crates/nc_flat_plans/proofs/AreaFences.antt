@@ -24,7 +24,7 @@ use Rattle.nc_rules.specs.Lots.{is_wanted, owner_of_side}
 use Rattle.nc_rules.specs.Turns.{is_area, last_owner, set_side, lots_after, transfers_of}
 use Rattle.nc_rules.specs.Machine.{hart_of, queue_of}
 use Rattle.nc_rules.specs.Driver.{Went}
-use Rattle.nc_rules.specs.Watched.{owner_of}
+use Rattle.nc_rules.specs.EventTouches.{owner_of}
 use Rattle.nc_rules.specs.World.{WorldState, driver_of}
 use Rattle.nc_calls.specs.PlaceLaws.{NotHeld}
 use Rattle.nc_rows.specs.Ahead.{turns_lot, gives_lot, settles_lot, settling, act_coming, token}

@@ -30,7 +30,7 @@ use Rattle.nc_rules.specs.Machine.{MachineState, hart_of}
 use Rattle.nc_rules.specs.Turns.{is_area}
 use Rattle.nc_rules.specs.Calls.{issue_next}
 use Rattle.nc_rules.specs.Driver.{Went, is_script}
-use Rattle.nc_rules.specs.Watched.{owner_of}
+use Rattle.nc_rules.specs.EventTouches.{owner_of}
 use Rattle.nc_rules.specs.World.{WorldState, driver_of}
 use Rattle.nc_rows.specs.Ahead.{turns_lot, stores_io, tokens_lot, ends, is_full, settling, act_coming}
 use Rattle.nc_rows.specs.Parts.{IsQueued, IsZeroed, rest_last}

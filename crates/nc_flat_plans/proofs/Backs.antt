@@ -22,7 +22,7 @@ use Rattle.nc_rules.specs.declared.steps.Turn.TheVariants as turns
 use Rattle.nc_rules.specs.Turns.{is_area, lots_after, transfers_of}
 use Rattle.nc_rules.specs.Machine.{MachineState, hart_of, queue_of}
 use Rattle.nc_rules.specs.Driver.{Went}
-use Rattle.nc_rules.specs.Watched.{owner_of}
+use Rattle.nc_rules.specs.EventTouches.{owner_of}
 use Rattle.nc_rules.specs.World.{WorldState, driver_of}
 use Rattle.nc_rows.specs.Ahead.{same_lot, turns_lot, gives_lot, act_coming, token, coming}
 use Rattle.nc_rows.specs.Parts.{IsQueued, rest_last}

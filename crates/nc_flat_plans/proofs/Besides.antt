@@ -16,10 +16,10 @@ use Rattle.nc_rules.specs.declared.lots.Lot.{Lot}
 use Rattle.nc_rules.specs.declared.lots.LotId.{LotId}
 use Rattle.nc_rules.specs.declared.lots.Side.TheVariants as sides
 use Rattle.nc_rules.specs.declared.steps.Step.{Step}
-use Rattle.nc_rules.specs.Lots.{Fixed, is_lot, owner_of_side}
+use Rattle.nc_rules.specs.Lots.{DriverConfig, is_lot, owner_of_side}
 use Rattle.nc_rules.specs.Machine.{queue_of}
 use Rattle.nc_rules.specs.Driver.{Went}
-use Rattle.nc_rules.specs.Watched.{owner_of}
+use Rattle.nc_rules.specs.EventTouches.{owner_of}
 use Rattle.nc_rules.specs.World.{WorldState, driver_of}
 use Rattle.nc_holds.proofs.ListsA.{same_some}
 use Rattle.nc_rows.specs.Ahead.{ends, names}
@@ -46,7 +46,7 @@ other_unended sc f w h lot other u light here off =
 
 -- ---- its token is queued
 
-still_lends : (f : Fixed) (n : MapId) (lot : Lot) → owner_of_side n lot.side ≡ Lending n → IsStill f lot → lot.side ≡ sides.Lending
+still_lends : (f : DriverConfig) (n : MapId) (lot : Lot) → owner_of_side n lot.side ≡ Lending n → IsStill f lot → lot.side ≡ sides.Lending
 still_lends f n lot owner (StillDevice is) = let both : Device n ≡ Lending n = sym (ap (owner_of_side n) is) ∙ owner in absurd (cc)
 still_lends f n lot owner (StillSynced is kind) = let both : Synced n ≡ Lending n = sym (ap (owner_of_side n) is) ∙ owner in absurd (cc)
 still_lends f n lot owner (StillOwn is kind) = let both : Thread n.hart ≡ Lending n = sym (ap (owner_of_side n) is) ∙ owner in absurd (cc)
@@ -71,7 +71,7 @@ posted_beside sc f w h lot x u all n owner own =
 sent_rest : (k : MapId) (id : LotId) (before behind : List Step) → list_any (ends id) before ≡ false → list_any (ends id) behind ≡ false → SameRest k id before behind
 sent_rest k id before behind was now = record { comes = steps_ahead.none k id behind now ∙ sym (steps_ahead.none k id before was); settles = unended_settling id behind now ∙ sym (unended_settling id before was) }
 
-aside_by : (w : WorldState) (h : HartNo) (went : Went) (o : Owner) (n : MapId) (f : Fixed) (lot : Lot) → IsStill f lot → o ≡ owner_of_side n lot.side
+aside_by : (w : WorldState) (h : HartNo) (went : Went) (o : Owner) (n : MapId) (f : DriverConfig) (lot : Lot) → IsStill f lot → o ≡ owner_of_side n lot.side
     → (f.light ≡ true → (l : Loan) → loan_of (driver_of w h.0) n ≡ Some l → SameRest n l.lot (driver_of w h.0).rest went.driver.rest) → IsAside w h went o n
 aside_by w h went o n f lot (StillDevice is) owner sent = inl (subst IsRestful (sym (owner ∙ ap (owner_of_side n) is)) tt)
 aside_by w h went o n f lot (StillSynced is kind) owner sent = inl (subst IsRestful (sym (owner ∙ ap (owner_of_side n) is)) tt)

@@ -22,7 +22,7 @@ use Rattle.nc_rules.specs.Plans.{hart_step}
 use Rattle.nc_rules.specs.Turns.{is_area}
 use Rattle.nc_rules.specs.Calls.{issue_next}
 use Rattle.nc_rules.specs.Driver.{is_script}
-use Rattle.nc_rules.specs.Watched.{owner_of}
+use Rattle.nc_rules.specs.EventTouches.{owner_of}
 use Rattle.nc_rules.specs.World.{WorldState, driver_of}
 use Rattle.nc_calls.specs.PlaceLaws.{drops_copies}
 use Rattle.nc_rows.specs.Ahead.{ends, is_full, act_coming}

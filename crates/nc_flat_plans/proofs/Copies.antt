@@ -21,7 +21,7 @@ use Rattle.nc_sg.specs.declared.list.Entry.{Entry}
 use Rattle.nc_rules.specs.declared.lots.Lot.{Lot}
 use Rattle.nc_rules.specs.Machine.{MachineState}
 use Rattle.nc_rules.specs.Turns.{is_area}
-use Rattle.nc_rules.specs.Watched.{owner_of}
+use Rattle.nc_rules.specs.EventTouches.{owner_of}
 use Rattle.nc_rules.specs.World.{WorldState}
 use Rattle.nc_rows.specs.Rows.{Loan, device_place}
 use Rattle.nc_rows.specs.Parts.{IsPiece, rest_last}

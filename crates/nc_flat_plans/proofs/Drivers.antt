@@ -19,7 +19,7 @@ use Rattle.nc_rules.specs.declared.steps.Seen.{Seen}
 use Rattle.nc_rules.specs.declared.steps.Step.{Step}
 use Rattle.nc_rules.specs.declared.steps.Turn.{Turn}
 use Rattle.nc_rules.specs.declared.steps.Turn.TheVariants as turns
-use Rattle.nc_rules.specs.Lots.{Fixed, is_lot}
+use Rattle.nc_rules.specs.Lots.{DriverConfig, is_lot}
 use Rattle.nc_rules.specs.Turns.{lots_after, lots_after_both, transfers_of, turned_by}
 use Rattle.nc_rules.specs.Driver.{DriverState, Went, in_hand, kept, busy, went_to, done, done_of, done_unless, done_in, worked}
 use Rattle.nc_rules.specs.World.{WorldState, driver_of}
@@ -118,7 +118,7 @@ pub stay_transfers : (d : DriverState) (s : Step) (left : List Step) (went : Wen
 stay_transfers d s left went done first = done.transfers ∙ ap (λ (t : Turn). transfers_of d.fixed.me d.lots t ++ transfers_of d.fixed.me (lots_after t d.lots) s.last) first
 
 -- each lot stays a mapping
-turn_mapping : (f : Fixed) (t : Turn) (lots : List Lot) → All IsMapping lots → All IsMapping (lots_after t lots)
+turn_mapping : (f : DriverConfig) (t : Turn) (lots : List Lot) → All IsMapping lots → All IsMapping (lots_after t lots)
 turn_mapping f turns.Stay lots all = all
 turn_mapping f (turns.Pass range to) lots all = all
 turn_mapping f (turns.Own range) lots all = all
@@ -175,7 +175,7 @@ done_so sc f w h o s rest saw k free silent =
 
 -- ---- no message is to come
 
-load_posts : (f : Fixed) (lots : List Lot) (s : Step) (rest : List Step) (b : ℕ) → StepGoes f lots s rest → posts b s ≡ false
+load_posts : (f : DriverConfig) (lots : List Lot) (s : Step) (rest : List Step) (b : ℕ) → StepGoes f lots s rest → posts b s ≡ false
 load_posts f lots s rest b (Loads is) = ap (posts b) is.step
 load_posts f lots s rest b (Stores is) = ap (λ (a : Act). posts b (record s { act = a })) is.act
 load_posts f lots s rest b (WritesBack is) = ap (posts b) is.step
@@ -200,11 +200,11 @@ load_posts f lots s rest b (Polls is) = ap (posts b) is.step
 load_posts f lots s rest b (TakesTarget is) = ap (λ (t : Step). stores_io (sends b) t.act) is.goes.step
 load_posts f lots s rest b (TakesSource is) = ap (λ (t : Step). stores_io (sends b) t.act) is.goes.step
 
-plan_posts : (f : Fixed) (lots : List Lot) (rest : List Step) (b : ℕ) → PlanGoes f lots rest → list_any (posts b) rest ≡ false
+plan_posts : (f : DriverConfig) (lots : List Lot) (rest : List Step) (b : ℕ) → PlanGoes f lots rest → list_any (posts b) rest ≡ false
 plan_posts f lots [] b left = refl
 plan_posts f lots (s ∷ rest) b left = ap (λ (t : Bool). t || list_any (posts b) rest) (load_posts f lots s rest b left.0) ∙ plan_posts f (lots_after_both s.first s.last lots) rest b left.1
 
-pub plan_silent : (f : Fixed) (lots : List Lot) (rest : List Step) (b : ℕ) → PlanGoes f lots rest → sending b rest ≡ []
+pub plan_silent : (f : DriverConfig) (lots : List Lot) (rest : List Step) (b : ℕ) → PlanGoes f lots rest → sending b rest ≡ []
 plan_silent f lots rest b left = steps_ahead.send_none b rest (plan_posts f lots rest b left)
 
 -- ---- what is to come of the lot in hand

@@ -25,7 +25,7 @@ use Rattle.nc_rules.specs.Plans.{hart_step, turning}
 use Rattle.nc_rules.specs.Turns.{lots_after, transfers_of}
 use Rattle.nc_rules.specs.Machine.{MachineState, hart_of, queue_of}
 use Rattle.nc_rules.specs.Driver.{is_script}
-use Rattle.nc_rules.specs.Watched.{owner_of}
+use Rattle.nc_rules.specs.EventTouches.{owner_of}
 use Rattle.nc_rules.specs.World.{WorldState, driver_of}
 use Rattle.nc_holds.proofs.ListsA.{all_at, at_get}
 use Rattle.nc_rows.specs.Ahead.{same_lot, stores_io, tokens_lot, ends, gives_lot, act_coming, token, coming}

@@ -39,7 +39,7 @@ use Rattle.nc_rules.specs.Flat.{all_marks}
 use Rattle.nc_rules.specs.Outcomes.{seen_of, op_outcome, step_outcome, outcome}
 use Rattle.nc_rules.specs.Records.{op_records, transfer_records, load_record}
 use Rattle.nc_rules.specs.Sound.{OpIsThere}
-use Rattle.nc_rules.specs.Watched.{issue_touch}
+use Rattle.nc_rules.specs.EventTouches.{issue_touch}
 use Rattle.nc_rules.specs.World.{WorldState, driver_of}
 use Rattle.nc_calls.proofs.CallProofs.{issues_by_place}
 use Rattle.nc_calls.proofs.SoundLaws.{calls_keep_shape}

@@ -27,7 +27,7 @@ use Rattle.nc_rules.specs.Calls.{issue_next}
 use Rattle.nc_rules.specs.Driver.{Went, is_script}
 use Rattle.nc_rules.specs.Flat.{all_marks}
 use Rattle.nc_rules.specs.Records.{op_records}
-use Rattle.nc_rules.specs.Watched.{owner_of}
+use Rattle.nc_rules.specs.EventTouches.{owner_of}
 use Rattle.nc_rules.specs.World.{WorldState, driver_of}
 use Rattle.nc_rows.specs.Ahead.{ends, names, is_settling, settling, stores_io, tokens_lot, act_coming, coming}
 use Rattle.nc_rows.specs.Parts.{rest_last}

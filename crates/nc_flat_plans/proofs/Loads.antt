@@ -32,7 +32,7 @@ use Rattle.nc_rules.specs.View.{view, bytes_seen}
 use Rattle.nc_rules.specs.Driver.{Went}
 use Rattle.nc_rules.specs.Sound.{IsPieceIn}
 use Rattle.nc_rules.specs.Turns.{is_area}
-use Rattle.nc_rules.specs.Watched.{owner_of}
+use Rattle.nc_rules.specs.EventTouches.{owner_of}
 use Rattle.nc_rules.specs.World.{WorldState, driver_of}
 use Rattle.nc_calls.specs.MachineLaws.{SameShape}
 use Rattle.nc_calls.specs.PlaceLaws.{Loads}

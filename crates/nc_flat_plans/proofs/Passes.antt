@@ -17,7 +17,7 @@ use Rattle.nc_lines.specs.Lines.{bare}
 use Rattle.nc_model.specs.declared.owners.Owner.{Owner}
 use Rattle.nc_model.specs.declared.owners.Owner.TheVariants.{Thread, Passing, Lending, Device, Returning, Synced, Pool}
 use Rattle.nc_rules.specs.Machine.{MachineState, queue_of}
-use Rattle.nc_calls.specs.PlaceLaws.{drops_copies, parts}
+use Rattle.nc_calls.specs.PlaceLaws.{drops_copies, may_leave_stale_copy}
 use Rattle.nc_rows.specs.Ahead.{names, is_full, is_mail, settling}
 use Rattle.nc_rows.specs.Laws.{place_of, seen_at}
 use Rattle.nc_rows.specs.Rows.{Loan, Book, device_place, ahead_of}
@@ -73,7 +73,7 @@ op_block m block cbos.Zero x is = absurd cc
 
 -- none of the block, and nothing with which memory and the copies come to differ
 abbrev pub NoWhole : MachineState → Entry → ℕ → Type 0
-NoWhole m e x = NoBlock m e x × (parts m.size e x ≡ false)
+NoWhole m e x = NoBlock m e x × (may_leave_stale_copy m.size e x ≡ false)
 
 -- an invalidate does so in its own block alone, and a clean or a flush nowhere
 pub writes_whole : (m : MachineState) (block : Block) (op : CboOp) (x : ℕ) → writes_back op ≡ true → NoWhole m (entries.Cbo block op) x

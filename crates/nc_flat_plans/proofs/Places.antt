@@ -23,7 +23,7 @@ use Rattle.nc_rules.specs.declared.lots.Side.TheVariants as sides
 use Rattle.nc_rules.specs.declared.steps.Step.{Step}
 use Rattle.nc_rules.specs.Lots.{is_lot, is_wanted, map_id, grant_of, owner_of_side}
 use Rattle.nc_rules.specs.Turns.{is_area}
-use Rattle.nc_rules.specs.Watched.{owner_of}
+use Rattle.nc_rules.specs.EventTouches.{owner_of}
 use Rattle.nc_rules.specs.World.{WorldState, driver_of}
 use Rattle.nc_scripts.specs.Drivers.{FitsKind}
 use Rattle.nc_scripts.proofs.LotLaws.{named_so, its_name}

@@ -20,7 +20,7 @@ use Rattle.nc_rules.specs.Lots.{owner_of_side}
 use Rattle.nc_rules.specs.Machine.{MachineState, hart_of}
 use Rattle.nc_rules.specs.Turns.{is_area}
 use Rattle.nc_rules.specs.Driver.{Went}
-use Rattle.nc_rules.specs.Watched.{owner_of}
+use Rattle.nc_rules.specs.EventTouches.{owner_of}
 use Rattle.nc_rules.specs.World.{WorldState, driver_of}
 use Rattle.nc_rows.specs.Ahead.{turns_lot, stores_io, tokens_lot, ends, is_full, act_coming}
 use Rattle.nc_rows.specs.Parts.{IsQueued, rest_last}

@@ -21,10 +21,10 @@ use Rattle.nc_rules.specs.declared.lots.Side.TheVariants as sides
 use Rattle.nc_rules.specs.declared.steps.Step.{Step}
 use Rattle.nc_rules.specs.declared.steps.Turn.{Turn}
 use Rattle.nc_rules.specs.declared.steps.Turn.TheVariants as turns
-use Rattle.nc_rules.specs.Lots.{Fixed, is_lot, is_wanted, map_id, owner_of_side}
+use Rattle.nc_rules.specs.Lots.{DriverConfig, is_lot, is_wanted, map_id, owner_of_side}
 use Rattle.nc_rules.specs.Turns.{is_area, last_owner, to_side, to_end, of_those, with_side, set_side, lots_after, transfers_of}
 use Rattle.nc_rules.specs.Driver.{DriverState, Went}
-use Rattle.nc_rules.specs.Watched.{owner_of}
+use Rattle.nc_rules.specs.EventTouches.{owner_of}
 use Rattle.nc_rules.specs.World.{WorldState, driver_of, hart, owners_moved}
 use Rattle.nc_scripts.proofs.LotLaws.{its_name, named_so}
 use Rattle.nc_holds.specs.Held.{OwnersAgree}
@@ -92,11 +92,11 @@ pub held : (sc : Scenario) (f : List ℕ) (w : WorldState) (h : HartNo) (lot : L
 held sc f w h lot u = u.flat.world.holds.each h.0 (hart_there sc f w h lot u)
 
 -- what a mapping is, of these lots
-abbrev pub loan_in : Fixed → List Lot → MapId → Option Loan
+abbrev pub loan_in : DriverConfig → List Lot → MapId → Option Loan
 loan_in f lots n = option_map (loan_by f n) (find (is_entry_of n) lots)
 
 loan_kept : (d e : DriverState) (n : MapId) → e.fixed ≡ d.fixed → loan_of e n ≡ loan_in d.fixed e.lots n
-loan_kept d e n fixed = ap (λ (f : Fixed). loan_in f e.lots n) fixed
+loan_kept d e n fixed = ap (λ (f : DriverConfig). loan_in f e.lots n) fixed
 
 -- ---- no turn
 
@@ -129,11 +129,11 @@ entry_same : (n : MapId) (lot : Lot) (side : Side) → is_wanted lot.side ≡ fa
 entry_same n lot side was now =
     ap (λ (t : Bool). not t && (lot.id.label.0 == n.label.0 && (nat_le lot.id.first n.entry && nat_lt n.entry (lot.id.first + length lot.list.entries)))) (now ∙ sym was)
 
-found_same : (f : Fixed) (n : MapId) (a b : Lot) (xs ys : List Lot) (t : Bool) → is_entry_of n a ≡ t → is_entry_of n b ≡ t → loan_by f n a ≡ loan_by f n b → loan_in f xs n ≡ loan_in f ys n → loan_in f (a ∷ xs) n ≡ loan_in f (b ∷ ys) n
+found_same : (f : DriverConfig) (n : MapId) (a b : Lot) (xs ys : List Lot) (t : Bool) → is_entry_of n a ≡ t → is_entry_of n b ≡ t → loan_by f n a ≡ loan_by f n b → loan_in f xs n ≡ loan_in f ys n → loan_in f (a ∷ xs) n ≡ loan_in f (b ∷ ys) n
 found_same f n a b xs ys true p q loan more = rw (p, q) (ap (λ (l : Loan). Some l) loan)
 found_same f n a b xs ys false p q loan more = rw (p, q) more
 
-loans_sided : (f : Fixed) (n : MapId) (side : Side) (id : LotId) (lots : List Lot) → is_wanted side ≡ false → ((lot : Lot) → In lot lots → is_lot id lot ≡ true → is_wanted lot.side ≡ false) → loan_in f (set_side side id lots) n ≡ loan_in f lots n
+loans_sided : (f : DriverConfig) (n : MapId) (side : Side) (id : LotId) (lots : List Lot) → is_wanted side ≡ false → ((lot : Lot) → In lot lots → is_lot id lot ≡ true → is_wanted lot.side ≡ false) → loan_in f (set_side side id lots) n ≡ loan_in f lots n
 loans_sided f n side id [] now was = refl
 loans_sided f n side id (lot ∷ lots) now was =
     let more = loans_sided f n side id lots now (λ other there is. was other (inr there) is) in

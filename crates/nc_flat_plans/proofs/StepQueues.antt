@@ -21,11 +21,11 @@ use Rattle.nc_rules.specs.declared.lots.LotId.{LotId}
 use Rattle.nc_rules.specs.declared.lots.Side.{Side}
 use Rattle.nc_rules.specs.declared.lots.Side.TheVariants as sides
 use Rattle.nc_rules.specs.declared.steps.Step.{Step}
-use Rattle.nc_rules.specs.Lots.{Fixed, owner_of_side}
+use Rattle.nc_rules.specs.Lots.{DriverConfig, owner_of_side}
 use Rattle.nc_rules.specs.Machine.{MachineState, queue_of}
 use Rattle.nc_rules.specs.Turns.{is_area}
 use Rattle.nc_rules.specs.Driver.{Went}
-use Rattle.nc_rules.specs.Watched.{owner_of}
+use Rattle.nc_rules.specs.EventTouches.{owner_of}
 use Rattle.nc_rules.specs.World.{WorldState, driver_of}
 use Rattle.nc_scripts.proofs.Lists.{all_to}
 use Rattle.nc_rows.specs.Ahead.{same_lot, ends, is_full, settling, coming}
@@ -69,13 +69,13 @@ back_side n k side (inl is) owner = let both : Lending n ≡ Returning k = sym (
 back_side n k side (inr (inl is)) owner = is
 back_side n k side (inr (inr is)) owner = let both : Device n ≡ Returning k = sym (ap (owner_of_side n) is) ∙ owner in absurd (cc)
 
-still_back : (f : Fixed) (n : MapId) (lot : Lot) → owner_of_side n lot.side ≡ Returning n → IsStill f lot → ⊥
+still_back : (f : DriverConfig) (n : MapId) (lot : Lot) → owner_of_side n lot.side ≡ Returning n → IsStill f lot → ⊥
 still_back f n lot owner (StillDevice is) = let both : Device n ≡ Returning n = sym (ap (owner_of_side n) is) ∙ owner in absurd (cc)
 still_back f n lot owner (StillSynced is kind) = let both : Synced n ≡ Returning n = sym (ap (owner_of_side n) is) ∙ owner in absurd (cc)
 still_back f n lot owner (StillOwn is kind) = let both : Thread n.hart ≡ Returning n = sym (ap (owner_of_side n) is) ∙ owner in absurd (cc)
 still_back f n lot owner (StillSent is light) = let both : Lending n ≡ Returning n = sym (ap (owner_of_side n) is) ∙ owner in absurd (cc)
 
-beside_back : (f : Fixed) (n : MapId) (lot other : Lot) → owner_of_side n other.side ≡ Returning n → IsBeside f lot other → ⊥
+beside_back : (f : DriverConfig) (n : MapId) (lot other : Lot) → owner_of_side n other.side ≡ Returning n → IsBeside f lot other → ⊥
 beside_back f n lot other owner (inl still) = still_back f n other owner still
 beside_back f n lot other owner (inr waits) = let both : Lending n ≡ Returning n = sym (ap (owner_of_side n) waits.waits) ∙ owner in absurd (cc)
 

@@ -15,7 +15,7 @@ use Rattle.nc_rules.specs.declared.lots.LotId.{LotId}
 use Rattle.nc_rules.specs.declared.steps.Step.{Step}
 use Rattle.nc_rules.specs.declared.steps.Turn.{Turn}
 use Rattle.nc_rules.specs.declared.steps.Turn.TheVariants as turns
-use Rattle.nc_rules.specs.Lots.{Fixed}
+use Rattle.nc_rules.specs.Lots.{DriverConfig}
 use Rattle.nc_rules.specs.Machine.{MachineState, queue_of}
 use Rattle.nc_rules.specs.Turns.{lots_after}
 use Rattle.nc_rules.specs.Copies.{copy_steps}
@@ -70,7 +70,7 @@ back_lends id t (inl sync) = ap is_lend sync
 back_lends id t (inr end) = ap is_lend end
 
 -- it lends no lot: this the start does, or a claim
-never_lends : (f : Fixed) (lots : List Lot) (s : Step) (rest : List Step) → kind_of_act s.act ≡ OfLots → StepGoes f lots s rest → is_lend s.last ≡ false
+never_lends : (f : DriverConfig) (lots : List Lot) (s : Step) (rest : List Step) → kind_of_act s.act ≡ OfLots → StepGoes f lots s rest → is_lend s.last ≡ false
 never_lends f lots s rest kind (Loads is) = lasts_by s _ is.step refl
 never_lends f lots s rest kind (Stores is) = elim is.last [
   | inl stay ↦ ap is_lend stay
@@ -117,7 +117,7 @@ turned_tokens sc f w h o s rest k went next done opens none same light =
     let q = queue_of w.machine h.0 in
     let r = queue_of k h.0 in
     let was : All (TokenStands (s ∷ rest) q) d.lots =
-    subst (λ (ss : List Step). All (TokenStands ss q) d.lots) next.rest_is (next.now.flat.bytes.tokens h.0 next.now.there (sym (ap (λ (x : Fixed). x.light) done.fixed) ∙ light)) in
+    subst (λ (ss : List Step). All (TokenStands ss q) d.lots) next.rest_is (next.now.flat.bytes.tokens h.0 next.now.there (sym (ap (λ (x : DriverConfig). x.light) done.fixed) ∙ light)) in
     let first : All (BeforeTurn s.first (s ∷ rest) q) d.lots =
     all_in (BeforeTurn s.first (s ∷ rest) q) d.lots (λ lot here. record { stands = all_at (TokenStands (s ∷ rest) q) d.lots lot was here; turned = λ is. opens.unsent lot here is }) in
     let opened : All (TokenStands (s ∷ rest) q) (lots_after s.first d.lots) =

@@ -33,7 +33,7 @@ use Rattle.nc_rules.specs.declared.steps.Turn.TheVariants as turns
 use Rattle.nc_rules.specs.Machine.{hart_of}
 use Rattle.nc_rules.specs.Calls.{issue_next}
 use Rattle.nc_rules.specs.Turns.{is_area}
-use Rattle.nc_rules.specs.Watched.{owner_of}
+use Rattle.nc_rules.specs.EventTouches.{owner_of}
 use Rattle.nc_rules.specs.World.{WorldState, driver_of}
 use Rattle.nc_calls.proofs.CallProofs.{issues_by_place}
 use Rattle.nc_rows.specs.Ahead.{ends, turns_lot, stores_io, tokens_lot, is_full, act_coming}

@@ -26,12 +26,12 @@ use Rattle.nc_rules.specs.declared.lots.Side.TheVariants as sides
 use Rattle.nc_rules.specs.declared.steps.Step.{Step}
 use Rattle.nc_rules.specs.declared.steps.Turn.{Turn}
 use Rattle.nc_rules.specs.declared.steps.Turn.TheVariants as turns
-use Rattle.nc_rules.specs.Lots.{Fixed, is_lot}
+use Rattle.nc_rules.specs.Lots.{DriverConfig, is_lot}
 use Rattle.nc_rules.specs.Calls.{issue_next}
 use Rattle.nc_rules.specs.Machine.{hart_of, queue_of}
 use Rattle.nc_rules.specs.Turns.{is_area, set_side, lots_after, lots_after_both, transfers_of}
 use Rattle.nc_rules.specs.Driver.{is_script}
-use Rattle.nc_rules.specs.Watched.{owner_of}
+use Rattle.nc_rules.specs.EventTouches.{owner_of}
 use Rattle.nc_rules.specs.World.{WorldState, driver_of}
 use Rattle.nc_calls.specs.PlaceLaws.{drops_copies}
 use Rattle.nc_scripts.proofs.Lists.{all_in}
@@ -72,7 +72,7 @@ use Rattle.nc_flat_plans.proofs.Issues.{IsOpNext, op_may, op_enters, emptied, ke
 -- ---- the lot before the step
 
 -- what is beside it is still
-taken_beside : (f : Fixed) (lots : List Lot) (lot : Lot) → All (λ other. is_lot lot.id other ≡ false → IsBeside f (record lot { side = sides.Returning }) other) (set_side sides.Returning lot.id lots) → All (λ other. is_lot lot.id other ≡ false → IsBeside f lot other) lots
+taken_beside : (f : DriverConfig) (lots : List Lot) (lot : Lot) → All (λ other. is_lot lot.id other ≡ false → IsBeside f (record lot { side = sides.Returning }) other) (set_side sides.Returning lot.id lots) → All (λ other. is_lot lot.id other ≡ false → IsBeside f lot other) lots
 taken_beside f lots lot all =
     let P : Lot → Type 0 = λ (other : Lot). is_lot lot.id other ≡ false → IsBeside f (record lot { side = sides.Returning }) other in
     all_in (λ (other : Lot). is_lot lot.id other ≡ false → IsBeside f lot other) lots (λ other here off. elim (all_at P (set_side sides.Returning lot.id lots) other all (kept_in sides.Returning lot.id lots other off here) off) [

@@ -18,7 +18,7 @@ use Rattle.nc_scen.specs.Regions.{pool_of, slots_of}
 use Rattle.nc_scen.specs.declared.scenario.Scenario.{Scenario}
 use Rattle.nc_rules.specs.Machine.{queue_of}
 use Rattle.nc_rules.specs.Refusals.{buffer_of, owned, owned_but}
-use Rattle.nc_rules.specs.Watched.{owner_of}
+use Rattle.nc_rules.specs.EventTouches.{owner_of}
 use Rattle.nc_rules.specs.World.{WorldState, driver_of}
 use Rattle.nc_scripts.specs.Scripts.{IsRangeIn}
 use Rattle.nc_holds.specs.Messages.{Status, Still, Passed}

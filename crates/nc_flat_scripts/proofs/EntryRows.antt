@@ -24,7 +24,7 @@ use Rattle.nc_model.proofs.Faults.{covers-from}
 use Rattle.nc_model.specs.declared.owners.Owner.{Owner}
 use Rattle.nc_model.specs.declared.owners.Owner.TheVariants.{Thread, Passing, Lending, Device, Returning, Synced, Pool}
 use Rattle.nc_rules.specs.Machine.{MachineState, queue_of}
-use Rattle.nc_calls.specs.PlaceLaws.{parts}
+use Rattle.nc_calls.specs.PlaceLaws.{may_leave_stale_copy}
 use Rattle.nc_rows.specs.Ahead.{names, is_full, settling}
 use Rattle.nc_rows.specs.Rows.{Loan, Book, device_place, ahead_of, Either, ByDir, Row}
 use Rattle.nc_row_issues.specs.Laws.{Enters, NoByte, NoBlock, Passes, PassesTo, PassesAllocating, PassesLent, PassesLoan, PassesBack, IsOwn}
@@ -66,7 +66,7 @@ none_block (Lend label first count) b size fits none = refl
 none_block (Mark pred succ) b size fits none = refl
 
 -- what gives no byte of the place parts no byte of it, but for an invalidate
-op_parts_none : (s : ℕ) (op : CboOp) (block : Block) (x : ℕ) → has_op is_inval (x / s) (Cbo block op) ≡ false → parts s (Cbo block op) x ≡ false
+op_parts_none : (s : ℕ) (op : CboOp) (block : Block) (x : ℕ) → has_op is_inval (x / s) (Cbo block op) ≡ false → may_leave_stale_copy s (Cbo block op) x ≡ false
 op_parts_none s cbos.Inval block x none = elim (cases_Bool (x / s == block.0)) [
   | inl is ↦ absurd (false≢true (sym none ∙ eq-eqb block.0 (x / s) (sym (eqb-true (x / s) block.0 is))))
   | inr not ↦ not
@@ -75,12 +75,12 @@ op_parts_none s cbos.Clean block x none = refl
 op_parts_none s cbos.Flush block x none = refl
 op_parts_none s cbos.Zero block x none = refl
 
-store_parts_none : (s : ℕ) (kind : MemType) (span : Span) (bytes : List ℕ) (x : ℕ) → entry_gives s (Store span bytes kind) x ≡ None → parts s (Store span bytes kind) x ≡ false
+store_parts_none : (s : ℕ) (kind : MemType) (span : Span) (bytes : List ℕ) (x : ℕ) → entry_gives s (Store span bytes kind) x ≡ None → may_leave_stale_copy s (Store span bytes kind) x ≡ false
 store_parts_none s Pma span bytes x none = refl
 store_parts_none s Nc span bytes x none = ungiven (covers span x) _ none
 store_parts_none s Io span bytes x none = ungiven (covers span x) _ none
 
-parts_given : (s : ℕ) (e : Entry) (x : ℕ) → has_op is_inval (x / s) e ≡ false → entry_gives s e x ≡ None → parts s e x ≡ false
+parts_given : (s : ℕ) (e : Entry) (x : ℕ) → has_op is_inval (x / s) e ≡ false → entry_gives s e x ≡ None → may_leave_stale_copy s e x ≡ false
 parts_given s (Store span bytes kind) x keeps none = store_parts_none s kind span bytes x none
 parts_given s (Cbo block op) x keeps none = op_parts_none s op block x keeps
 parts_given s (Reg chan off width value) x keeps none = refl

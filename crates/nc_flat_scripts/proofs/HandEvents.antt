@@ -25,7 +25,7 @@ use Rattle.nc_rules.specs.Driver.{Went, next_of, is_script, done}
 use Rattle.nc_rules.specs.Flat.{all_marks}
 use Rattle.nc_rules.specs.Outcomes.{goes, seen_of}
 use Rattle.nc_rules.specs.Records.{op_records}
-use Rattle.nc_rules.specs.Watched.{owner_of, issue_touch}
+use Rattle.nc_rules.specs.EventTouches.{owner_of, issue_touch}
 use Rattle.nc_rules.specs.World.{WorldState, driver_of, owners_moved}
 use Rattle.nc_rows.specs.Ahead.{is_full, is_mail, sending}
 use Rattle.nc_rows.specs.Rows.{PassingRow, Row}

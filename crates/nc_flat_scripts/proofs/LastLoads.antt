@@ -9,7 +9,7 @@ use Rattle.nc_model.specs.declared.owners.Owner.{Owner}
 use Rattle.nc_model.specs.declared.owners.Owner.TheVariants.{Lending, Returning}
 use Rattle.nc_scen.specs.declared.scenario.Scenario.{Scenario}
 use Rattle.nc_rules.specs.Machine.{MachineState, hart_of}
-use Rattle.nc_rules.specs.Watched.{owner_of}
+use Rattle.nc_rules.specs.EventTouches.{owner_of}
 use Rattle.nc_rules.specs.World.{WorldState}
 use Rattle.nc_rows.specs.Parts.{rest_last, LastIs, Lasts}
 use Rattle.nc_rows.specs.Rows.{Book}

@@ -33,7 +33,7 @@ use Rattle.nc_rules.specs.Flat.{all_marks}
 use Rattle.nc_rules.specs.Sound.{IsMachine, IsPieceIn, OpIsThere}
 use Rattle.nc_rules.specs.Records.{transfer_records, op_records, load_record}
 use Rattle.nc_rules.specs.View.{seen, view, bytes_seen}
-use Rattle.nc_rules.specs.Watched.{owner_of, op_touch}
+use Rattle.nc_rules.specs.EventTouches.{owner_of, op_touch}
 use Rattle.nc_rules.specs.World.{WorldState, driver_of}
 use Rattle.nc_calls.proofs.CallProofs.{issues_by_place}
 use Rattle.nc_calls.proofs.StartPlaces.{loads_show}

@@ -20,7 +20,7 @@ use Rattle.nc_rules.specs.Copies.{source, target}
 use Rattle.nc_rules.specs.Driver.{DriverState, in_hand}
 use Rattle.nc_rules.specs.Machine.{MachineState, queue_of, channel_of, grantee_of, with_channel, with_box}
 use Rattle.nc_rules.specs.Calls.{claimed_by, claim_next, may_take, take_next}
-use Rattle.nc_rules.specs.Watched.{owner_of}
+use Rattle.nc_rules.specs.EventTouches.{owner_of}
 use Rattle.nc_rules.specs.World.{WorldState, driver_of, hart}
 use Rattle.nc_calls.specs.MachineLaws.{SameDevices}
 use Rattle.nc_calls.proofs.MachineParts.{channel_away, grantee_away}

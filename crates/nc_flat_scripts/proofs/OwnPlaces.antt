@@ -27,7 +27,7 @@ use Rattle.nc_own.specs.Books.{owner_in}
 use Rattle.nc_scen.specs.Regions.{slots_of}
 use Rattle.nc_scen.specs.declared.scenario.Scenario.{Scenario}
 use Rattle.nc_rules.specs.Sound.{IsPieceIn, IsBlockIn}
-use Rattle.nc_rules.specs.Watched.{owner_of}
+use Rattle.nc_rules.specs.EventTouches.{owner_of}
 use Rattle.nc_rules.specs.World.{WorldState}
 use Rattle.nc_rows.specs.Laws.{seen_at}
 use Rattle.nc_rows.specs.Parts.{StoreIsQueued}

@@ -17,7 +17,7 @@ use Rattle.nc_rules.specs.declared.lots.LotId.{LotId}
 use Rattle.nc_rules.specs.declared.steps.Step.{Step}
 use Rattle.nc_rules.specs.Machine.{MachineState, hart_of, queue_of}
 use Rattle.nc_rules.specs.Driver.{Went}
-use Rattle.nc_rules.specs.Watched.{owner_of}
+use Rattle.nc_rules.specs.EventTouches.{owner_of}
 use Rattle.nc_rules.specs.World.{WorldState, driver_of}
 use Rattle.nc_calls.specs.MachineLaws.{SameShape}
 use Rattle.nc_calls.specs.PlaceLaws.{NotHeld}

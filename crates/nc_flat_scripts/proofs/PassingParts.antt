@@ -15,9 +15,9 @@ use Rattle.nc_rules.specs.declared.lots.Lot.{Lot}
 use Rattle.nc_rules.specs.declared.lots.LotId.{LotId}
 use Rattle.nc_rules.specs.declared.steps.Step.{Step}
 use Rattle.nc_rules.specs.Machine.{MachineState, hart_of, queue_of}
-use Rattle.nc_rules.specs.Lots.{Fixed}
+use Rattle.nc_rules.specs.Lots.{DriverConfig}
 use Rattle.nc_rules.specs.Driver.{DriverState, Went}
-use Rattle.nc_rules.specs.Watched.{owner_of}
+use Rattle.nc_rules.specs.EventTouches.{owner_of}
 use Rattle.nc_rules.specs.World.{WorldState, driver_of}
 use Rattle.nc_scripts.proofs.Lists.{all_to}
 use Rattle.nc_rows.specs.Ahead.{is_full, settling, coming}
@@ -175,7 +175,7 @@ tokens_passed sc f w h n went p same g lt light = elim (cases_eq g h.0) [
       let d = driver_of w h.0 in
       let here = driver_here w h n went g (there sc f w h went p) own in
       let was : All (TokenStands d.rest (queue_of w.machine g)) d.lots =
-      subst (λ (j : ℕ). All (TokenStands d.rest (queue_of w.machine j)) d.lots) (sym own) (p.flat.bytes.tokens h.0 p.lt (ap (λ (k : Fixed). k.light) (sym p.fixed) ∙ ap (λ (e : DriverState). e.fixed.light) (sym here) ∙ light)) in
+      subst (λ (j : ℕ). All (TokenStands d.rest (queue_of w.machine j)) d.lots) (sym own) (p.flat.bytes.tokens h.0 p.lt (ap (λ (k : DriverConfig). k.light) (sym p.fixed) ∙ ap (λ (e : DriverState). e.fixed.light) (sym here) ∙ light)) in
       subst (λ (e : DriverState). All (TokenStands e.rest (queue_of n g)) e.lots) (sym here)
       (subst (λ (lots : List Lot). All (TokenStands went.driver.rest (queue_of n g)) lots) (sym p.lots)
       (all_to (TokenStands d.rest (queue_of w.machine g)) (TokenStands went.driver.rest (queue_of n g)) d.lots was (λ lot is. rest_sent d.rest went.driver.rest (queue_of w.machine g) (queue_of n g) lot p.was p.left (same g lot.id) is)))

@@ -15,7 +15,7 @@ use Rattle.nc_rules.specs.declared.steps.Phase.TheVariants.{Steps}
 use Rattle.nc_rules.specs.declared.steps.Seen.{Seen}
 use Rattle.nc_rules.specs.declared.steps.Seen.TheVariants as seen
 use Rattle.nc_rules.specs.declared.steps.Step.{Step}
-use Rattle.nc_rules.specs.Lots.{Fixed, is_wanted}
+use Rattle.nc_rules.specs.Lots.{DriverConfig, is_wanted}
 use Rattle.nc_rules.specs.Refusals.{buffer_of}
 use Rattle.nc_rules.specs.Turns.{lots_after_both, turned, turned_by, without_wanted}
 use Rattle.nc_rules.specs.Handing.{take_step}
@@ -46,13 +46,13 @@ pub record IsIdle (d : DriverState) : Type 0 where
 
 -- ---- lots
 
-still_lent : (f : Fixed) (lot : Lot) → IsStill f lot → is_wanted lot.side ≡ false
+still_lent : (f : DriverConfig) (lot : Lot) → IsStill f lot → is_wanted lot.side ≡ false
 still_lent f lot (StillDevice is) = ap is_wanted is
 still_lent f lot (StillSynced is single) = ap is_wanted is
 still_lent f lot (StillOwn is area) = ap is_wanted is
 still_lent f lot (StillSent is light) = ap is_wanted is
 
-pub all_lent : (f : Fixed) (lots : List Lot) → All (IsStill f) lots → without_wanted lots ≡ lots
+pub all_lent : (f : DriverConfig) (lots : List Lot) → All (IsStill f) lots → without_wanted lots ≡ lots
 all_lent f [] still = refl
 all_lent f (lot ∷ lots) still =
     let rest = all_lent f lots (All-tail (IsStill f) lot lots still) in

@@ -26,7 +26,7 @@ use Rattle.nc_rules.specs.Operations.{step_at}
 use Rattle.nc_rules.specs.Outcomes.{goes, seen_of, claim_seen, start_outcome, op_outcome, claim_outcome, poll_outcome, step_outcome, outcome}
 use Rattle.nc_rules.specs.Records.{op_records}
 use Rattle.nc_rules.specs.Sound.{OpIsThere}
-use Rattle.nc_rules.specs.Watched.{op_touch, issue_touch, poll_touch}
+use Rattle.nc_rules.specs.EventTouches.{op_touch, issue_touch, poll_touch}
 use Rattle.nc_rules.specs.World.{WorldState, driver_of}
 use Rattle.nc_scripts.specs.Scripts.{IsDriven}
 use Rattle.nc_scripts.proofs.EveryDriver.{op_there}

@@ -16,9 +16,9 @@ use Rattle.nc_scen.specs.declared.scenario.Scenario.{Scenario}
 use Rattle.nc_rules.specs.declared.lots.Lot.{Lot}
 use Rattle.nc_rules.specs.declared.steps.Phase.{Phase}
 use Rattle.nc_rules.specs.Machine.{MachineState, queue_of}
-use Rattle.nc_rules.specs.Lots.{Fixed}
+use Rattle.nc_rules.specs.Lots.{DriverConfig}
 use Rattle.nc_rules.specs.Driver.{DriverState, Went}
-use Rattle.nc_rules.specs.Watched.{owner_of}
+use Rattle.nc_rules.specs.EventTouches.{owner_of}
 use Rattle.nc_rules.specs.World.{WorldState, driver_of, no_driver, owners_moved}
 use Rattle.nc_holds.specs.Rests.{RestAt}
 use Rattle.nc_rows.specs.Ahead.{is_full}
@@ -55,7 +55,7 @@ pub book_same : (w v : WorldState) → ((k : ℕ) → ReadsSame (driver_of w k) 
 book_same w v same =
     let loans : (n : MapId) → loan_of (driver_of v n.hart.0) n ≡ loan_of (driver_of w n.hart.0) n = λ n.
     let s = same n.hart.0 in
-    ap (λ (f : Fixed). loan_of (record (driver_of v n.hart.0) { fixed = f }) n) s.fixed ∙ ap (λ (lots : List Lot). loan_of (record (driver_of w n.hart.0) { lots = lots }) n) s.lots in
+    ap (λ (f : DriverConfig). loan_of (record (driver_of v n.hart.0) { fixed = f }) n) s.fixed ∙ ap (λ (lots : List Lot). loan_of (record (driver_of w n.hart.0) { lots = lots }) n) s.lots in
     let rests : (k : ℕ) → (driver_of v k).rest ≡ (driver_of w k).rest = λ k. (same k).rest in
     let fixed : (driver_of v 0).fixed ≡ (driver_of w 0).fixed = (same 0).fixed in
     λ i. record { loan = λ n. loans n i; rest = λ k. rests k i; buffer = number_in (fixed i).buffers }
@@ -93,7 +93,7 @@ pub idle_book : (sc : Scenario) (f : List ℕ) (w : WorldState) (h : HartNo) (n 
 idle_book sc f w h n went flat lt was idle = book_same w (gone w h n went) (idle_reads sc f w h n went flat lt was idle)
 
 tokens_read : (n : MachineState) (d e : DriverState) (h : ℕ) → ReadsSame d e → (d.fixed.light ≡ true → All (TokenStands d.rest (queue_of n h)) d.lots) → e.fixed.light ≡ true → All (TokenStands e.rest (queue_of n h)) e.lots
-tokens_read n d e h same tokens light = rw (same.lots, same.rest) (tokens (ap (λ (f : Fixed). f.light) (sym same.fixed) ∙ light))
+tokens_read n d e h same tokens light = rw (same.lots, same.rest) (tokens (ap (λ (f : DriverConfig). f.light) (sym same.fixed) ∙ light))
 
 -- ---- owners stay
 

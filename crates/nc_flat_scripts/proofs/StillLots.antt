@@ -12,9 +12,9 @@ use Rattle.nc_rules.specs.declared.lots.Lot.{Lot}
 use Rattle.nc_rules.specs.declared.lots.LotId.{LotId}
 use Rattle.nc_rules.specs.declared.lots.Side.TheVariants as sides
 use Rattle.nc_rules.specs.declared.steps.Step.{Step}
-use Rattle.nc_rules.specs.Lots.{Fixed, owner_of_side}
+use Rattle.nc_rules.specs.Lots.{DriverConfig, owner_of_side}
 use Rattle.nc_rules.specs.Machine.{queue_of}
-use Rattle.nc_rules.specs.Watched.{owner_of}
+use Rattle.nc_rules.specs.EventTouches.{owner_of}
 use Rattle.nc_rules.specs.World.{WorldState, driver_of}
 use Rattle.nc_holds.proofs.ListsA.{all_at}
 use Rattle.nc_rows.specs.Ahead.{ends, names, coming}
@@ -40,18 +40,18 @@ none_comes n lot rest none = steps_ahead.none n lot rest (none lot)
 
 -- ---- sides
 
-still_taken : (f : Fixed) (n : MapId) (lot : Lot) → IsStill f lot → Returning n ≡ owner_of_side n lot.side → ⊥
+still_taken : (f : DriverConfig) (n : MapId) (lot : Lot) → IsStill f lot → Returning n ≡ owner_of_side n lot.side → ⊥
 still_taken f n lot (StillDevice is) e = let no : Returning n ≡ Device n = e ∙ ap (owner_of_side n) is in absurd cc
 still_taken f n lot (StillSynced is single) e = let no : Returning n ≡ Synced n = e ∙ ap (owner_of_side n) is in absurd cc
 still_taken f n lot (StillOwn is area) e = let no : Returning n ≡ Thread n.hart = e ∙ ap (owner_of_side n) is in absurd cc
 still_taken f n lot (StillSent is light) e = let no : Returning n ≡ Lending n = e ∙ ap (owner_of_side n) is in absurd cc
 
 -- with light fences alone a lot is being lent
-pub record IsSent (f : Fixed) (lot : Lot) : Type 0 where
+pub record IsSent (f : DriverConfig) (lot : Lot) : Type 0 where
   pub side : lot.side ≡ sides.Lending
   pub light : f.light ≡ true
 
-still_sent : (f : Fixed) (n : MapId) (lot : Lot) → IsStill f lot → Lending n ≡ owner_of_side n lot.side → IsSent f lot
+still_sent : (f : DriverConfig) (n : MapId) (lot : Lot) → IsStill f lot → Lending n ≡ owner_of_side n lot.side → IsSent f lot
 still_sent f n lot (StillDevice is) e = let no : Lending n ≡ Device n = e ∙ ap (owner_of_side n) is in absurd cc
 still_sent f n lot (StillSynced is single) e = let no : Lending n ≡ Synced n = e ∙ ap (owner_of_side n) is in absurd cc
 still_sent f n lot (StillOwn is area) e = let no : Lending n ≡ Thread n.hart = e ∙ ap (owner_of_side n) is in absurd cc

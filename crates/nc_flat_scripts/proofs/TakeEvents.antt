@@ -26,7 +26,7 @@ use Rattle.nc_rules.specs.Driver.{Went, in_hand, next_of, done}
 use Rattle.nc_rules.specs.Handing.{take_step}
 use Rattle.nc_rules.specs.Operations.{step_at}
 use Rattle.nc_rules.specs.Outcomes.{goes, take_outcome, step_outcome}
-use Rattle.nc_rules.specs.Watched.{owner_of}
+use Rattle.nc_rules.specs.EventTouches.{owner_of}
 use Rattle.nc_rules.specs.World.{WorldState, driver_of, owners_moved}
 use Rattle.nc_calls.specs.MachineLaws.{SameShape}
 use Rattle.nc_calls.specs.PlaceLaws.{Stays}

@@ -27,12 +27,12 @@ use Rattle.nc_rules.specs.Calls.{control_of}
 use Rattle.nc_rules.specs.Driver.{in_hand, next_of, next_act, next_rest, done}
 use Rattle.nc_rules.specs.Events.{enabled}
 use Rattle.nc_rules.specs.Flat.{all_marks, event_marks}
-use Rattle.nc_rules.specs.Lots.{Fixed}
+use Rattle.nc_rules.specs.Lots.{DriverConfig}
 use Rattle.nc_rules.specs.Machine.{grantee_of}
 use Rattle.nc_rules.specs.Next.{event_records}
 use Rattle.nc_rules.specs.Outcomes.{Outcome, goes, outcome}
 use Rattle.nc_rules.specs.Plans.{step, control_step}
-use Rattle.nc_rules.specs.Watched.{poll_touch}
+use Rattle.nc_rules.specs.EventTouches.{poll_touch}
 use Rattle.nc_rules.specs.World.{WorldState, driver_of, hart}
 use Rattle.nc_transfers.specs.Transfers.{IsCopied}
 use Rattle.nc_flatness.specs.Copying.{CopyOp, copy_op, IsBegun, IsCopyNow, IsUnderWay}
@@ -74,7 +74,7 @@ act_polls (acts.Claim c) chan is = absurd cc
 act_polls (acts.Poll c) chan is = let same : c ≡ chan = cc in ap acts.Poll same
 act_polls (acts.Take buf) chan is = absurd cc
 
-poll_next : (f : Fixed) (lots : List Lot) (rest : List Step) (chan : ChanNo) → PlanGoes f lots rest → next_rest rest ≡ nexts.Poll chan → IsPolled rest chan
+poll_next : (f : DriverConfig) (lots : List Lot) (rest : List Step) (chan : ChanNo) → PlanGoes f lots rest → next_rest rest ≡ nexts.Poll chan → IsPolled rest chan
 poll_next f lots [] chan goes is = absurd cc
 poll_next f lots (s ∷ rest) chan goes is =
     let act = act_polls s.act chan is in

@@ -18,9 +18,9 @@ use Rattle.nc_rules.specs.declared.steps.Phase.TheVariants.{Work}
 use Rattle.nc_rules.specs.declared.steps.Step.{Step}
 use Rattle.nc_rules.specs.Copies.{source, target}
 use Rattle.nc_rules.specs.Driver.{DriverState, Went, in_hand}
-use Rattle.nc_rules.specs.Lots.{Fixed}
+use Rattle.nc_rules.specs.Lots.{DriverConfig}
 use Rattle.nc_rules.specs.Machine.{MachineState, queue_of, channel_of, grantee_of}
-use Rattle.nc_rules.specs.Watched.{owner_of}
+use Rattle.nc_rules.specs.EventTouches.{owner_of}
 use Rattle.nc_rules.specs.World.{WorldState, driver_of}
 use Rattle.nc_scripts.specs.Drivers.{is_claim}
 use Rattle.nc_rows.specs.Ahead.{act_coming}
@@ -46,7 +46,7 @@ under_by : (sc : Scenario) (f : List ℕ) (w v : WorldState) (g : ℕ) (k : Copy
 under_by sc f w v g k from to like u =
     let end_at : (id : LotId) (dir : Dir) (range device : Span) → IsEndAt (driver_of w g).fixed (driver_of w g).lots id dir k.chan range device → IsEndAt (driver_of v g).fixed (driver_of v g).lots id dir k.chan range device =
     λ id dir range device at.
-    subst (λ (i : Fixed). IsEndAt i (driver_of v g).lots id dir k.chan range device) (sym like.fixed) (subst (λ (lots : List Lot). IsEndAt (driver_of w g).fixed lots id dir k.chan range device) (sym like.lots) at) in
+    subst (λ (i : DriverConfig). IsEndAt i (driver_of v g).lots id dir k.chan range device) (sym like.fixed) (subst (λ (lots : List Lot). IsEndAt (driver_of w g).fixed lots id dir k.chan range device) (sym like.lots) at) in
     record {
       ends = u.ends;
       are = u.are;
@@ -66,8 +66,8 @@ now_by : (sc : Scenario) (f : List ℕ) (w v : WorldState) (g : ℕ) (k : CopyOp
 now_by sc f w v g k like goes polled now = record {
   from = now.from;
   to = now.to;
-  from_is = subst (λ (i : Fixed). source_range i k now.from) (sym like.fixed) now.from_is;
-  to_is = subst (λ (i : Fixed). target_range i k now.to) (sym like.fixed) now.to_is;
+  from_is = subst (λ (i : DriverConfig). source_range i k now.from) (sym like.fixed) now.from_is;
+  to_is = subst (λ (i : DriverConfig). target_range i k now.to) (sym like.fixed) now.to_is;
   ends = subst (λ (lots : List Lot). AreItsEnds k now.from now.to lots) (sym like.lots) now.ends;
   under = λ is. under_by sc f w v g k now.from now.to like (now.under (goes is));
   polled = polled;

@@ -23,11 +23,11 @@ use Rattle.nc_rules.specs.declared.steps.Turn.TheVariants as turns
 use Rattle.nc_rules.specs.Calls.{issue_next, control_of}
 use Rattle.nc_rules.specs.Driver.{in_hand, is_script, kept, busy, done}
 use Rattle.nc_rules.specs.Flat.{all_marks}
-use Rattle.nc_rules.specs.Lots.{Fixed}
+use Rattle.nc_rules.specs.Lots.{DriverConfig}
 use Rattle.nc_rules.specs.Plans.{step, control_step}
 use Rattle.nc_rules.specs.Records.{op_records}
 use Rattle.nc_rules.specs.Turns.{lots_after_both}
-use Rattle.nc_rules.specs.Watched.{issue_touch, poll_touch}
+use Rattle.nc_rules.specs.EventTouches.{issue_touch, poll_touch}
 use Rattle.nc_rules.specs.World.{WorldState, driver_of}
 use Rattle.nc_scripts.specs.Drivers.{IsAtWork, IsPhase, ClaimsFirst, ClaimsNothing}
 use Rattle.nc_rows.specs.Parts.{rest_last}
@@ -150,7 +150,7 @@ claim_channel e = absurd cc
 lots_kind : {A : Type 0} (s t : Step) → s ≡ t → kind_of_act s.act ≡ OfChannel → kind_of_act t.act ≡ OfLots → A
 lots_kind s t same is lots = absurd (lots_channel (sym lots ∙ ap (λ (k : Step). kind_of_act k.act) (sym same) ∙ is))
 
-pub channel_step : (f : Fixed) (lots : List Lot) (s : Step) (rest : List Step) → kind_of_act s.act ≡ OfChannel → StepGoes f lots s rest → IsRegister f lots s rest ⊎ IsPoll f lots s rest
+pub channel_step : (f : DriverConfig) (lots : List Lot) (s : Step) (rest : List Step) → kind_of_act s.act ≡ OfChannel → StepGoes f lots s rest → IsRegister f lots s rest ⊎ IsPoll f lots s rest
 channel_step f lots s rest kind (Registers is) = inl is
 channel_step f lots s rest kind (Polls is) = inr is
 channel_step f lots s rest kind (Stores is) = absurd (lots_channel (ap kind_of_act (sym is.act) ∙ kind))

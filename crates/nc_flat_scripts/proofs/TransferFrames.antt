@@ -17,10 +17,10 @@ use Rattle.nc_scen.specs.declared.scenario.Scenario.{Scenario}
 use Rattle.nc_rules.specs.declared.lots.Lot.{Lot}
 use Rattle.nc_rules.specs.declared.lots.LotId.{LotId}
 use Rattle.nc_rules.specs.declared.steps.Step.{Step}
-use Rattle.nc_rules.specs.Lots.{Fixed}
+use Rattle.nc_rules.specs.Lots.{DriverConfig}
 use Rattle.nc_rules.specs.Machine.{MachineState, hart_of, queue_of}
 use Rattle.nc_rules.specs.Driver.{DriverState, Went}
-use Rattle.nc_rules.specs.Watched.{owner_of}
+use Rattle.nc_rules.specs.EventTouches.{owner_of}
 use Rattle.nc_rules.specs.World.{WorldState, driver_of, owners_moved}
 use Rattle.nc_calls.specs.PlaceLaws.{NotHeld}
 use Rattle.nc_scripts.proofs.Lists.{all_to}
@@ -176,7 +176,7 @@ lots_tokens sc f w h n went s g k lt light = elim (cases_eq g h.0) [
       let here = driver_here w h n went g (there sc f w h n went s k) own in
       let was : All (TokenStands (s ∷ went.driver.rest) (queue_of w.machine g)) d.lots =
       subst (λ (r : List Step). All (TokenStands r (queue_of w.machine g)) d.lots) k.rest
-      (subst (λ (j : ℕ). All (TokenStands d.rest (queue_of w.machine j)) d.lots) (sym own) (k.flat.bytes.tokens h.0 k.lt (ap (λ (i : Fixed). i.light) (sym k.fixed) ∙ ap (λ (e : DriverState). e.fixed.light) (sym here) ∙ light))) in
+      (subst (λ (j : ℕ). All (TokenStands d.rest (queue_of w.machine j)) d.lots) (sym own) (k.flat.bytes.tokens h.0 k.lt (ap (λ (i : DriverConfig). i.light) (sym k.fixed) ∙ ap (λ (e : DriverState). e.fixed.light) (sym here) ∙ light))) in
       subst (λ (e : DriverState). All (TokenStands e.rest (queue_of n g)) e.lots) (sym here)
       (subst (λ (lots : List Lot). All (TokenStands went.driver.rest (queue_of n g)) lots) (sym k.lots)
       (all_to (TokenStands (s ∷ went.driver.rest) (queue_of w.machine g)) (TokenStands went.driver.rest (queue_of n g)) d.lots was

@@ -32,7 +32,7 @@ use Rattle.nc_rules.specs.declared.steps.Step.{Step}
 use Rattle.nc_rules.specs.declared.steps.Turn.TheVariants as turns
 use Rattle.nc_rules.specs.Areas as areas
 use Rattle.nc_rules.specs.Areas.{calloc_begin, calloc_steps}
-use Rattle.nc_rules.specs.Lots.{Fixed, lot_id, lot_named, area_lot, only_entry, is_lot, is_named, is_labelled, is_wanted, same_kind, map_id, lot_waits, some_lot_waits}
+use Rattle.nc_rules.specs.Lots.{DriverConfig, lot_id, lot_named, area_lot, only_entry, is_lot, is_named, is_labelled, is_wanted, same_kind, map_id, lot_waits, some_lot_waits}
 use Rattle.nc_rules.specs.Mappings.{with_lot}
 use Rattle.nc_rules.specs.Operations.{meaning, begin, opening, plan_of}
 use Rattle.nc_rules.specs.Refusals.{◌>>=◌, wanted, some_or, unused, planned}
@@ -82,7 +82,7 @@ use Rattle.nc_flat_starts.proofs.Tokens.{none_named, lots_stand}
 
 -- ---- the lot that is made
 
-calloc_made : (f : Fixed) (lots new : List Lot) (os : List Owner) (pages : PageMap) (label : Label) (count : ℕ) (chan : ChanNo) → begin f lots os pages (ops.Calloc label count chan) ≡ Ok new → (span : Span) × (area_lot (lot_id label 0) chan span ∷ [] ≡ new)
+calloc_made : (f : DriverConfig) (lots new : List Lot) (os : List Owner) (pages : PageMap) (label : Label) (count : ℕ) (chan : ChanNo) → begin f lots os pages (ops.Calloc label count chan) ≡ Ok new → (span : Span) × (area_lot (lot_id label 0) chan span ∷ [] ≡ new)
 unfolding begin meaning areas.calloc
 calloc_made f lots new os pages label count chan e =
     let last = area_is f label chan (lowest_span pages count) in
@@ -98,7 +98,7 @@ calloc_made f lots new os pages label count chan e =
 zeroing_here : (sc : Scenario) (f : List ℕ) (w : WorldState) (h : HartNo) (o : Op) → IsStart sc f w h o → IsZeroing (driver_of w h.0).fixed.effects
 zeroing_here sc f w h o s =
     let k = hart_spec sc h.0 in
-    subst (λ (j : Fixed). IsZeroing j.effects) (sym (fixed_is sc f w h s.flat s.lt)) (zeroing k.mode k.menvcfg k.senvcfg)
+    subst (λ (j : DriverConfig). IsZeroing j.effects) (sym (fixed_is sc f w h s.flat s.lt)) (zeroing k.mode k.menvcfg k.senvcfg)
 
 -- ---- the hart's lots with it
 
@@ -243,11 +243,11 @@ alloc_opens sc f w h o went lot a driver transfers =
 
 -- ---- the start
 
-calloc_opening : (f : Fixed) (lots : List Lot) (label : Label) (count : ℕ) (chan : ChanNo) → opening f lots (ops.Calloc label count chan) ≡ turns.Lend (lot_id label 0)
+calloc_opening : (f : DriverConfig) (lots : List Lot) (label : Label) (count : ℕ) (chan : ChanNo) → opening f lots (ops.Calloc label count chan) ≡ turns.Lend (lot_id label 0)
 unfolding opening meaning areas.calloc
 calloc_opening f lots label count chan = refl
 
-calloc_plan : (f : Fixed) (lots : List Lot) (label : Label) (count : ℕ) (chan : ChanNo) → plan_of f lots (ops.Calloc label count chan) ≡ with_lot [] (calloc_steps f) (lot_named lots label kinds.Area)
+calloc_plan : (f : DriverConfig) (lots : List Lot) (label : Label) (count : ℕ) (chan : ChanNo) → plan_of f lots (ops.Calloc label count chan) ≡ with_lot [] (calloc_steps f) (lot_named lots label kinds.Area)
 unfolding plan_of meaning areas.calloc
 calloc_plan f lots label count chan = refl
 

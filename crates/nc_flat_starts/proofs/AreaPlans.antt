@@ -32,7 +32,7 @@ use Rattle.nc_rules.specs.declared.steps.Step.{Step}
 use Rattle.nc_rules.specs.declared.steps.Turn.{Turn}
 use Rattle.nc_rules.specs.declared.steps.Turn.TheVariants as turns
 use Rattle.nc_rules.specs.Areas.{calloc_steps, fenced}
-use Rattle.nc_rules.specs.Lots.{Fixed, only_entry}
+use Rattle.nc_rules.specs.Lots.{DriverConfig, only_entry}
 use Rattle.nc_rules.specs.Plans.{hart_step, op_steps, ending}
 use Rattle.nc_holds.specs.Held.{IsEntryOf}
 use Rattle.nc_rules.specs.Machine.{MachineState}
@@ -132,7 +132,7 @@ some_flush b (c ∷ bs) (inr later) = or_right (c == b) (list_any (has_op is_flu
 
 -- ---- their steps go
 
-zeros_go : (f : Fixed) (lots : List Lot) (lot : Lot) (i : ℕ) (e : Entry) (bs : List ℕ) (tail : List Step) → IsInHand f lots lot true sides.Lending → IsEntryOf lots lot i e → ((b : ℕ) → In b bs → (x : ℕ) → x / f.size ≡ b → covers e.span x ≡ true) → Rises bs
+zeros_go : (f : DriverConfig) (lots : List Lot) (lot : Lot) (i : ℕ) (e : Entry) (bs : List ℕ) (tail : List Step) → IsInHand f lots lot true sides.Lending → IsEntryOf lots lot i e → ((b : ℕ) → In b bs → (x : ℕ) → x / f.size ≡ b → covers e.span x ≡ true) → Rises bs
     → list_any (ends lot.id) tail ≡ true → settling lot.id tail ≡ true → ((b : ℕ) → HasZero lot.id tail b false) → LoadsFirst tail → PlanGoes f lots tail → PlanGoes f lots (op_steps (zeros bs) ++ tail)
 zeros_go f lots lot i e [] tail hand here whole rises ended settles none first go = go
 zeros_go f lots lot i e (b ∷ bs) tail hand here whole rises ended settles none first go = (
@@ -153,7 +153,7 @@ zeros_go f lots lot i e (b ∷ bs) tail hand here whole rises ended settles none
   zeros_go f lots lot i e bs tail hand here (λ c there. whole c (inr there)) rises.1 ended settles none first go,
 )
 
-flushings_go : (f : Fixed) (lots : List Lot) (lot : Lot) (bs : List ℕ) (tail : List Step) → IsInHand f lots lot true sides.Lending → settling lot.id tail ≡ true → LoadsFirst tail → PlanGoes f lots tail → PlanGoes f lots (op_steps (flushings bs) ++ tail)
+flushings_go : (f : DriverConfig) (lots : List Lot) (lot : Lot) (bs : List ℕ) (tail : List Step) → IsInHand f lots lot true sides.Lending → settling lot.id tail ≡ true → LoadsFirst tail → PlanGoes f lots tail → PlanGoes f lots (op_steps (flushings bs) ++ tail)
 flushings_go f lots lot [] tail hand settles first go = go
 flushings_go f lots lot (b ∷ bs) tail hand settles first go = (
   Flushes (record {
@@ -174,7 +174,7 @@ pub record IsZeroing (e : Effects) : Type 0 where
   pub zeroes : result_unwrap_or e.zero Zero ≡ Zero
   pub flushes : result_unwrap_or e.flush Flush ≡ Flush
 
-calloc_is : (f : Fixed) (lot : Lot) (bs : List ℕ) → blocks f.size (only_entry lot).span ≡ bs → IsZeroing f.effects → calloc_steps f lot ≡ op_steps (zeros bs) ++ (op_steps (flushings bs) ++ fenced (turns.Settle lot.id))
+calloc_is : (f : DriverConfig) (lot : Lot) (bs : List ℕ) → blocks f.size (only_entry lot).span ≡ bs → IsZeroing f.effects → calloc_steps f lot ≡ op_steps (zeros bs) ++ (op_steps (flushings bs) ++ fenced (turns.Settle lot.id))
 unfolding allocating
 calloc_is f lot bs same is =
     let turn = turns.Settle lot.id in
@@ -183,14 +183,14 @@ calloc_is f lot bs same is =
     ∙ ap (λ (op : CboOp). ending turn (op_steps ((zeros bs ++ map (cbo op) bs) ++ full ∷ []))) is.flushes
     ∙ ending_last (zeros bs ++ flushings bs) full turn ∙ ap (λ (ss : List Step). ss ++ fenced turn) (steps_append (zeros bs) (flushings bs)) ∙ append_steps (op_steps (zeros bs)) (op_steps (flushings bs)) (fenced turn)
 
-pub record Allocates (f : Fixed) (lots : List Lot) (lot : Lot) (steps : List Step) : Type 0 where
+pub record Allocates (f : DriverConfig) (lots : List Lot) (lot : Lot) (steps : List Step) : Type 0 where
   pub goes : PlanGoes f lots steps
   pub plan : IsPlan lot.id steps
   pub settles : settling lot.id steps ≡ true
   pub behind : (n : MapId) (m : MachineState) (x : ℕ) → f.size ≡ m.size → covers (only_entry lot).span x ≡ true → Covered (gives_block m x) (flushes m x) (names n) (coming n lot.id steps)
   pub flushed : (n : MapId) (m : MachineState) (x : ℕ) → f.size ≡ m.size → covers (only_entry lot).span x ≡ true → Stands (flushes m x) (names n) (coming n lot.id steps)
 
-pub allocate_so : (f : Fixed) (lots : List Lot) (lot : Lot) → IsInHand f lots lot true sides.Lending → Others (IsStill f) lot.id lots → NamesArea lot.id lots → IsZeroing f.effects → IsBlockSize f.size → slice_get lot.list.entries 0 ≡ Some (only_entry lot)
+pub allocate_so : (f : DriverConfig) (lots : List Lot) (lot : Lot) → IsInHand f lots lot true sides.Lending → Others (IsStill f) lot.id lots → NamesArea lot.id lots → IsZeroing f.effects → IsBlockSize f.size → slice_get lot.list.entries 0 ≡ Some (only_entry lot)
     → ((x y : ℕ) → y / f.size ≡ x / f.size → covers (only_entry lot).span x ≡ true → covers (only_entry lot).span y ≡ true) → Allocates f lots lot (calloc_steps f lot)
 allocate_so f lots lot hand others area is size there whole =
     let id = lot.id in
@@ -245,11 +245,11 @@ area_same : (id : LotId) (turn : Turn) → IsAreaBack id turn → (b : LotId) �
 area_same id turn (inl is) b = ap (turns_lot b) is
 area_same id turn (inr is) b = ap (turns_lot b) is
 
-pub record TakesAway (f : Fixed) (lots : List Lot) (lot : Lot) (steps : List Step) : Type 0 where
+pub record TakesAway (f : DriverConfig) (lots : List Lot) (lot : Lot) (steps : List Step) : Type 0 where
   pub goes : PlanGoes f lots steps
   pub plan : IsPlan lot.id steps
 
-pub take_so : (f : Fixed) (lots : List Lot) (lot : Lot) (turn : Turn) → IsInHand f lots lot true sides.Returning → Others (IsStill f) lot.id lots → IsAreaBack lot.id turn → NamesArea lot.id lots → TakesAway f lots lot (fenced turn)
+pub take_so : (f : DriverConfig) (lots : List Lot) (lot : Lot) (turn : Turn) → IsInHand f lots lot true sides.Returning → Others (IsStill f) lot.id lots → IsAreaBack lot.id turn → NamesArea lot.id lots → TakesAway f lots lot (fenced turn)
 take_so f lots lot turn hand others back area = record {
   goes = (TakesBack (record { lot = lot; hand = hand; turn = turn; is_back = back; step = refl; over = refl }), area_still f lot.id turn lots back area others);
   plan = record { ended = alone_ends lot.id turn (area_turns lot.id turn back); only = only_turn lot.id turn full (area_same lot.id turn back) (λ b. refl); silent = λ b. refl; first = refl };

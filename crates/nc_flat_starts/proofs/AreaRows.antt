@@ -20,7 +20,7 @@ use Rattle.nc_rules.specs.declared.lots.Side.TheVariants as sides
 use Rattle.nc_rules.specs.declared.steps.Step.{Step}
 use Rattle.nc_rules.specs.declared.steps.Turn.{Turn}
 use Rattle.nc_rules.specs.Areas.{fenced}
-use Rattle.nc_rules.specs.Lots.{Fixed, map_id, owner_of_side}
+use Rattle.nc_rules.specs.Lots.{DriverConfig, map_id, owner_of_side}
 use Rattle.nc_rules.specs.Plans.{lending_end}
 use Rattle.nc_rules.specs.Turns.{is_area, set_side, of_those, to_side}
 use Rattle.nc_rules.specs.Driver.{Went, in_hand, with_lots, went_to}
@@ -65,7 +65,7 @@ pub area_unslotted : (sc : Scenario) (f : List ℕ) (w : WorldState) (h : HartNo
 area_unslotted sc f w h lot i e x flat lt is area place =
     let fx = (driver_of w h.0).fixed in
     let here = subst (λ (n : ℕ). h.0 < n) (sym flat.world.of_scenario.harts) lt in
-    let slots : slots_span fx ≡ slots_of sc = ap (λ (k : Fixed). slots_span k) (fixed_is sc f w h flat lt) in
+    let slots : slots_span fx ≡ slots_of sc = ap (λ (k : DriverConfig). slots_span k) (fixed_is sc f w h flat lt) in
     false_from_ne_true (covers (slots_of sc) x)
     (λ over. (flat.world.holds.each h.0 here).regions.slots_off_pool x (subst (λ (s : Span). covers s x ≡ true) (sym slots) over) (area_covers (length w.machine.cache.ram) fx lot i e x is area place.entry place.on))
 

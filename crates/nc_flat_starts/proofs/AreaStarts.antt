@@ -25,14 +25,14 @@ use Rattle.nc_rules.specs.declared.steps.Turn.{Turn}
 use Rattle.nc_rules.specs.declared.steps.Turn.TheVariants as turns
 use Rattle.nc_rules.specs.Areas as areas
 use Rattle.nc_rules.specs.Areas.{fenced, give_turn, give_steps, take_turn, take_steps, free_turn, free_steps, cfree_begin}
-use Rattle.nc_rules.specs.Lots.{Fixed, lot_named, only_entry, is_own, is_wanted, map_id, owner_of_side}
+use Rattle.nc_rules.specs.Lots.{DriverConfig, lot_named, only_entry, is_own, is_wanted, map_id, owner_of_side}
 use Rattle.nc_rules.specs.Mappings.{with_lot, needs_lot}
 use Rattle.nc_rules.specs.Operations.{meaning, begin, opening, plan_of}
 use Rattle.nc_rules.specs.Plans.{lending_end}
 use Rattle.nc_rules.specs.Refusals.{◌>>=◌, named, owned_but, owned}
 use Rattle.nc_rules.specs.Turns.{is_area}
 use Rattle.nc_rules.specs.Driver.{with_lots, opened, begun}
-use Rattle.nc_rules.specs.Watched.{owner_of}
+use Rattle.nc_rules.specs.EventTouches.{owner_of}
 use Rattle.nc_rules.specs.World.{WorldState, driver_of}
 use Rattle.nc_scripts.proofs.DriverSteps.{passed}
 use Rattle.nc_scripts.proofs.NewLots.{behind_test, free_none, some_is}
@@ -56,7 +56,7 @@ area_begins lots new label e =
     (p.value, some_is refusals.NoLabel (lot_named lots label kinds.Area) p.value p.first, behind_test (named lots label kinds.Area) new e)
 
 -- its channel has it, or its hart
-area_still : (f : Fixed) (lot : Lot) → lot.kind ≡ kinds.Area → (lot.side ≡ sides.Lending → ⊥) → IsStill f lot → IsTakenSide lot
+area_still : (f : DriverConfig) (lot : Lot) → lot.kind ≡ kinds.Area → (lot.side ≡ sides.Lending → ⊥) → IsStill f lot → IsTakenSide lot
 area_still f lot area unsent (StillDevice is) = inl is
 area_still f lot area unsent (StillSynced is kind) = let both : kinds.Single ≡ kinds.Area = sym kind ∙ area in absurd cc
 area_still f lot area unsent (StillOwn is kind) = inr is
@@ -138,7 +138,7 @@ no_fault os (Some x) e = absurd cc
 range_owned : (me : HartNo) (os : List Owner) (range : Span) (x : ℕ) → owned me os range ≡ Ok tt → covers range x ≡ true → is_thread me (owner_in os x) ≡ true
 range_owned me os range x e on = passes (λ y. is_thread me (owner_in os y)) range x (no_fault os (first_fault (λ y. is_thread me (owner_in os y)) range) e) on
 
-free_begins : (f : Fixed) (lots new : List Lot) (label : Label) (os : List Owner) → cfree_begin f lots label os ≡ Ok new → (lot : Lot) × (lot_named lots label kinds.Area ≡ Some lot) × ([] ≡ new) × (owned f.me os (only_entry lot).span ≡ Ok tt)
+free_begins : (f : DriverConfig) (lots new : List Lot) (label : Label) (os : List Owner) → cfree_begin f lots label os ≡ Ok new → (lot : Lot) × (lot_named lots label kinds.Area ≡ Some lot) × ([] ≡ new) × (owned f.me os (only_entry lot).span ≡ Ok tt)
 free_begins f lots new label os e =
     let p = passed (named lots label kinds.Area) (λ lot. owned f.me os (only_entry lot).span >>= λ _. Ok []) new e in
     let q = passed (owned f.me os (only_entry p.value).span) (λ _. Ok []) new p.rest in

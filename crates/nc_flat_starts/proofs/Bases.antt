@@ -22,7 +22,7 @@ use Rattle.nc_rules.specs.declared.lots.Kind.TheVariants as kinds
 use Rattle.nc_rules.specs.declared.lots.Lot.{Lot}
 use Rattle.nc_rules.specs.declared.lots.LotId.{LotId}
 use Rattle.nc_rules.specs.declared.lots.Side.TheVariants as sides
-use Rattle.nc_rules.specs.Lots.{Fixed, is_named, is_labelled, is_wanted, map_id, owner_of_side, same_kind, lot_waits}
+use Rattle.nc_rules.specs.Lots.{DriverConfig, is_named, is_labelled, is_wanted, map_id, owner_of_side, same_kind, lot_waits}
 use Rattle.nc_rules.specs.Turns.{is_area}
 use Rattle.nc_rules.specs.Start.{fixed_of, hart_spec}
 use Rattle.nc_rules.specs.World.{WorldState, driver_of, hart}
@@ -34,7 +34,7 @@ use Rattle.nc_holds.proofs.EventFrom.{EveryoneIn}
 use Rattle.nc_holds.proofs.GrantWords.{slot_once, slot_holder, slot_harts}
 use Rattle.nc_holds.proofs.ListsA.{all_at, at_get, none_of, get_at}
 use Rattle.nc_holds.proofs.OwnerLots.{same_lot, entry_in, area_direct}
-use Rattle.nc_rules.specs.Watched.{owner_of}
+use Rattle.nc_rules.specs.EventTouches.{owner_of}
 use Rattle.nc_model.specs.declared.owners.Owner.{Owner}
 use Rattle.nc_rows.specs.Laws.{seen_at}
 use Rattle.nc_rows.specs.Rows.{device_place}
@@ -100,7 +100,7 @@ name_is : (a b : LotId) → a.label.0 ≡ b.label.0 → a.first ≡ b.first → 
 name_is a b label first i = record { label = record { 0 = label i }; first = first i }
 
 -- those of one label and one kind, which is no end of a copy, are one
-pub label_one : (ram : ℕ) (f : Fixed) (lots : List Lot) (a b : Lot) (label : Label) (kind : Kind) → All (IsLotIn ram f) lots → AreApart lots → same_kind kinds.Copy kind ≡ false → In a lots → In b lots → is_named label kind a ≡ true → is_named label kind b ≡ true → a ≡ b
+pub label_one : (ram : ℕ) (f : DriverConfig) (lots : List Lot) (a b : Lot) (label : Label) (kind : Kind) → All (IsLotIn ram f) lots → AreApart lots → same_kind kinds.Copy kind ≡ false → In a lots → In b lots → is_named label kind a ≡ true → is_named label kind b ≡ true → a ≡ b
 label_one ram f lots a b label kind all apart plain here there is too =
     let its : (l : Lot) → is_named label kind l ≡ true → (l.id.label.0 ≡ label.0) × (l.kind ≡ kind) =
     λ l k. let both = and_parts (is_labelled label l) (same_kind kind l.kind) k in (eqb-true l.id.label.0 label.0 both.0, kind_is kind l.kind both.1) in
@@ -149,8 +149,8 @@ member_beside sc f w h lots lot i e x b plain there on =
     let fx = (driver_of w h.0).fixed in
     let lies = member_lies sc f w h lots lot i e b plain there in
     let same = fixed_is sc f w h b.flat b.lt in
-    let pool : fx.pool ≡ pool_of sc = ap (λ (k : Fixed). k.pool) same in
-    let slots : slots_span fx ≡ slots_of sc = ap (λ (k : Fixed). slots_span k) same in (
+    let pool : fx.pool ≡ pool_of sc = ap (λ (k : DriverConfig). k.pool) same in
+    let slots : slots_span fx ≡ slots_of sc = ap (λ (k : DriverConfig). slots_span k) same in (
       false_from_ne_true (covers (pool_of sc) x) (λ over. b.each.knows.regions.buffers_off_pool lies.0 x (lies.1 x on) (subst (λ (s : Span). covers s x ≡ true) (sym pool) over)),
       false_from_ne_true (covers (slots_of sc) x) (λ over. b.each.knows.regions.buffers_off_slots lies.0 x (lies.1 x on) (subst (λ (s : Span). covers s x ≡ true) (sym slots) over)),
     )
@@ -178,17 +178,17 @@ pub slot_in : (e : Entry) → sg.waits e ≡ false → e.bounced ≡ true → (k
 slot_in e placed is = slot_by e.bounced e.slot placed is
 
 -- an area waits for none
-pub area_placed : (ram : ℕ) (f : Fixed) (lot : Lot) → IsLotIn ram f lot → is_area lot.kind ≡ true → lot_waits lot ≡ false
+pub area_placed : (ram : ℕ) (f : DriverConfig) (lot : Lot) → IsLotIn ram f lot → is_area lot.kind ≡ true → lot_waits lot ≡ false
 area_placed ram f lot is area = position_any sg.waits lot.list.entries ∙ none_of sg.waits lot.list.entries (λ e here. let at = get_at lot.list.entries e here in rw (area_direct ram f lot at.0 e is area at.1) refl)
 
 -- what bounces lies in its slot
-pub record IsInSlot (f : Fixed) (e : Entry) (k : ℕ) : Type 0 where
+pub record IsInSlot (f : DriverConfig) (e : Entry) (k : ℕ) : Type 0 where
   pub low : f.slots_at + 2048 * k ≤ (sg.device f.slots_at e).at
   pub high : (sg.device f.slots_at e).at + e.span.len ≤ f.slots_at + 2048 * k + 2048
   pub few : k < f.slots
   pub long : (sg.device f.slots_at e).len ≡ e.span.len
 
-pub in_slot_so : (ram : ℕ) (f : Fixed) (e : Entry) (k : ℕ) → f.slots_at % 2048 ≡ 0 → IsEntryIn ram f.slots e → e.bounced ≡ true → e.slot ≡ Some k → IsInSlot f e k
+pub in_slot_so : (ram : ℕ) (f : DriverConfig) (e : Entry) (k : ℕ) → f.slots_at % 2048 ≡ 0 → IsEntryIn ram f.slots e → e.bounced ≡ true → e.slot ≡ Some k → IsInSlot f e k
 in_slot_so ram f e k whole is bounced slot =
     let device : sg.device f.slots_at e ≡ in_slot (f.slots_at + 2048 * k) e.span = cond-true e.bounced _ e.span bounced ∙ ap (λ (o : Option ℕ). in_slot (f.slots_at + 2048 * unwrap_or o 0) e.span) slot in
     let at : (sg.device f.slots_at e).at ≡ (in_slot (f.slots_at + 2048 * k) e.span).at = ap (λ (s : Span). s.at) device in
@@ -200,10 +200,10 @@ one_word at k j x a b c d = omega arith
 
 -- ---- what its plans need
 
-direct_off : (f : Fixed) (e : Entry) → e.bounced ≡ false → not (e.span.at == (sg.device f.slots_at e).at) ≡ false
+direct_off : (f : DriverConfig) (e : Entry) → e.bounced ≡ false → not (e.span.at == (sg.device f.slots_at e).at) ≡ false
 direct_off f e off = ap not (eq-eqb e.span.at (sg.device f.slots_at e).at (sym (ap (λ (s : Span). s.at) (cond-false e.bounced _ e.span off))))
 
-slotted_off : (f : Fixed) (e : Entry) → (e.span.at ≡ (sg.device f.slots_at e).at → ⊥) → not (e.span.at == (sg.device f.slots_at e).at) ≡ true
+slotted_off : (f : DriverConfig) (e : Entry) → (e.span.at ≡ (sg.device f.slots_at e).at → ⊥) → not (e.span.at == (sg.device f.slots_at e).at) ≡ true
 slotted_off f e apart = ap not (false_from_ne_true (e.span.at == (sg.device f.slots_at e).at) (λ is. apart (eqb-true e.span.at (sg.device f.slots_at e).at is)))
 
 pub member_planned : (sc : Scenario) (f : List ℕ) (w : WorldState) (h : HartNo) (lots : List Lot) (lot : Lot) → IsMember sc f w h lots lot → is_area lot.kind ≡ false → IsPlanned (driver_of w h.0).fixed lot
@@ -252,7 +252,7 @@ pub member_unseen : (sc : Scenario) (f : List ℕ) (w : WorldState) (h : HartNo)
     → covers (slot_at sc k) z ≡ true → IsUnseen (book_of w) (owner_of w) (slots_of sc) z
 member_unseen sc f w h lots lot i e k z b all_kept there side bounced slot on x off same =
     let fx = (driver_of w h.0).fixed in
-    let few : k < sc.slots = subst (λ (n : ℕ). k < n) (ap (λ (j : Fixed). j.slots) (fixed_is sc f w h b.flat b.lt)) ((entry_in (length w.machine.cache.ram) fx lot i e (member_lot sc f w h lots lot b) there).slot k slot).few in
+    let few : k < sc.slots = subst (λ (n : ℕ). k < n) (ap (λ (j : DriverConfig). j.slots) (fixed_is sc f w h b.flat b.lt)) ((entry_in (length w.machine.cache.ram) fx lot i e (member_lot sc f w h lots lot b) there).slot k slot).few in
     let never : seen w x ≡ x → ⊥ = λ at. both_ways (covers (slots_of sc) x) off (ap (covers (slots_of sc)) (sym at ∙ same) ∙ slot_slots sc k z few on) in
     elim (seen_ways sc f w x b.flat) [
       | inl at ↦ never at

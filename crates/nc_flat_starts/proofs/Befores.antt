@@ -19,7 +19,7 @@ use Rattle.nc_rules.specs.declared.lots.LotId.{LotId}
 use Rattle.nc_rules.specs.declared.steps.Step.{Step}
 use Rattle.nc_rules.specs.Lots.{is_lot}
 use Rattle.nc_rules.specs.Machine.{queue_of}
-use Rattle.nc_rules.specs.Watched.{owner_of}
+use Rattle.nc_rules.specs.EventTouches.{owner_of}
 use Rattle.nc_rules.specs.World.{WorldState, driver_of}
 use Rattle.nc_scripts.specs.Drivers.{IsLotIn, AreApart}
 use Rattle.nc_scripts.proofs.Lists.{all_to}

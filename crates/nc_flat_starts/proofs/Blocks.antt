@@ -21,7 +21,7 @@ use Rattle.nc_plan.specs.Parts.{comes_back, is_whole, bounces}
 use Rattle.nc_sg.specs.declared.list.Entry.{Entry as SgEntry}
 use Rattle.nc_rules.specs.declared.lots.Kind.{Kind}
 use Rattle.nc_rules.specs.declared.lots.Lot.{Lot}
-use Rattle.nc_rules.specs.Lots.{Fixed, reach_of}
+use Rattle.nc_rules.specs.Lots.{DriverConfig, reach_of}
 use Rattle.nc_rules.specs.Turns.{is_area}
 use Rattle.nc_scripts.specs.Drivers.{BouncesSo}
 use Rattle.nc_lines.specs.Lines.{gives_at}
@@ -80,7 +80,7 @@ none_in_block s b q z fit none = none_by s b q z fit (λ x here. lines_cover.non
 
 -- ---- a range of whole blocks
 
-whole_by : (f : Fixed) (kind : Kind) (dir : Dir) (chan : ChanNo) (e : SgEntry) → BouncesSo f kind dir chan e → is_area kind ≡ false → e.bounced ≡ false → comes_back dir ≡ true → is_whole f.size e.span ≡ true
+whole_by : (f : DriverConfig) (kind : Kind) (dir : Dir) (chan : ChanNo) (e : SgEntry) → BouncesSo f kind dir chan e → is_area kind ≡ false → e.bounced ≡ false → comes_back dir ≡ true → is_whole f.size e.span ≡ true
 whole_by f kind dir chan e so single direct back =
     let none : ((comes_back dir && not (is_whole f.size e.span)) || nat_lt (reach_of f chan) (e.span.at + e.span.len)) ≡ false =
     sym (so ∙ ap (λ (a : Bool). not a && bounces e.span dir f.size (reach_of f chan)) single) ∙ direct in
@@ -94,7 +94,7 @@ before_end : {s : ℕ} (at len x y : ℕ) → IsBlockSize s → at % s ≡ 0 →
 before_end {s = s} at len x y size low whole same lt = grind arith
 
 -- a range that does not bounce, and comes back, has each place of a block of which it has one
-pub whole_range : (f : Fixed) (lot : Lot) (e : SgEntry) (s x y : ℕ) → IsBlockSize s → f.size ≡ s → BouncesSo f lot.kind lot.list.dir lot.chan e → is_area lot.kind ≡ false → e.bounced ≡ false → comes_back lot.list.dir ≡ true → y / s ≡ x / s
+pub whole_range : (f : DriverConfig) (lot : Lot) (e : SgEntry) (s x y : ℕ) → IsBlockSize s → f.size ≡ s → BouncesSo f lot.kind lot.list.dir lot.chan e → is_area lot.kind ≡ false → e.bounced ≡ false → comes_back lot.list.dir ≡ true → y / s ≡ x / s
     → covers e.span x ≡ true → covers e.span y ≡ true
 whole_range f lot e s x y z size so single direct back same over =
     let whole = subst (λ (k : ℕ). is_whole k e.span ≡ true) size (whole_by f lot.kind lot.list.dir lot.chan e so single direct back) in

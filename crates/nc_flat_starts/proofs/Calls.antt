@@ -30,7 +30,7 @@ use Rattle.nc_rules.specs.declared.steps.Step.{Step}
 use Rattle.nc_rules.specs.declared.steps.Turn.{Turn}
 use Rattle.nc_rules.specs.declared.steps.Turn.TheVariants as turns
 use Rattle.nc_rules.specs.Machine.{queue_of}
-use Rattle.nc_rules.specs.Lots.{Fixed, lot_id, lot_named, is_lot, is_named, is_labelled, is_wanted, owner_of_side, same_kind, lot_waits, some_lot_waits}
+use Rattle.nc_rules.specs.Lots.{DriverConfig, lot_id, lot_named, is_lot, is_named, is_labelled, is_wanted, owner_of_side, same_kind, lot_waits, some_lot_waits}
 use Rattle.nc_rules.specs.Turns.{is_area, lots_after, transfers_of, turned_by}
 use Rattle.nc_rules.specs.Plans.{lend_steps}
 use Rattle.nc_rules.specs.Copies as copies
@@ -40,7 +40,7 @@ use Rattle.nc_rules.specs.Mappings.{with_lot}
 use Rattle.nc_rules.specs.ScatterLists as lists
 use Rattle.nc_rules.specs.Operations.{meaning, opening, plan_of}
 use Rattle.nc_rules.specs.Driver.{DriverState, Went, in_hand, stands, stays, searches, with_lots, opened, placed, give_up, went_to}
-use Rattle.nc_rules.specs.Watched.{owner_of}
+use Rattle.nc_rules.specs.EventTouches.{owner_of}
 use Rattle.nc_rules.specs.World.{WorldState, driver_of}
 use Rattle.nc_scripts.specs.Drivers.{IsSettled, AreMade, made_names}
 use Rattle.nc_scripts.proofs.EveryDriver.{in_hand_is}
@@ -116,7 +116,7 @@ call_named sc f w h o lots lot label kind c plain here named =
 
 -- ---- giving up, and searching
 
-still_lent : (f : Fixed) (lot : Lot) → IsStillOrWanted f lot → not (is_wanted lot.side) ≡ true → IsStill f lot
+still_lent : (f : DriverConfig) (lot : Lot) → IsStillOrWanted f lot → not (is_wanted lot.side) ≡ true → IsStill f lot
 still_lent f lot (inl still) lent = still
 still_lent f lot (inr is) lent = let no : not true ≡ true = subst (λ (s : Side). not (is_wanted s) ≡ true) is lent in absurd cc
 
@@ -181,7 +181,7 @@ opened_so d o lots turn plan first steps = record {
 -- ---- what map makes
 
 -- it is the one lot that is not lent yet
-pub record IsNew (f : Fixed) (o : Op) (lots : List Lot) (lot : Lot) : Type 0 where
+pub record IsNew (f : DriverConfig) (o : Op) (lots : List Lot) (lot : Lot) : Type 0 where
   pub here : In lot lots
   pub wanted : lot.side ≡ sides.Wanted
   pub others : Others (IsStill f) lot.id lots
@@ -199,21 +199,21 @@ one_made [] id e = absurd cc
 one_made (x ∷ []) id e = (x, refl, let same : x.id ∷ [] ≡ id ∷ [] = e in cc)
 one_made (x ∷ y ∷ new) id e = absurd cc
 
-still_of : (f : Fixed) (o : Option Op) (lot : Lot) → IsStillOrMade f o lot → is_wanted lot.side ≡ false → IsStill f lot
+still_of : (f : DriverConfig) (o : Option Op) (lot : Lot) → IsStillOrMade f o lot → is_wanted lot.side ≡ false → IsStill f lot
 still_of f o lot (inl still) lent = still
 still_of f o lot (inr is) lent = absurd (both_ways (is_wanted lot.side) lent (ap is_wanted is.0))
 
-lent_still : (f : Fixed) (lot : Lot) → IsStillOrWanted f lot → is_wanted lot.side ≡ false → IsStill f lot
+lent_still : (f : DriverConfig) (lot : Lot) → IsStillOrWanted f lot → is_wanted lot.side ≡ false → IsStill f lot
 lent_still f lot (inl still) lent = still
 lent_still f lot (inr is) lent = absurd (both_ways (is_wanted lot.side) lent (ap is_wanted is))
 
-still_unwanted : (f : Fixed) (lot : Lot) → IsStill f lot → is_wanted lot.side ≡ false
+still_unwanted : (f : DriverConfig) (lot : Lot) → IsStill f lot → is_wanted lot.side ≡ false
 still_unwanted f lot (StillDevice is) = ap is_wanted is
 still_unwanted f lot (StillSynced is kind) = ap is_wanted is
 still_unwanted f lot (StillOwn is kind) = ap is_wanted is
 still_unwanted f lot (StillSent is light) = ap is_wanted is
 
-pub kind_of : (f : Fixed) (o : Op) (lot : Lot) → IsStillOrMade f (Some o) lot → is_wanted lot.side ≡ true → makes_kind o lot.kind ≡ true
+pub kind_of : (f : DriverConfig) (o : Op) (lot : Lot) → IsStillOrMade f (Some o) lot → is_wanted lot.side ≡ true → makes_kind o lot.kind ≡ true
 kind_of f o lot (inl still) wanted = absurd (both_ways (is_wanted lot.side) (still_unwanted f lot still) wanted)
 kind_of f o lot (inr is) wanted = is.1
 
@@ -252,19 +252,19 @@ new_opens sc f w h o lots lot c new no_copy plain none first steps =
     let placed_so = all_at (λ (l : Lot). lot_waits l ≡ false) lots lot (none_any lot_waits lots none) new.here in
     opens_bytes sc f w h o went lots lot sides.Lending (lend_steps fx lot) (lend_opens sc f w h o went lots lot (call_base sc f w h o lots lot c new.here placed_so new.others) plain c.hand c.lends no_copy (inl new.wanted) so.driver so.transfers)
 
-map_opening : (f : Fixed) (lots : List Lot) (label : Label) (buf off len : ℕ) (dir : Dir) (chan : ChanNo) → opening f lots (ops.Map label buf off len dir chan) ≡ turns.Lend (lot_id label 0)
+map_opening : (f : DriverConfig) (lots : List Lot) (label : Label) (buf off len : ℕ) (dir : Dir) (chan : ChanNo) → opening f lots (ops.Map label buf off len dir chan) ≡ turns.Lend (lot_id label 0)
 unfolding opening meaning mappings.map_single
 map_opening f lots label buf off len dir chan = refl
 
-map_plan : (f : Fixed) (lots : List Lot) (label : Label) (buf off len : ℕ) (dir : Dir) (chan : ChanNo) → plan_of f lots (ops.Map label buf off len dir chan) ≡ with_lot [] (lend_steps f) (lot_named lots label kinds.Single)
+map_plan : (f : DriverConfig) (lots : List Lot) (label : Label) (buf off len : ℕ) (dir : Dir) (chan : ChanNo) → plan_of f lots (ops.Map label buf off len dir chan) ≡ with_lot [] (lend_steps f) (lot_named lots label kinds.Single)
 unfolding plan_of meaning mappings.map_single
 map_plan f lots label buf off len dir chan = refl
 
-list_opening : (f : Fixed) (lots : List Lot) (label : Label) (es : List SgEntry) (dir : Dir) (chan : ChanNo) → opening f lots (ops.MapSg label es dir chan) ≡ turns.Lend (lot_id label 0)
+list_opening : (f : DriverConfig) (lots : List Lot) (label : Label) (es : List SgEntry) (dir : Dir) (chan : ChanNo) → opening f lots (ops.MapSg label es dir chan) ≡ turns.Lend (lot_id label 0)
 unfolding opening meaning lists.map_sg
 list_opening f lots label es dir chan = refl
 
-list_plan : (f : Fixed) (lots : List Lot) (label : Label) (es : List SgEntry) (dir : Dir) (chan : ChanNo) → plan_of f lots (ops.MapSg label es dir chan) ≡ with_lot [] (lend_steps f) (lot_named lots label kinds.List)
+list_plan : (f : DriverConfig) (lots : List Lot) (label : Label) (es : List SgEntry) (dir : Dir) (chan : ChanNo) → plan_of f lots (ops.MapSg label es dir chan) ≡ with_lot [] (lend_steps f) (lot_named lots label kinds.List)
 unfolding plan_of meaning lists.map_sg
 list_plan f lots label es dir chan = refl
 
@@ -291,16 +291,16 @@ pub data Makes (o : Op) : Type 0 where
 
 -- ---- what a copy makes
 
-copy_opening : (f : Fixed) (lots : List Lot) (k : CopyOp) → opening f lots (copy_op k) ≡ turns.Stay
+copy_opening : (f : DriverConfig) (lots : List Lot) (k : CopyOp) → opening f lots (copy_op k) ≡ turns.Stay
 unfolding opening meaning copies.copy
 copy_opening f lots k = refl
 
-copy_plan : (f : Fixed) (lots : List Lot) (k : CopyOp) → plan_of f lots (copy_op k) ≡ copy_steps_of f k.chan k.config (find (is_lot source) lots) (find (is_lot target) lots)
+copy_plan : (f : DriverConfig) (lots : List Lot) (k : CopyOp) → plan_of f lots (copy_op k) ≡ copy_steps_of f k.chan k.config (find (is_lot source) lots) (find (is_lot target) lots)
 unfolding plan_of meaning copies.copy
 copy_plan f lots k = refl
 
 -- the two lots that are not lent yet
-record AreEnds (f : Fixed) (lots : List Lot) (src dst : Lot) : Type 0 where
+record AreEnds (f : DriverConfig) (lots : List Lot) (src dst : Lot) : Type 0 where
   source_in : In src lots
   target_in : In dst lots
   source_id : src.id ≡ source
@@ -353,7 +353,7 @@ made_ends sc f w h k lots c made =
     )
 
 -- with full fences nothing is to come of a lot that is still
-pub still_restful : (f : Fixed) (n : MapId) (o : Owner) (lot : Lot) → f.light ≡ false → IsStill f lot → o ≡ owner_of_side n lot.side → IsRestful o
+pub still_restful : (f : DriverConfig) (n : MapId) (o : Owner) (lot : Lot) → f.light ≡ false → IsStill f lot → o ≡ owner_of_side n lot.side → IsRestful o
 still_restful f n o lot full (StillDevice is) same = subst IsRestful (sym (same ∙ ap (owner_of_side n) is)) tt
 still_restful f n o lot full (StillSynced is kind) same = subst IsRestful (sym (same ∙ ap (owner_of_side n) is)) tt
 still_restful f n o lot full (StillOwn is kind) same = subst IsRestful (sym (same ∙ ap (owner_of_side n) is)) tt

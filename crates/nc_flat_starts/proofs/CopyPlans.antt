@@ -38,7 +38,7 @@ use Rattle.nc_rules.specs.declared.steps.Step.{Step}
 use Rattle.nc_rules.specs.declared.steps.Turn.{Turn}
 use Rattle.nc_rules.specs.declared.steps.Turn.TheVariants as turns
 use Rattle.nc_rules.specs.Copies.{source, target, copy_step, claim_step, back_steps, end_part, copy_steps}
-use Rattle.nc_rules.specs.Lots.{Fixed, is_lot, parts}
+use Rattle.nc_rules.specs.Lots.{DriverConfig, is_lot, parts}
 use Rattle.nc_rules.specs.Machine.{MachineState}
 use Rattle.nc_rules.specs.Plans.{hart_step, op_steps, turning, beginning, ending, lend_steps, return_steps}
 use Rattle.nc_rules.specs.Turns.{is_area, with_side, set_side, lots_after}
@@ -63,12 +63,12 @@ use Rattle.nc_flat_starts.proofs.Sides.{Others, turned_lot, set_here, hand_besid
 -- ---- the lots, of which two are the ends
 
 -- it is the source or the target, which have these sides, or it is still
-pub data IsRole (f : Fixed) (src dst : Lot) (a b : Side) (lot : Lot) : Type 0 where
+pub data IsRole (f : DriverConfig) (src dst : Lot) (a b : Side) (lot : Lot) : Type 0 where
   IsSource : lot ≡ turned_lot a src → IsRole f src dst a b lot
   IsTarget : lot ≡ turned_lot b dst → IsRole f src dst a b lot
   IsOther : is_lot src.id lot ≡ false → is_lot dst.id lot ≡ false → IsStill f lot → IsRole f src dst a b lot
 
-pub record AreEndsIn (f : Fixed) (src dst : Lot) (a b : Side) (lots : List Lot) : Type 0 where
+pub record AreEndsIn (f : DriverConfig) (src dst : Lot) (a b : Side) (lots : List Lot) : Type 0 where
   pub source_in : In (turned_lot a src) lots
   pub target_in : In (turned_lot b dst) lots
   pub roles : All (IsRole f src dst a b) lots
@@ -108,7 +108,7 @@ is_source : (src : Lot) (a : Side) (lot : Lot) → lot ≡ turned_lot a src → 
 is_source src a lot is = its_name lot src.id (ap (λ (l : Lot). l.id) is)
 
 -- a turn of the source, and one of the target
-pub source_turn : (f : Fixed) (src dst : Lot) (a b side : Side) (lots : List Lot) → AreTwo src dst → AreEndsIn f src dst a b lots → AreEndsIn f src dst side b (set_side side src.id lots)
+pub source_turn : (f : DriverConfig) (src dst : Lot) (a b side : Side) (lots : List Lot) → AreTwo src dst → AreEndsIn f src dst a b lots → AreEndsIn f src dst side b (set_side side src.id lots)
 source_turn f src dst a b side lots two e = record {
   source_in = set_here side lots (turned_lot a src) e.source_in;
   target_in = kept_here side src.id lots (turned_lot b dst) e.target_in (name_other src dst two);
@@ -125,7 +125,7 @@ source_turn f src dst a b side lots two e = record {
     miss lot (IsTarget is) off = IsTarget is
     miss lot (IsOther far beside still) off = IsOther far beside still
 
-pub target_turn : (f : Fixed) (src dst : Lot) (a b side : Side) (lots : List Lot) → AreTwo src dst → AreEndsIn f src dst a b lots → AreEndsIn f src dst a side (set_side side dst.id lots)
+pub target_turn : (f : DriverConfig) (src dst : Lot) (a b side : Side) (lots : List Lot) → AreTwo src dst → AreEndsIn f src dst a b lots → AreEndsIn f src dst a side (set_side side dst.id lots)
 target_turn f src dst a b side lots two e = record {
   source_in = kept_here side dst.id lots (turned_lot a src) e.source_in (other_name src dst two);
   target_in = set_here side lots (turned_lot b dst) e.target_in;
@@ -148,7 +148,7 @@ abbrev IsEndKind : Lot → Type 0
 IsEndKind lot = lot.kind ≡ Copy
 
 -- while the source is lent the target waits
-source_hand : (f : Fixed) (src dst : Lot) (lots : List Lot) → AreTwo src dst → IsEndKind src → IsEndKind dst → AreEndsIn f src dst sides.Lending sides.Lending lots → IsInHand f lots (turned_lot sides.Lending src) false sides.Lending
+source_hand : (f : DriverConfig) (src dst : Lot) (lots : List Lot) → AreTwo src dst → IsEndKind src → IsEndKind dst → AreEndsIn f src dst sides.Lending sides.Lending lots → IsInHand f lots (turned_lot sides.Lending src) false sides.Lending
 source_hand f src dst lots two kind its_kind e = record {
   here = e.source_in;
   area_is = ap is_area kind;
@@ -162,7 +162,7 @@ source_hand f src dst lots two kind its_kind e = record {
     beside other (IsOther far off_too still) off = inl still
 
 -- the target is in hand while the source is its channel's
-target_hand : (f : Fixed) (src dst : Lot) (side : Side) (lots : List Lot) → IsEndKind dst → AreEndsIn f src dst sides.Device side lots → IsInHand f lots (turned_lot side dst) false side
+target_hand : (f : DriverConfig) (src dst : Lot) (side : Side) (lots : List Lot) → IsEndKind dst → AreEndsIn f src dst sides.Device side lots → IsInHand f lots (turned_lot side dst) false side
 target_hand f src dst side lots kind e = record {
   here = e.target_in;
   area_is = ap is_area kind;
@@ -176,7 +176,7 @@ target_hand f src dst side lots kind e = record {
     beside other (IsOther far off_too still) off = inl still
 
 -- both are the channel's
-all_still : (f : Fixed) (src dst : Lot) (lots : List Lot) → AreEndsIn f src dst sides.Device sides.Device lots → All (IsStill f) lots
+all_still : (f : DriverConfig) (src dst : Lot) (lots : List Lot) → AreEndsIn f src dst sides.Device sides.Device lots → All (IsStill f) lots
 all_still f src dst lots e = all_to (IsRole f src dst sides.Device sides.Device) (IsStill f) lots e.roles still
   where
     still : (lot : Lot) → IsRole f src dst sides.Device sides.Device lot → IsStill f lot
@@ -187,7 +187,7 @@ all_still f src dst lots e = all_to (IsRole f src dst sides.Device sides.Device)
 -- ---- the ends
 
 -- what is known of both
-pub record AreCopied (f : Fixed) (chan : ChanNo) (src dst : Lot) : Type 0 where
+pub record AreCopied (f : DriverConfig) (chan : ChanNo) (src dst : Lot) : Type 0 where
   pub two : AreTwo src dst
   pub source_kind : src.kind ≡ Copy
   pub target_kind : dst.kind ≡ Copy
@@ -200,13 +200,13 @@ pub record AreCopied (f : Fixed) (chan : ChanNo) (src dst : Lot) : Type 0 where
   pub entry : Entry
   pub only : dst.list.entries ≡ entry ∷ []
 
-planned_turned : (f : Fixed) (lot : Lot) (side : Side) → IsPlanned f lot → IsPlanned f (turned_lot side lot)
+planned_turned : (f : DriverConfig) (lot : Lot) (side : Side) → IsPlanned f lot → IsPlanned f (turned_lot side lot)
 planned_turned f lot side is = record { size = is.size; some = is.some; off = is.off; slots = is.slots; buffers = is.buffers }
 
-source_end : (f : Fixed) (chan : ChanNo) (src dst : Lot) (a b : Side) (lots : List Lot) → AreCopied f chan src dst → AreEndsIn f src dst a b lots → IsCopyEnd lots (turned_lot a src) source ToDev chan
+source_end : (f : DriverConfig) (chan : ChanNo) (src dst : Lot) (a b : Side) (lots : List Lot) → AreCopied f chan src dst → AreEndsIn f src dst a b lots → IsCopyEnd lots (turned_lot a src) source ToDev chan
 source_end f chan src dst a b lots c e = record { here = e.source_in; id_is = c.two.source_is; kind = c.source_kind; dir_is = c.source_dir; chan_is = c.source_chan }
 
-target_end : (f : Fixed) (chan : ChanNo) (src dst : Lot) (a b : Side) (lots : List Lot) → AreCopied f chan src dst → AreEndsIn f src dst a b lots → IsCopyEnd lots (turned_lot b dst) target FromDev chan
+target_end : (f : DriverConfig) (chan : ChanNo) (src dst : Lot) (a b : Side) (lots : List Lot) → AreCopied f chan src dst → AreEndsIn f src dst a b lots → IsCopyEnd lots (turned_lot b dst) target FromDev chan
 target_end f chan src dst a b lots c e = record { here = e.target_in; id_is = c.two.target_is; kind = c.target_kind; dir_is = c.target_dir; chan_is = c.target_chan }
 
 -- ---- the source comes back, with one step
@@ -217,7 +217,7 @@ no_drops e size dir slots_at [] stays = refl
 no_drops e size dir slots_at (x ∷ es) stays =
     ap (λ (ops : List HartOp). ops ++ flat_map (dropped e size) (map (sg.part_of dir slots_at) es)) (cond-false (comes_back dir) _ [] stays) ∙ no_drops e size dir slots_at es stays
 
-one_step : (f : Fixed) (lot : Lot) (turn : Turn) → comes_back lot.list.dir ≡ false → IsReturn f lot turn → ending turn (return_steps f lot) ≡ turning turn (hart_step full) ∷ []
+one_step : (f : DriverConfig) (lot : Lot) (turn : Turn) → comes_back lot.list.dir ≡ false → IsReturn f lot turn → ending turn (return_steps f lot) ≡ turning turn (hart_step full) ∷ []
 one_step f lot turn stays (Straight whole straight) = whole ∙ ap (λ (ops : List HartOp). op_steps ops ++ turning turn (hart_step full) ∷ []) (no_drops f.effects f.size lot.list.dir f.slots_at lot.list.entries stays)
 one_step f lot turn stays (CopiedOut init m comes ms whole) = absurd (both_ways (comes_back lot.list.dir) stays comes)
 
@@ -225,15 +225,15 @@ one_step f lot turn stays (CopiedOut init m comes ms whole) = absurd (both_ways 
 abbrev source_back : LotId → Step
 source_back id = record (turning (turns.End id) (hart_step full)) { first = turns.Return id }
 
-source_steps : (f : Fixed) (lot : Lot) → IsPlanned f lot → comes_back lot.list.dir ≡ false → back_steps f lot ≡ source_back lot.id ∷ []
+source_steps : (f : DriverConfig) (lot : Lot) → IsPlanned f lot → comes_back lot.list.dir ≡ false → back_steps f lot ≡ source_back lot.id ∷ []
 source_steps f lot is stays = ap (beginning (turns.Return lot.id)) (one_step f lot (turns.End lot.id) stays (return_is f lot (turns.End lot.id) is))
 
 -- the target is there no more
-record IsLastEnd (f : Fixed) (src : Lot) (lots : List Lot) : Type 0 where
+record IsLastEnd (f : DriverConfig) (src : Lot) (lots : List Lot) : Type 0 where
   here : In (turned_lot sides.Device src) lots
   still : Others (IsStill f) src.id lots
 
-source_goes : (f : Fixed) (src : Lot) (lots : List Lot) → src.kind ≡ Copy → IsPlanned f src → comes_back src.list.dir ≡ false → IsLastEnd f src lots → PlanGoes f lots (back_steps f src)
+source_goes : (f : DriverConfig) (src : Lot) (lots : List Lot) → src.kind ≡ Copy → IsPlanned f src → comes_back src.list.dir ≡ false → IsLastEnd f src lots → PlanGoes f lots (back_steps f src)
 source_goes f src lots kind is stays e =
     let now = turned_lot sides.Returning src in
     let beside : Others (IsBeside f now) src.id lots = all_to (λ (other : Lot). is_lot src.id other ≡ false → IsStill f other) (λ (other : Lot). is_lot src.id other ≡ false → IsBeside f now other) lots e.still (λ other still off. inl (still off)) in
@@ -255,7 +255,7 @@ source_goes f src lots kind is stays e =
 
 -- ---- the target comes back
 
-some_drops : (f : Fixed) (lot : Lot) (e : Entry) → lot.list.entries ≡ e ∷ [] → comes_back lot.list.dir ≡ true → IsBlockSize f.size → 0 < (device_of f e).len → (o : HartOp) × In o (drops_of f lot)
+some_drops : (f : DriverConfig) (lot : Lot) (e : Entry) → lot.list.entries ≡ e ∷ [] → comes_back lot.list.dir ≡ true → IsBlockSize f.size → 0 < (device_of f e).len → (o : HartOp) × In o (drops_of f lot)
 unfolding dropped
 some_drops f lot e only comes size some =
     let range = device_of f e in
@@ -282,11 +282,11 @@ coming_begun : (n : MapId) (id : LotId) (turn : Turn) (o : HartOp) (rest : List 
 coming_begun n id turn o rest off ended = next n id (record (hart_step o) { first = turn }) rest off ended ∙ sym (next n id (hart_step o) rest off ended)
 
 -- the machine's blocks are the driver's
-record IsSized (f : Fixed) (m : MachineState) : Type 0 where
+record IsSized (f : DriverConfig) (m : MachineState) : Type 0 where
   block : IsBlockSize m.size
   size : f.size ≡ m.size
 
-target_drops : (f : Fixed) (m : MachineState) (lot : Lot) (n : MapId) (i : ℕ) (e : Entry) (y : ℕ) → IsSized f m → DropsBlocks f.effects → comes_back lot.list.dir ≡ true → slice_get lot.list.entries i ≡ Some e → covers (device_of f e) y ≡ true
+target_drops : (f : DriverConfig) (m : MachineState) (lot : Lot) (n : MapId) (i : ℕ) (e : Entry) (y : ℕ) → IsSized f m → DropsBlocks f.effects → comes_back lot.list.dir ≡ true → slice_get lot.list.entries i ≡ Some e → covers (device_of f e) y ≡ true
     → Stands (has_op drops_copies (y / f.size)) is_full (coming n lot.id (ending (turns.End lot.id) (return_steps f lot)))
 target_drops f m lot n i e y sized drops comes there on =
     let p : Part = sg.part_of lot.list.dir f.slots_at e in
@@ -295,10 +295,10 @@ target_drops f m lot n i e y sized drops comes there on =
     (record { part = in_map (sg.part_of lot.list.dir f.slots_at) e lot.list.entries (at_get lot.list.entries i e there); from = covers-low (device_of f e) y on; before = covers-high (device_of f e) y on }))
 
 -- it goes, and begins with no store
-abbrev GoesFirst : Fixed → List Lot → List Step → Type 0
+abbrev GoesFirst : DriverConfig → List Lot → List Step → Type 0
 GoesFirst f lots steps = PlanGoes f lots steps × LoadsFirst steps
 
-target_by : (f : Fixed) (m : MachineState) (src dst : Lot) (lots : List Lot) (more : List Step) (ops : List HartOp) → IsSized f m → DropsBlocks f.effects → dst.kind ≡ Copy → IsPlanned f (turned_lot sides.Returning dst) → comes_back dst.list.dir ≡ true → AreEndsIn f src dst sides.Device sides.Device lots
+target_by : (f : DriverConfig) (m : MachineState) (src dst : Lot) (lots : List Lot) (more : List Step) (ops : List HartOp) → IsSized f m → DropsBlocks f.effects → dst.kind ≡ Copy → IsPlanned f (turned_lot sides.Returning dst) → comes_back dst.list.dir ≡ true → AreEndsIn f src dst sides.Device sides.Device lots
     → IsInHand f (set_side sides.Returning dst.id lots) (turned_lot sides.Returning dst) false sides.Returning → ReturnTail f (set_side sides.Returning dst.id lots) (turned_lot sides.Returning dst) (turns.End dst.id) more → drops_of f (turned_lot sides.Returning dst) ≡ ops
     → All (IsDropping f (turned_lot sides.Returning dst)) ops → (o : HartOp) → In o ops → GoesFirst f lots (back_steps f dst ++ more)
 unfolding drop_at
@@ -334,7 +334,7 @@ target_by f m src dst lots more (d ∷ ops) sized drops kind is comes e hand t s
     )
 
 -- and then the source
-backs_go : (f : Fixed) (m : MachineState) (chan : ChanNo) (src dst : Lot) (lots : List Lot) → IsSized f m → DropsBlocks f.effects → AreCopied f chan src dst → AreEndsIn f src dst sides.Device sides.Device lots → GoesFirst f lots (back_steps f dst ++ back_steps f src)
+backs_go : (f : DriverConfig) (m : MachineState) (chan : ChanNo) (src dst : Lot) (lots : List Lot) → IsSized f m → DropsBlocks f.effects → AreCopied f chan src dst → AreEndsIn f src dst sides.Device sides.Device lots → GoesFirst f lots (back_steps f dst ++ back_steps f src)
 backs_go f m chan src dst lots sized drops c e =
     let id = dst.id in
     let now = turned_lot sides.Returning dst in
@@ -369,13 +369,13 @@ backs_go f m chan src dst lots sized drops c e =
 
 -- ---- the channel
 
-reg_goes : (f : Fixed) (lots : List Lot) (chan : ChanNo) (off width value : ℕ) (rest : List Step) → All (IsStill f) lots → LoadsFirst rest → PlanGoes f lots rest → PlanGoes f lots (hart_step (hart.IoStore (io.Reg chan off width value)) ∷ rest)
+reg_goes : (f : DriverConfig) (lots : List Lot) (chan : ChanNo) (off width value : ℕ) (rest : List Step) → All (IsStill f) lots → LoadsFirst rest → PlanGoes f lots rest → PlanGoes f lots (hart_step (hart.IoStore (io.Reg chan off width value)) ∷ rest)
 reg_goes f lots chan off width value rest still first go = (Registers (record { chan = chan; off = off; width = width; value = value; step = refl; still = still; next = first }), go)
 
-abbrev transfer_steps : Fixed → ChanNo → ℕ → Lot → Lot → List Step
+abbrev transfer_steps : DriverConfig → ChanNo → ℕ → Lot → Lot → List Step
 transfer_steps f chan cfg src dst = map (copy_step chan) (transfer chan (end_part f src) (end_part f dst) cfg)
 
-transfer_goes : (f : Fixed) (chan : ChanNo) (cfg : ℕ) (src dst : Lot) (lots : List Lot) (rest : List Step) → AreCopied f chan src dst → AreEndsIn f src dst sides.Device sides.Device lots → LoadsFirst rest → PlanGoes f lots rest → PlanGoes f lots (transfer_steps f chan cfg src dst ++ rest)
+transfer_goes : (f : DriverConfig) (chan : ChanNo) (cfg : ℕ) (src dst : Lot) (lots : List Lot) (rest : List Step) → AreCopied f chan src dst → AreEndsIn f src dst sides.Device sides.Device lots → LoadsFirst rest → PlanGoes f lots rest → PlanGoes f lots (transfer_steps f chan cfg src dst ++ rest)
 transfer_goes f chan cfg src dst lots rest c e first go =
     let p = end_part f src in
     let q = end_part f dst in
@@ -409,14 +409,14 @@ begin_posts : (b : ℕ) (turn : Turn) (steps : List Step) → list_any (posts b)
 begin_posts b turn [] = refl
 begin_posts b turn (s ∷ rest) = refl
 
-back_silent : (f : Fixed) (lot : Lot) (b : ℕ) → IsPlanned f lot → DropsBlocks f.effects → list_any (posts b) (back_steps f lot) ≡ false
+back_silent : (f : DriverConfig) (lot : Lot) (b : ℕ) → IsPlanned f lot → DropsBlocks f.effects → list_any (posts b) (back_steps f lot) ≡ false
 back_silent f lot b is drops = begin_posts b (turns.Return lot.id) (ending (turns.End lot.id) (return_steps f lot)) ∙ (return_plan f lot (turns.End lot.id) is drops (inr refl)).silent b
 
 wanted_same : (lot : Lot) → lot.side ≡ sides.Wanted → lot ≡ turned_lot sides.Wanted lot
 wanted_same lot is = ap (λ (s : Side). turned_lot s lot) is
 
 -- what is asked of the hart's lots at its start
-pub record MayCopy (f : Fixed) (m : MachineState) (chan : ChanNo) (src dst : Lot) (lots : List Lot) : Type 0 where
+pub record MayCopy (f : DriverConfig) (m : MachineState) (chan : ChanNo) (src dst : Lot) (lots : List Lot) : Type 0 where
   pub block : IsBlockSize m.size
   pub size : f.size ≡ m.size
   pub unlight : f.light ≡ false
@@ -430,7 +430,7 @@ pub record MayCopy (f : Fixed) (m : MachineState) (chan : ChanNo) (src dst : Lot
   pub target_wanted : dst.side ≡ sides.Wanted
   pub others : All (λ other. is_lot source other ≡ false → is_lot target other ≡ false → IsStill f other) lots
 
-start_ends : (f : Fixed) (m : MachineState) (chan : ChanNo) (src dst : Lot) (lots : List Lot) → MayCopy f m chan src dst lots → AreEndsIn f src dst sides.Wanted sides.Wanted lots
+start_ends : (f : DriverConfig) (m : MachineState) (chan : ChanNo) (src dst : Lot) (lots : List Lot) → MayCopy f m chan src dst lots → AreEndsIn f src dst sides.Wanted sides.Wanted lots
 start_ends f m chan src dst lots c = record {
   source_in = subst (λ (l : Lot). In l lots) (wanted_same src c.source_wanted) c.source_in;
   target_in = subst (λ (l : Lot). In l lots) (wanted_same dst c.target_wanted) c.target_in;
@@ -445,13 +445,13 @@ start_ends f m chan src dst lots c = record {
   ]);
 }
 
-pub record CopyGoes (f : Fixed) (lots : List Lot) (steps : List Step) : Type 0 where
+pub record CopyGoes (f : DriverConfig) (lots : List Lot) (steps : List Step) : Type 0 where
   pub goes : PlanGoes f lots steps
   pub silent : (b : ℕ) → list_any (posts b) steps ≡ false
   pub polled : polls steps ≡ true
   pub unclaimed : transfers steps ≡ false
 
-pub copy_goes : (f : Fixed) (m : MachineState) (chan : ChanNo) (cfg : ℕ) (src dst : Lot) (lots : List Lot) → repeat_of cfg ≡ false → MayCopy f m chan src dst lots → CopyGoes f lots (copy_steps f chan cfg src dst)
+pub copy_goes : (f : DriverConfig) (m : MachineState) (chan : ChanNo) (cfg : ℕ) (src dst : Lot) (lots : List Lot) → repeat_of cfg ≡ false → MayCopy f m chan src dst lots → CopyGoes f lots (copy_steps f chan cfg src dst)
 copy_goes f m chan cfg src dst lots once c =
     let two = c.ends.two in
     let lent_src = set_side sides.Lending src.id lots in

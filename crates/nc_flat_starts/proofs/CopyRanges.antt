@@ -25,10 +25,10 @@ use Rattle.nc_rules.specs.declared.steps.Phase.TheVariants.{Work}
 use Rattle.nc_rules.specs.Copies as copies
 use Rattle.nc_rules.specs.Copies.{source, target, ends_of}
 use Rattle.nc_rules.specs.Driver.{DriverState, Went, in_hand}
-use Rattle.nc_rules.specs.Lots.{Fixed, is_lot, reach_of, ranges_lot, with_slot}
+use Rattle.nc_rules.specs.Lots.{DriverConfig, is_lot, reach_of, ranges_lot, with_slot}
 use Rattle.nc_rules.specs.Operations.{meaning, begin}
 use Rattle.nc_rules.specs.Refusals.{◌>>=◌, all_some, buffer_of, part_of, ranges_of, owned_from, lendable, placeable}
-use Rattle.nc_rules.specs.Watched.{owner_of}
+use Rattle.nc_rules.specs.EventTouches.{owner_of}
 use Rattle.nc_rules.specs.World.{WorldState, driver_of, owners_moved}
 use Rattle.nc_scripts.specs.Drivers.{IsSettled}
 use Rattle.nc_scripts.specs.NewLots.{AreOwned, own_ranges}
@@ -69,8 +69,8 @@ ranged_stands sc f w h went o lots lt copy hand fixed its_lots still off polled 
     record {
       from = r.from;
       to = r.to;
-      from_is = subst (λ (f : Fixed). source_range f k r.from) (sym fixed_now) r.from_is;
-      to_is = subst (λ (f : Fixed). target_range f k r.to) (sym fixed_now) r.to_is;
+      from_is = subst (λ (f : DriverConfig). source_range f k r.from) (sym fixed_now) r.from_is;
+      to_is = subst (λ (f : DriverConfig). target_range f k r.to) (sym fixed_now) r.to_is;
       ends = subst (λ (ls : List Lot). AreItsEnds k r.from r.to ls) (sym lots_now) r.ends;
       under = λ on. absurd (both_ways (transfers (driver_of v h.0).rest) (ap (λ (d : DriverState). transfers d.rest) here ∙ off) on);
       polled = λ work none. absurd (both_ways (polls (driver_of v h.0).rest) none (ap (λ (d : DriverState). polls d.rest) here ∙ polled (sym (ap (λ (d : DriverState). d.phase) here) ∙ work)));
@@ -100,7 +100,7 @@ slot_range n lot dir chan range r = elim (cases_Bool (sg.waits r.entry)) [
 
 -- ---- at its start
 
-pub record AreBegun (f : Fixed) (k : CopyOp) (new : List Lot) : Type 0 where
+pub record AreBegun (f : DriverConfig) (k : CopyOp) (new : List Lot) : Type 0 where
   pub from : Span
   pub to : Span
   pub from_is : source_range f k from
@@ -110,10 +110,10 @@ pub record AreBegun (f : Fixed) (k : CopyOp) (new : List Lot) : Type 0 where
 two_by : (a b : Span) (rest all : List Span) → b ∷ [] ≡ rest → a ∷ rest ≡ all → a ∷ b ∷ [] ≡ all
 two_by a b rest all last is = ap (λ (ss : List Span). a ∷ ss) last ∙ is
 
-ends_by : (f : Fixed) (chan : ChanNo) (from to : Span) (ranges : List Span) (new : List Lot) → from ∷ to ∷ [] ≡ ranges → ends_of f chan ranges ≡ new → ends_of f chan (from ∷ to ∷ []) ≡ new
+ends_by : (f : DriverConfig) (chan : ChanNo) (from to : Span) (ranges : List Span) (new : List Lot) → from ∷ to ∷ [] ≡ ranges → ends_of f chan ranges ≡ new → ends_of f chan (from ∷ to ∷ []) ≡ new
 ends_by f chan from to ranges new same is = ap (ends_of f chan) same ∙ is
 
-pub copy_begun : (f : Fixed) (lots new : List Lot) (os : List Owner) (pages : PageMap) (k : CopyOp) → begin f lots os pages (copy_op k) ≡ Ok new → AreBegun f k new
+pub copy_begun : (f : DriverConfig) (lots new : List Lot) (os : List Owner) (pages : PageMap) (k : CopyOp) → begin f lots os pages (copy_op k) ≡ Ok new → AreBegun f k new
 unfolding begin meaning copies.copy
 copy_begun f lots new os pages k e =
     let src : SgEntry = record { buf = k.src; off = k.src_off; len = k.len } in
@@ -161,7 +161,7 @@ settled_none k from to lots all =
 abbrev pub IsEndSo : CopyOp → Span → Span → Lot → Type 0
 IsEndSo k from to lot = (is_lot source lot ≡ true → IsOneRange lot ToDev k.chan from) × (is_lot target lot ≡ true → IsOneRange lot FromDev k.chan to)
 
-new_ends : (f : Fixed) (k : CopyOp) (from to : Span) → AreItsEnds k from to (ends_of f k.chan (from ∷ to ∷ []))
+new_ends : (f : DriverConfig) (k : CopyOp) (from to : Span) → AreItsEnds k from to (ends_of f k.chan (from ∷ to ∷ []))
 new_ends f k from to =
     let s = ranges_lot f source kinds.Copy ToDev k.chan (from ∷ []) in
     let t = ranges_lot f target kinds.Copy FromDev k.chan (to ∷ []) in

@@ -22,10 +22,10 @@ use Rattle.nc_sg.specs.declared.list.Entry.{Entry}
 use Rattle.nc_rules.specs.declared.lots.Lot.{Lot}
 use Rattle.nc_rules.specs.declared.lots.LotId.{LotId}
 use Rattle.nc_rules.specs.declared.steps.Step.{Step}
-use Rattle.nc_rules.specs.Lots.{Fixed, map_id}
+use Rattle.nc_rules.specs.Lots.{DriverConfig, map_id}
 use Rattle.nc_rules.specs.Machine.{MachineState, hart_of, queue_of, channel_of, grantee_of}
 use Rattle.nc_rules.specs.Driver.{DriverState, Went}
-use Rattle.nc_rules.specs.Watched.{owner_of}
+use Rattle.nc_rules.specs.EventTouches.{owner_of}
 use Rattle.nc_rules.specs.World.{WorldState, driver_of, no_driver, owners_moved}
 use Rattle.nc_rows.specs.Ahead.{is_full, settling, sending, coming}
 use Rattle.nc_rows.specs.Places.{CalmRow}
@@ -188,7 +188,7 @@ buffer_same w h m went x lt same =
           ap (λ (j : ℕ). (driver_of (gone w h m went) j).fixed) is ∙ ap (λ (d : DriverState). d.fixed) (driver_here w h m went lt) ∙ same ∙ ap (λ (j : ℕ). (driver_of w j).fixed) (sym is)
       | inr ne ↦ ap (λ (d : DriverState). d.fixed) (driver_there w h m went 0 ne)
     ] in
-    ap (λ (f : Fixed). number_in f.buffers x) fixed
+    ap (λ (f : DriverConfig). number_in f.buffers x) fixed
 
 -- ---- the rows beside
 

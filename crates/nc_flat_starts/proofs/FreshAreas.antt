@@ -21,12 +21,12 @@ use Rattle.nc_model.specs.declared.owners.Owner.TheVariants.{Returning, Pool}
 use Rattle.nc_scen.specs.Regions.{pool_of, slots_of}
 use Rattle.nc_scen.specs.declared.scenario.Scenario.{Scenario}
 use Rattle.nc_rules.specs.declared.lots.Lot.{Lot}
-use Rattle.nc_rules.specs.Lots.{Fixed, only_entry}
+use Rattle.nc_rules.specs.Lots.{DriverConfig, only_entry}
 use Rattle.nc_rules.specs.Machine.{queue_of}
 use Rattle.nc_rules.specs.Turns.{is_area}
-use Rattle.nc_rules.specs.Watched.{owner_of}
+use Rattle.nc_rules.specs.EventTouches.{owner_of}
 use Rattle.nc_rules.specs.World.{WorldState, driver_of}
-use Rattle.nc_calls.specs.PlaceLaws.{NotHeld, parts}
+use Rattle.nc_calls.specs.PlaceLaws.{NotHeld, may_leave_stale_copy}
 use Rattle.nc_scripts.specs.Drivers.{IsFixed, IsLotIn}
 use Rattle.nc_holds.specs.Held.{FitsSide, IsTaken}
 use Rattle.nc_holds.specs.Holds.{held_of}
@@ -66,7 +66,7 @@ halved : (n : ℕ) → n % 4096 ≡ 0 → n % 2048 ≡ 0
 halved n whole = omega (arith, whole)
 
 -- an area has the whole block of each of its places
-pub area_block : (ram harts : ℕ) (f : Fixed) (lot : Lot) (s x y : ℕ) → IsFixed ram harts f → IsLotIn ram f lot → is_area lot.kind ≡ true → IsBlockSize s → y / s ≡ x / s → covers (only_entry lot).span x ≡ true → covers (only_entry lot).span y ≡ true
+pub area_block : (ram harts : ℕ) (f : DriverConfig) (lot : Lot) (s x y : ℕ) → IsFixed ram harts f → IsLotIn ram f lot → is_area lot.kind ≡ true → IsBlockSize s → y / s ≡ x / s → covers (only_entry lot).span x ≡ true → covers (only_entry lot).span y ≡ true
 area_block ram harts f lot s x y fixed is area size same on =
     let span = (only_entry lot).span in
     let p = area_in ram f lot 0 (only_entry lot) is area (area_entry ram f lot is area) in
@@ -78,7 +78,7 @@ fresh_at sc f w h lot x k on = record { entry = area_entry (length w.machine.cac
 fresh_over : (sc : Scenario) (f : List ℕ) (w : WorldState) (h : HartNo) (lot : Lot) (x : ℕ) → IsFresh sc f w h lot → covers (only_entry lot).span x ≡ true → covers (pool_of sc) x ≡ true
 fresh_over sc f w h lot x k on =
     let fx = (driver_of w h.0).fixed in
-    subst (λ (s : Span). covers s x ≡ true) (ap (λ (j : Fixed). j.pool) (fixed_is sc f w h k.flat k.lt))
+    subst (λ (s : Span). covers s x ≡ true) (ap (λ (j : DriverConfig). j.pool) (fixed_is sc f w h k.flat k.lt))
     (area_covers (length w.machine.cache.ram) fx lot 0 (only_entry lot) x k.new.is k.new.area (area_entry (length w.machine.cache.ram) fx lot k.new.is k.new.area) on)
 
 -- ---- nobody has its bytes
@@ -141,7 +141,7 @@ undropped sc f w h lot x g b k on is same =
           both_ways (covers (slots_of sc) x) (area_unslotted sc f w h lot 0 (only_entry lot) x k.flat k.lt k.new.is k.new.area (fresh_at sc f w h lot x k on)) (slot_block sc f w (device_place p.loan is.place) x k.flat slot.0 block)
     ]
 
-parts_by : (sc : Scenario) (f : List ℕ) (w : WorldState) (h : HartNo) (lot : Lot) (x g : ℕ) (e : QueueEntry) → IsFresh sc f w h lot → covers (only_entry lot).span x ≡ true → IsQueued (book_of w) (owner_of w) w.machine.pool w.machine.size g e → gives_at w.machine.size x e ≡ false → parts w.machine.size e x ≡ false
+parts_by : (sc : Scenario) (f : List ℕ) (w : WorldState) (h : HartNo) (lot : Lot) (x g : ℕ) (e : QueueEntry) → IsFresh sc f w h lot → covers (only_entry lot).span x ≡ true → IsQueued (book_of w) (owner_of w) w.machine.pool w.machine.size g e → gives_at w.machine.size x e ≡ false → may_leave_stale_copy w.machine.size e x ≡ false
 parts_by sc f w h lot x g (entries.Store span bytes Pma) k on is none = refl
 parts_by sc f w h lot x g (entries.Store span bytes Nc) k on is none = store_gives_at w.machine.size x span bytes Nc none
 parts_by sc f w h lot x g (entries.Store span bytes Io) k on is none = absurd is
@@ -155,12 +155,12 @@ parts_by sc f w h lot x g (entries.Lend label first count) k on is none = refl
 parts_by sc f w h lot x g (entries.Mark pred succ) k on is none = refl
 
 parts_all : (sc : Scenario) (f : List ℕ) (w : WorldState) (h : HartNo) (lot : Lot) (x g : ℕ) (q : List QueueEntry) → IsFresh sc f w h lot → covers (only_entry lot).span x ≡ true → All (IsQueued (book_of w) (owner_of w) w.machine.pool w.machine.size g) q → list_any (gives_at w.machine.size x) q ≡ false
-    → list_any (λ e. parts w.machine.size e x) q ≡ false
+    → list_any (λ e. may_leave_stale_copy w.machine.size e x) q ≡ false
 parts_all sc f w h lot x g [] k on all none = refl
 parts_all sc f w h lot x g (e ∷ q) k on all none =
     let P = IsQueued (book_of w) (owner_of w) w.machine.pool w.machine.size g in
     let each = or_parts (gives_at w.machine.size x e) (list_any (gives_at w.machine.size x) q) none in
-    or_from (parts w.machine.size e x) (list_any (λ a. parts w.machine.size a x) q) (parts_by sc f w h lot x g e k on (All-head P e q all) each.0) (parts_all sc f w h lot x g q k on (All-tail P e q all) each.1)
+    or_from (may_leave_stale_copy w.machine.size e x) (list_any (λ a. may_leave_stale_copy w.machine.size a x) q) (parts_by sc f w h lot x g e k on (All-head P e q all) each.0) (parts_all sc f w h lot x g q k on (All-tail P e q all) each.1)
 
-pub fresh_parts : (sc : Scenario) (f : List ℕ) (w : WorldState) (h : HartNo) (lot : Lot) (x g : ℕ) → IsFresh sc f w h lot → covers (only_entry lot).span x ≡ true → list_any (λ e. parts w.machine.size e x) (queue_of w.machine g) ≡ false
+pub fresh_parts : (sc : Scenario) (f : List ℕ) (w : WorldState) (h : HartNo) (lot : Lot) (x g : ℕ) → IsFresh sc f w h lot → covers (only_entry lot).span x ≡ true → list_any (λ e. may_leave_stale_copy w.machine.size e x) (queue_of w.machine g) ≡ false
 fresh_parts sc f w h lot x g k on = parts_all sc f w h lot x g (queue_of w.machine g) k on (k.flat.bytes.queued g) (lines_cover.none_gives w.machine.size x (queue_of w.machine g) ((fresh_row sc f w h lot x k on).none g))

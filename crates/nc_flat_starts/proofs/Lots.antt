@@ -16,7 +16,7 @@ use Rattle.nc_rules.specs.declared.lots.Kind.TheVariants as kinds
 use Rattle.nc_rules.specs.declared.lots.Lot.{Lot}
 use Rattle.nc_rules.specs.declared.lots.LotId.{LotId}
 use Rattle.nc_rules.specs.declared.lots.Side.{Side}
-use Rattle.nc_rules.specs.Lots.{Fixed, is_lot, is_wanted, map_id, grant_of, no_entry, lot_waits, with_slot, slot_given}
+use Rattle.nc_rules.specs.Lots.{DriverConfig, is_lot, is_wanted, map_id, grant_of, no_entry, lot_waits, with_slot, slot_given}
 use Rattle.nc_rules.specs.Turns.{is_area, with_side, set_side, without_wanted}
 use Rattle.nc_scripts.specs.Drivers.{IsNamed, IsEnd, FitsKind, IsLotIn, AreApart}
 use Rattle.nc_holds.specs.Changes.{WaitsUnlent}
@@ -28,7 +28,7 @@ use Rattle.nc_flatness.specs.Books.{is_entry_of, loan_by}
 use Rattle.nc_flat_starts.proofs.Sides.{without_lot}
 
 -- what mapping n is, of these lots
-abbrev pub loan_in : Fixed → List Lot → MapId → Option Loan
+abbrev pub loan_in : DriverConfig → List Lot → MapId → Option Loan
 loan_in f lots n = option_map (loan_by f n) (find (is_entry_of n) lots)
 
 -- ---- the one of a name
@@ -97,7 +97,7 @@ first_one n a b x y (inr p) (inl q) = absurd (omega (arith, q.label, p.0.label, 
 first_one n a b x y (inr p) (inr q) = omega (arith, p.1, q.1, x.above, x.below, y.above, y.below)
 
 -- two lots of a hart that have one mapping are one
-pub entry_one : (ram : ℕ) (f : Fixed) (lots : List Lot) (a b : Lot) (n : MapId) → All (IsLotIn ram f) lots → AreApart lots → In a lots → In b lots → names_entry n a ≡ true → names_entry n b ≡ true → a ≡ b
+pub entry_one : (ram : ℕ) (f : DriverConfig) (lots : List Lot) (a b : Lot) (n : MapId) → All (IsLotIn ram f) lots → AreApart lots → In a lots → In b lots → names_entry n a ≡ true → names_entry n b ≡ true → a ≡ b
 entry_one ram f lots a b n all apart here there is too =
     let x = numbered n a is in
     let y = numbered n b too in
@@ -183,20 +183,20 @@ kept_loans n (lot ∷ lots) = elim (cases_Bool (is_wanted lot.side)) [
 
 -- ---- the mapping of an entry
 
-abbrev pub loan_for : Fixed → HartNo → Lot → ℕ → Entry → Loan
+abbrev pub loan_for : DriverConfig → HartNo → Lot → ℕ → Entry → Loan
 loan_for f me lot i e = record { grant = grant_of f.slots_at lot (map_id me lot.id i) e; lot = lot.id; area = is_area lot.kind }
 
 entry_yes : (me : HartNo) (lot : Lot) (i : ℕ) (e : Entry) → slice_get lot.list.entries i ≡ Some e → is_wanted lot.side ≡ false → is_entry_of (map_id me lot.id i) lot ≡ true
 entry_yes me lot i e there lent = and_from (not (is_wanted lot.side)) (names_entry (map_id me lot.id i) lot) (ap not lent) (own_entry me lot i e there)
 
-loan_is : (f : Fixed) (me : HartNo) (lot : Lot) (i : ℕ) (e : Entry) → slice_get lot.list.entries i ≡ Some e → loan_by f (map_id me lot.id i) lot ≡ loan_for f me lot i e
+loan_is : (f : DriverConfig) (me : HartNo) (lot : Lot) (i : ℕ) (e : Entry) → slice_get lot.list.entries i ≡ Some e → loan_by f (map_id me lot.id i) lot ≡ loan_for f me lot i e
 loan_is f me lot i e there =
     let n = map_id me lot.id i in
     let at : n.entry - lot.id.first ≡ i = omega arith in
     let it : slice_index_or lot.list.entries (n.entry - lot.id.first) no_entry ≡ e = ap (λ k. slice_index_or lot.list.entries k no_entry) at ∙ get_or_from_slice_get lot.list.entries i e no_entry there in
     ap (λ (k : Entry). record { grant = grant_of f.slots_at lot n k; lot = lot.id; area = is_area lot.kind }) it
 
-pub loan_here : (f : Fixed) (me : HartNo) (lots : List Lot) (lot : Lot) (i : ℕ) (e : Entry) → IsEntryOf lots lot i e → is_wanted lot.side ≡ false → ((other : Lot) → In other lots → names_entry (map_id me lot.id i) other ≡ true → other ≡ lot)
+pub loan_here : (f : DriverConfig) (me : HartNo) (lots : List Lot) (lot : Lot) (i : ℕ) (e : Entry) → IsEntryOf lots lot i e → is_wanted lot.side ≡ false → ((other : Lot) → In other lots → names_entry (map_id me lot.id i) other ≡ true → other ≡ lot)
     → loan_in f lots (map_id me lot.id i) ≡ Some (loan_for f me lot i e)
 loan_here f me lots lot i e here lent alone =
     let n = map_id me lot.id i in

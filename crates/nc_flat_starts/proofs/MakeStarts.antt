@@ -20,7 +20,7 @@ use Rattle.nc_rules.specs.declared.answers.Refusal.{Refusal}
 use Rattle.nc_rules.specs.declared.lots.Kind.{Kind}
 use Rattle.nc_rules.specs.declared.lots.Kind.TheVariants as kinds
 use Rattle.nc_rules.specs.declared.lots.Lot.{Lot}
-use Rattle.nc_rules.specs.Lots.{Fixed, lot_id, is_wanted, slots_held, ranges_lot}
+use Rattle.nc_rules.specs.Lots.{DriverConfig, lot_id, is_wanted, slots_held, ranges_lot}
 use Rattle.nc_rules.specs.Refusals.{◌>>=◌, all_some, ranges_of, unused, owned_from, lendable, placeable}
 use Rattle.nc_rules.specs.Copies.{source, target}
 use Rattle.nc_rules.specs.Mappings as mappings
@@ -57,7 +57,7 @@ use Rattle.nc_flat_starts.proofs.Starts.{IsStart, short, holds_here, as_wanted}
 
 -- ---- the lots that it makes
 
-ranges_kind : (f : Fixed) (lots : List Lot) (label : Label) (kind : Kind) (dir : Dir) (chan : ChanNo) (os : List Owner) (es : List SgEntry) (new : List Lot) → ranges_begin f lots label kind dir chan os es ≡ Ok new → All (λ lot. lot.kind ≡ kind) new
+ranges_kind : (f : DriverConfig) (lots : List Lot) (label : Label) (kind : Kind) (dir : Dir) (chan : ChanNo) (os : List Owner) (es : List SgEntry) (new : List Lot) → ranges_begin f lots label kind dir chan os es ≡ Ok new → All (λ lot. lot.kind ≡ kind) new
 ranges_kind f lots label kind dir chan os es new e =
     let p1 = passed (all_some es) (λ _. ranges_of f es >>= λ ranges. behind_ranges f lots label kind dir chan os ranges) new e in
     let p2 = passed (ranges_of f es) (λ ranges. behind_ranges f lots label kind dir chan os ranges) new p1.rest in
@@ -68,17 +68,17 @@ ranges_kind f lots label kind dir chan os es new e =
     let there = placeable_is f (lot ∷ []) new p5.rest in
     subst (λ (ls : List Lot). All (λ lot. lot.kind ≡ kind) ls) there.same (All-cons (λ (l : Lot). l.kind ≡ kind) lot [] refl (All-nil (λ (l : Lot). l.kind ≡ kind)))
 
-map_kinds : (f : Fixed) (lots new : List Lot) (os : List Owner) (pages : PageMap) (label : Label) (buf off len : ℕ) (dir : Dir) (chan : ChanNo) → begin f lots os pages (ops.Map label buf off len dir chan) ≡ Ok new → All (λ lot. lot.kind ≡ kinds.Single) new
+map_kinds : (f : DriverConfig) (lots new : List Lot) (os : List Owner) (pages : PageMap) (label : Label) (buf off len : ℕ) (dir : Dir) (chan : ChanNo) → begin f lots os pages (ops.Map label buf off len dir chan) ≡ Ok new → All (λ lot. lot.kind ≡ kinds.Single) new
 unfolding begin meaning mappings.map_single
 map_kinds f lots new os pages label buf off len dir chan e = ranges_kind f lots label kinds.Single dir chan os (record { buf = buf; off = off; len = len } ∷ []) new e
 
-list_kinds : (f : Fixed) (lots new : List Lot) (os : List Owner) (pages : PageMap) (label : Label) (es : List SgEntry) (dir : Dir) (chan : ChanNo) → begin f lots os pages (ops.MapSg label es dir chan) ≡ Ok new → All (λ lot. lot.kind ≡ kinds.List) new
+list_kinds : (f : DriverConfig) (lots new : List Lot) (os : List Owner) (pages : PageMap) (label : Label) (es : List SgEntry) (dir : Dir) (chan : ChanNo) → begin f lots os pages (ops.MapSg label es dir chan) ≡ Ok new → All (λ lot. lot.kind ≡ kinds.List) new
 unfolding begin meaning lists.map_sg
 list_kinds f lots new os pages label es dir chan e =
     let p = passed (some_entries es) (λ _. ranges_begin f lots label kinds.List dir chan os es) new e in
     ranges_kind f lots label kinds.List dir chan os es new p.rest
 
-copy_kinds : (f : Fixed) (lots new : List Lot) (os : List Owner) (pages : PageMap) (k : CopyOp) → begin f lots os pages (copy_op k) ≡ Ok new → All (λ lot. lot.kind ≡ kinds.Copy) new
+copy_kinds : (f : DriverConfig) (lots new : List Lot) (os : List Owner) (pages : PageMap) (k : CopyOp) → begin f lots os pages (copy_op k) ≡ Ok new → All (λ lot. lot.kind ≡ kinds.Copy) new
 copy_kinds f lots new os pages k e =
     let b = copy_begun f lots new os pages k e in
     let s = ranges_lot f source kinds.Copy ToDev k.chan (b.from ∷ []) in
@@ -88,7 +88,7 @@ copy_kinds f lots new os pages k e =
 -- of which kind they are
 pub record NewKinds (o : Op) (new : List Lot) : Type 0 where
   pub made : All (λ lot. makes_kind o lot.kind ≡ true) new
-  pub mapping : (f : Fixed) → All IsMapping new
+  pub mapping : (f : DriverConfig) → All IsMapping new
 
 every_mapping : (kind : Kind) → is_mapping kind ≡ true
 every_mapping kinds.Single = refl
@@ -102,7 +102,7 @@ kinds_so o new kind all makes = record {
   mapping = λ f. all_to (λ (lot : Lot). lot.kind ≡ kind) IsMapping new all (λ lot is. record { kind = every_mapping lot.kind });
 }
 
-new_kinds : (o : Op) (f : Fixed) (lots new : List Lot) (os : List Owner) (pages : PageMap) → Makes o → begin f lots os pages o ≡ Ok new → NewKinds o new
+new_kinds : (o : Op) (f : DriverConfig) (lots new : List Lot) (os : List Owner) (pages : PageMap) → Makes o → begin f lots os pages o ≡ Ok new → NewKinds o new
 new_kinds o f lots new os pages (OneMap label buf off len dir chan is) e =
     kinds_so o new kinds.Single (map_kinds f lots new os pages label buf off len dir chan (subst (λ (p : Op). begin f lots os pages p ≡ Ok new) is e)) (ap (λ (p : Op). makes_kind p kinds.Single) is)
 new_kinds o f lots new os pages (ListMap label es dir chan is) e =

@@ -14,7 +14,7 @@ use Rattle.nc_rules.specs.declared.lots.Side.TheVariants as sides
 use Rattle.nc_rules.specs.declared.steps.Step.{Step}
 use Rattle.nc_rules.specs.declared.steps.Turn.{Turn}
 use Rattle.nc_rules.specs.declared.steps.Turn.TheVariants as turns
-use Rattle.nc_rules.specs.Lots.{Fixed, lot_named, is_synced}
+use Rattle.nc_rules.specs.Lots.{DriverConfig, lot_named, is_synced}
 use Rattle.nc_rules.specs.Turns.{is_area}
 use Rattle.nc_rules.specs.Refusals.{◌>>=◌, wanted, named}
 use Rattle.nc_rules.specs.Plans.{lend_steps, return_steps, ending}
@@ -36,7 +36,7 @@ use Rattle.nc_flat_starts.proofs.Starts.{IsStart, as_wanted, there_so, as_made, 
 -- ---- each of them
 
 -- a mapping is its channel's, or synced
-mapping_still : (f : Fixed) (lot : Lot) → is_area lot.kind ≡ false → (lot.side ≡ sides.Lending → ⊥) → IsStill f lot → (lot.side ≡ sides.Device) ⊎ ((lot.side ≡ sides.Synced) × (lot.kind ≡ kinds.Single))
+mapping_still : (f : DriverConfig) (lot : Lot) → is_area lot.kind ≡ false → (lot.side ≡ sides.Lending → ⊥) → IsStill f lot → (lot.side ≡ sides.Device) ⊎ ((lot.side ≡ sides.Synced) × (lot.kind ≡ kinds.Single))
 mapping_still f lot plain unsent (StillDevice is) = inl is
 mapping_still f lot plain unsent (StillSynced is kind) = inr (is, kind)
 mapping_still f lot plain unsent (StillOwn is kind) = absurd (both_ways (is_area lot.kind) plain (ap is_area kind))

@@ -32,7 +32,7 @@ use Rattle.nc_rules.specs.declared.lots.Side.TheVariants as sides
 use Rattle.nc_rules.specs.declared.steps.Phase.TheVariants.{Work}
 use Rattle.nc_rules.specs.declared.steps.Seen.{Seen}
 use Rattle.nc_rules.specs.declared.steps.Step.{Step}
-use Rattle.nc_rules.specs.Lots.{Fixed, map_id, owner_of_side}
+use Rattle.nc_rules.specs.Lots.{DriverConfig, map_id, owner_of_side}
 use Rattle.nc_rules.specs.Machine.{MachineState, no_hart, queue_of}
 use Rattle.nc_rules.specs.Plans.{lend_steps}
 use Rattle.nc_rules.specs.Start.{hart_spec}
@@ -73,12 +73,12 @@ use Rattle.nc_flat_starts.proofs.Tokens.{AreKept, none_named}
 pub writing : (sc : Scenario) (f : List ℕ) (w : WorldState) (h : HartNo) → Flatness sc f w → h.0 < length sc.harts → WritesBack (driver_of w h.0).fixed.effects
 writing sc f w h flat lt =
     let s = hart_spec sc h.0 in
-    subst (λ (k : Fixed). WritesBack k.effects) (sym (fixed_is sc f w h flat lt)) (writes s.mode s.menvcfg s.senvcfg)
+    subst (λ (k : DriverConfig). WritesBack k.effects) (sym (fixed_is sc f w h flat lt)) (writes s.mode s.menvcfg s.senvcfg)
 
 pub dropping : (sc : Scenario) (f : List ℕ) (w : WorldState) (h : HartNo) → Flatness sc f w → h.0 < length sc.harts → DropsBlocks (driver_of w h.0).fixed.effects
 dropping sc f w h flat lt =
     let s = hart_spec sc h.0 in
-    subst (λ (k : Fixed). DropsBlocks k.effects) (sym (fixed_is sc f w h flat lt)) (drops s.mode s.menvcfg s.senvcfg)
+    subst (λ (k : DriverConfig). DropsBlocks k.effects) (sym (fixed_is sc f w h flat lt)) (drops s.mode s.menvcfg s.senvcfg)
 
 pub sizes : (sc : Scenario) (f : List ℕ) (w : WorldState) (h : HartNo) → Flatness sc f w → h.0 < length sc.harts → (driver_of w h.0).fixed.size ≡ w.machine.size
 sizes sc f w h flat lt = sym (flat.world.holds.each h.0 (omega (arith, lt, flat.world.of_scenario.harts))).setting.block
@@ -95,22 +95,22 @@ queues_fit sc f w g flat = elim (cases_lt g (length w.machine.harts)) [
 
 -- ---- the place in the device range
 
-abbrev pub place_at : Fixed → Entry → ℕ → ℕ
+abbrev pub place_at : DriverConfig → Entry → ℕ → ℕ
 place_at f e x = (device_of f e).at + (x - e.span.at)
 
-device_long : (f : Fixed) (e : Entry) (t : Bool) → e.bounced ≡ t → (device_of f e).len ≡ e.span.len
+device_long : (f : DriverConfig) (e : Entry) (t : Bool) → e.bounced ≡ t → (device_of f e).len ≡ e.span.len
 device_long f e true is = rw is refl
 device_long f e false is = rw is refl
 
-pub device_on : (f : Fixed) (e : Entry) (x : ℕ) → covers e.span x ≡ true → covers (device_of f e) (place_at f e x) ≡ true
+pub device_on : (f : DriverConfig) (e : Entry) (x : ℕ) → covers e.span x ≡ true → covers (device_of f e) (place_at f e x) ≡ true
 device_on f e x on = covers-from (device_of f e) (place_at f e x) (omega arith) (omega (arith, covers-low e.span x on, covers-high e.span x on, device_long f e e.bounced refl))
 
-pub direct_same : (f : Fixed) (e : Entry) (x : ℕ) → e.bounced ≡ false → covers e.span x ≡ true → place_at f e x ≡ x
+pub direct_same : (f : DriverConfig) (e : Entry) (x : ℕ) → e.bounced ≡ false → covers e.span x ≡ true → place_at f e x ≡ x
 direct_same f e x off on =
     let at : (device_of f e).at ≡ e.span.at = ap (λ (s : Span). s.at) (cond-false e.bounced _ e.span off) in
     omega (arith, at, covers-low e.span x on)
 
-pub place_is : (f : Fixed) (lot : Lot) (i : ℕ) (e : Entry) (x : ℕ) → slice_get lot.list.entries i ≡ Some e → covers e.span x ≡ true → IsPlaceOf f lot (sg.part_of lot.list.dir f.slots_at e) (place_at f e x)
+pub place_is : (f : DriverConfig) (lot : Lot) (i : ℕ) (e : Entry) (x : ℕ) → slice_get lot.list.entries i ≡ Some e → covers e.span x ≡ true → IsPlaceOf f lot (sg.part_of lot.list.dir f.slots_at e) (place_at f e x)
 place_is f lot i e x there on =
     let over = device_on f e x on in
     record {
@@ -120,7 +120,7 @@ place_is f lot i e x there on =
     }
 
 -- a place of an entry that bounces lies in its slot
-pub record InSlot (sc : Scenario) (f : Fixed) (e : Entry) (y : ℕ) : Type 0 where
+pub record InSlot (sc : Scenario) (f : DriverConfig) (e : Entry) (y : ℕ) : Type 0 where
   pub k : ℕ
   pub slot : e.slot ≡ Some k
   pub on : covers (slot_at sc k) y ≡ true
@@ -132,8 +132,8 @@ in_slot_at sc f w h lots lot i e y b there bounced on =
     let fx = (driver_of w h.0).fixed in
     let slot = slot_in e (waits_not lot i e b.placed there) bounced in
     let is = in_slot_so (length w.machine.cache.ram) fx e slot.0 b.each.knows.fixed.slots_whole (entry_in (length w.machine.cache.ram) fx lot i e (member_lot sc f w h lots lot b) there) bounced slot.1 in
-    let at : fx.slots_at ≡ sc.slots_at = ap (λ (k : Fixed). k.slots_at) (fixed_is sc f w h b.flat b.lt) in
-    let few : fx.slots ≡ sc.slots = ap (λ (k : Fixed). k.slots) (fixed_is sc f w h b.flat b.lt) in
+    let at : fx.slots_at ≡ sc.slots_at = ap (λ (k : DriverConfig). k.slots_at) (fixed_is sc f w h b.flat b.lt) in
+    let few : fx.slots ≡ sc.slots = ap (λ (k : DriverConfig). k.slots) (fixed_is sc f w h b.flat b.lt) in
     let inside = covers-from (slot_at sc slot.0) y (omega (arith, at, is.low, covers-low (device_of fx e) y on)) (omega (arith, at, is.high, is.long, covers-high (device_of fx e) y on)) in
     record { k = slot.0; slot = slot.1; on = inside; over = slot_slots sc slot.0 y (omega (arith, is.few, few)) inside }
 
@@ -173,7 +173,7 @@ alone_so sc f w h lots lot i e x b kept plain place side comes true bounced g ne
     (λ z same.
     let on = slot_whole sc f w s.k y z b.flat s.on (sym same) in
     let few = (entry_in (length m.cache.ram) fx lot i e (member_lot sc f w h lots lot b) place.entry).slot s.k s.slot in
-    let over = slot_slots sc s.k z (subst (λ (n : ℕ). s.k < n) (ap (λ (j : Fixed). j.slots) (fixed_is sc f w h b.flat b.lt)) few.few) on in
+    let over = slot_slots sc s.k z (subst (λ (n : ℕ). s.k < n) (ap (λ (j : DriverConfig). j.slots) (fixed_is sc f w h b.flat b.lt)) few.few) on in
     (slot_calm sc f w h lots lot i e s.k z b kept place.entry side bounced s.slot on over).none g)
 alone_so sc f w h lots lot i e x b kept plain place side comes false direct g ne =
     let m = w.machine in

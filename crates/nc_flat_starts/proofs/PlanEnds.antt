@@ -21,7 +21,7 @@ use Rattle.nc_rules.specs.declared.steps.Act.TheVariants as acts
 use Rattle.nc_rules.specs.declared.steps.Turn.{Turn}
 use Rattle.nc_rules.specs.declared.steps.Turn.TheVariants as turns
 use Rattle.nc_rules.specs.Areas.{fenced}
-use Rattle.nc_rules.specs.Lots.{Fixed}
+use Rattle.nc_rules.specs.Lots.{DriverConfig}
 use Rattle.nc_rules.specs.Plans.{hart_step, turning, token_steps, lending_end}
 use Rattle.nc_rules.specs.Turns.{is_area}
 use Rattle.nc_rules.specs.declared.steps.Step.{Step}
@@ -78,21 +78,21 @@ token_only lot b ended =
 token_comes : (lot : Lot) (n : MapId) → coming n lot.id (token_steps lot) ≡ marker 1 4 ∷ lot_token lot ∷ []
 token_comes lot n = next n lot.id (hart_step (hart.Mark 1 4)) (token_step lot ∷ []) refl (token_ended lot) ∙ ap (λ (es : List QueueEntry). marker 1 4 ∷ es) (last n lot.id (token_step lot) [] (by_token lot))
 
-token_goes : (f : Fixed) (lots : List Lot) (lot : Lot) (area : Bool) → IsInHand f lots lot area sides.Lending → Others (IsStill f) lot.id lots → f.light ≡ true → NamesLent lot.id lots → PlanGoes f lots (token_steps lot)
+token_goes : (f : DriverConfig) (lots : List Lot) (lot : Lot) (area : Bool) → IsInHand f lots lot area sides.Lending → Others (IsStill f) lot.id lots → f.light ≡ true → NamesLent lot.id lots → PlanGoes f lots (token_steps lot)
 token_goes f lots lot area hand others light named =
     let its : IsInHand f lots lot (is_area lot.kind) sides.Lending = record { here = hand.here; area_is = refl; side_is = hand.side_is; others = hand.others } in
     (Marks (record { lot = lot; hand = its; light = light; step = refl; left = refl }), (Posts (record { lot = lot; hand = its; light = light; step = refl; over = refl }), sent_still f lot.id lots light named others))
 
 -- ---- the end of a lending
 
-pub record LendingEnd (f : Fixed) (lots : List Lot) (lot : Lot) (steps : List Step) : Type 0 where
+pub record LendingEnd (f : DriverConfig) (lots : List Lot) (lot : Lot) (steps : List Step) : Type 0 where
   pub goes : PlanGoes f lots steps
   pub plan : IsPlan lot.id steps
   pub settles : settling lot.id steps ≡ false
   pub byte : (s x : ℕ) (n : MapId) → list_any (gives_at s x) (coming n lot.id steps) ≡ false
   pub stands : (n : MapId) → Stands is_wo (names n) (coming n lot.id steps)
 
-give_goes : (f : Fixed) (lots : List Lot) (lot : Lot) (area : Bool) → IsInHand f lots lot area sides.Lending → Others (IsStill f) lot.id lots → PlanGoes f lots (fenced (turns.Give lot.id))
+give_goes : (f : DriverConfig) (lots : List Lot) (lot : Lot) (area : Bool) → IsInHand f lots lot area sides.Lending → Others (IsStill f) lot.id lots → PlanGoes f lots (fenced (turns.Give lot.id))
 give_goes f lots lot false hand others = (Gives (record { lot = lot; hand = hand; step = refl; next = refl }), given_still f lot.id lots others)
 give_goes f lots lot true hand others = (GivesArea (record { lot = lot; hand = hand; step = refl; over = refl }), given_still f lot.id lots others)
 
@@ -100,7 +100,7 @@ pub fence_byte : (s x : ℕ) (n : MapId) (t : Bool) → list_any (gives_at s x) 
 fence_byte s x n true = refl
 fence_byte s x n false = refl
 
-full_end : (f : Fixed) (lots : List Lot) (lot : Lot) (area : Bool) → IsInHand f lots lot area sides.Lending → Others (IsStill f) lot.id lots → LendingEnd f lots lot (fenced (turns.Give lot.id))
+full_end : (f : DriverConfig) (lots : List Lot) (lot : Lot) (area : Bool) → IsInHand f lots lot area sides.Lending → Others (IsStill f) lot.id lots → LendingEnd f lots lot (fenced (turns.Give lot.id))
 full_end f lots lot area hand others =
     let id = lot.id in
     let turn = turns.Give id in
@@ -112,7 +112,7 @@ full_end f lots lot area hand others =
       stands = λ n. subst (λ (es : List QueueEntry). Stands is_wo (names n) es) (sym (alone_comes n id turn (same_id id))) (inl refl);
     }
 
-token_end : (f : Fixed) (lots : List Lot) (lot : Lot) (area : Bool) → IsInHand f lots lot area sides.Lending → Others (IsStill f) lot.id lots → f.light ≡ true → NamesLent lot.id lots → LendingEnd f lots lot (token_steps lot)
+token_end : (f : DriverConfig) (lots : List Lot) (lot : Lot) (area : Bool) → IsInHand f lots lot area sides.Lending → Others (IsStill f) lot.id lots → f.light ≡ true → NamesLent lot.id lots → LendingEnd f lots lot (token_steps lot)
 token_end f lots lot area hand others light named = record {
   goes = token_goes f lots lot area hand others light named;
   plan = record { ended = token_ended lot; only = token_only lot; silent = λ b. refl; first = refl };
@@ -121,7 +121,7 @@ token_end f lots lot area hand others light named = record {
   stands = λ n. subst (λ (es : List QueueEntry). Stands is_wo (names n) es) (sym (token_comes lot n)) (inl refl);
 }
 
-pub lending_end_so : (f : Fixed) (lots : List Lot) (lot : Lot) (area : Bool) → IsInHand f lots lot area sides.Lending → Others (IsStill f) lot.id lots → NamesLent lot.id lots → LendingEnd f lots lot (lending_end f lot)
+pub lending_end_so : (f : DriverConfig) (lots : List Lot) (lot : Lot) (area : Bool) → IsInHand f lots lot area sides.Lending → Others (IsStill f) lot.id lots → NamesLent lot.id lots → LendingEnd f lots lot (lending_end f lot)
 lending_end_so f lots lot area hand others named = by_light f.light refl
   where
     by_light : (t : Bool) → f.light ≡ t → LendingEnd f lots lot (if t then token_steps lot else fenced (turns.Give lot.id))

@@ -28,7 +28,7 @@ use Rattle.nc_sg.specs.declared.list.Entry.{Entry}
 use Rattle.nc_rules.specs.declared.lots.Lot.{Lot}
 use Rattle.nc_rules.specs.declared.lots.LotId.{LotId}
 use Rattle.nc_rules.specs.declared.steps.Step.{Step}
-use Rattle.nc_rules.specs.Lots.{Fixed, parts}
+use Rattle.nc_rules.specs.Lots.{DriverConfig, parts}
 use Rattle.nc_rules.specs.Plans.{hart_step, op_steps}
 use Rattle.nc_calls.specs.PlaceLaws.{drops_copies}
 use Rattle.nc_scripts.proofs.Lists.{all_in, all_to}
@@ -44,27 +44,27 @@ use Rattle.nc_flat_starts.proofs.PlanComes.{EndsOnly, ops_of}
 -- ---- what the plans of a lot need of it
 
 -- the buffer's range into the slot, and out of it again
-abbrev pub in_cut : Fixed → Entry → Span × Span
+abbrev pub in_cut : DriverConfig → Entry → Span × Span
 in_cut f e = (e.span, device_of f e)
 
-abbrev pub out_cut : Fixed → Entry → Span × Span
+abbrev pub out_cut : DriverConfig → Entry → Span × Span
 out_cut f e = (device_of f e, e.span)
 
-pub record IsPlanned (f : Fixed) (lot : Lot) : Type 0 where
+pub record IsPlanned (f : DriverConfig) (lot : Lot) : Type 0 where
   pub size : IsBlockSize f.size
   pub some : (i : ℕ) (e : Entry) → slice_get lot.list.entries i ≡ Some e → 0 < e.span.len
   pub off : (i : ℕ) (e : Entry) → slice_get lot.list.entries i ≡ Some e → is_bounced (sg.part_of lot.list.dir f.slots_at e) ≡ e.bounced
   pub slots : (i j : ℕ) (d e : Entry) → i ≢ j → slice_get lot.list.entries i ≡ Some d → slice_get lot.list.entries j ≡ Some e → AreCutApart (in_cut f) d e
   pub buffers : (i j : ℕ) (d e : Entry) → i ≢ j → slice_get lot.list.entries i ≡ Some d → slice_get lot.list.entries j ≡ Some e → AreCutApart (out_cut f) d e
 
-device_len : (f : Fixed) (e : Entry) (t : Bool) → e.bounced ≡ t → (device_of f e).len ≡ e.span.len
+device_len : (f : DriverConfig) (e : Entry) (t : Bool) → e.bounced ≡ t → (device_of f e).len ≡ e.span.len
 device_len f e true is = ap (λ (s : Span). s.len) (cond-true e.bounced _ e.span is)
 device_len f e false is = ap (λ (s : Span). s.len) (cond-false e.bounced _ e.span is)
 
-pub in_even : (f : Fixed) → CutsEven (in_cut f)
+pub in_even : (f : DriverConfig) → CutsEven (in_cut f)
 in_even f e = device_len f e e.bounced refl
 
-pub out_even : (f : Fixed) → CutsEven (out_cut f)
+pub out_even : (f : DriverConfig) → CutsEven (out_cut f)
 out_even f e = sym (device_len f e e.bounced refl)
 
 -- what is known of a plan at its start beside: it ends the lot's stay and no other's, it has no message, and a store comes
@@ -85,11 +85,11 @@ one_copies : (cut : Entry → Span × Span) (e : Entry) (t : Bool) → flat_map 
 one_copies cut e true = flat_map-map (ops_of cut) (piece_of e) (pieces (cut e).0)
 one_copies cut e false = refl
 
-in_one : (f : Fixed) (dir : Dir) (e : Entry) → is_bounced (sg.part_of dir f.slots_at e) ≡ e.bounced → copied_in (sg.part_of dir f.slots_at e) ≡ flat_map (ops_of (in_cut f)) (if e.bounced then map (piece_of e) (pieces e.span) else [])
+in_one : (f : DriverConfig) (dir : Dir) (e : Entry) → is_bounced (sg.part_of dir f.slots_at e) ≡ e.bounced → copied_in (sg.part_of dir f.slots_at e) ≡ flat_map (ops_of (in_cut f)) (if e.bounced then map (piece_of e) (pieces e.span) else [])
 unfolding copied_in
 in_one f dir e off = ap (λ (t : Bool). if t then copies e.span (device_of f e) else []) off ∙ sym (one_copies (in_cut f) e e.bounced)
 
-pub ins_are : (f : Fixed) (dir : Dir) (es : List Entry) → ((i : ℕ) (e : Entry) → slice_get es i ≡ Some e → is_bounced (sg.part_of dir f.slots_at e) ≡ e.bounced)
+pub ins_are : (f : DriverConfig) (dir : Dir) (es : List Entry) → ((i : ℕ) (e : Entry) → slice_get es i ≡ Some e → is_bounced (sg.part_of dir f.slots_at e) ≡ e.bounced)
     → flat_map copied_in (map (sg.part_of dir f.slots_at) es) ≡ flat_map (ops_of (in_cut f)) (moves_of (in_cut f) es)
 ins_are f dir [] off = refl
 ins_are f dir (e ∷ es) off =
@@ -98,21 +98,21 @@ ins_are f dir (e ∷ es) off =
     ∙ sym (flat_map-append (ops_of (in_cut f)) (if e.bounced then map (piece_of e) (pieces e.span) else []) (moves_of (in_cut f) es))
 
 -- those that come out, where the direction comes back
-abbrev pub outs_of : Fixed → Bool → List Entry → List Move
+abbrev pub outs_of : DriverConfig → Bool → List Entry → List Move
 outs_of f true es = moves_of (out_cut f) es
 outs_of f false es = []
 
-out_one : (f : Fixed) (dir : Dir) (e : Entry) → comes_back dir ≡ true → is_bounced (sg.part_of dir f.slots_at e) ≡ e.bounced → copied_back (sg.part_of dir f.slots_at e) ≡ flat_map (ops_of (out_cut f)) (if e.bounced then map (piece_of e) (pieces (device_of f e)) else [])
+out_one : (f : DriverConfig) (dir : Dir) (e : Entry) → comes_back dir ≡ true → is_bounced (sg.part_of dir f.slots_at e) ≡ e.bounced → copied_back (sg.part_of dir f.slots_at e) ≡ flat_map (ops_of (out_cut f)) (if e.bounced then map (piece_of e) (pieces (device_of f e)) else [])
 unfolding copied_back
 out_one f dir e back off =
     ap (λ (t : Bool). if t && is_bounced (sg.part_of dir f.slots_at e) then copies (device_of f e) e.span else []) back
     ∙ ap (λ (t : Bool). if t then copies (device_of f e) e.span else []) off ∙ sym (one_copies (out_cut f) e e.bounced)
 
-out_none : (f : Fixed) (dir : Dir) (e : Entry) → comes_back dir ≡ false → copied_back (sg.part_of dir f.slots_at e) ≡ []
+out_none : (f : DriverConfig) (dir : Dir) (e : Entry) → comes_back dir ≡ false → copied_back (sg.part_of dir f.slots_at e) ≡ []
 unfolding copied_back
 out_none f dir e stays = ap (λ (t : Bool). if t && is_bounced (sg.part_of dir f.slots_at e) then copies (device_of f e) e.span else []) stays
 
-pub outs_are : (f : Fixed) (dir : Dir) (es : List Entry) (t : Bool) → comes_back dir ≡ t → ((i : ℕ) (e : Entry) → slice_get es i ≡ Some e → is_bounced (sg.part_of dir f.slots_at e) ≡ e.bounced)
+pub outs_are : (f : DriverConfig) (dir : Dir) (es : List Entry) (t : Bool) → comes_back dir ≡ t → ((i : ℕ) (e : Entry) → slice_get es i ≡ Some e → is_bounced (sg.part_of dir f.slots_at e) ≡ e.bounced)
     → flat_map copied_back (map (sg.part_of dir f.slots_at) es) ≡ flat_map (ops_of (out_cut f)) (outs_of f t es)
 outs_are f dir [] true back off = refl
 outs_are f dir [] false back off = refl
@@ -131,7 +131,7 @@ pub record IsWriting (o : HartOp) : Type 0 where
   pub is : o ≡ hart.Cbo op block
   pub writes : writes_back op ≡ true
 
-pub written_are : (f : Fixed) (lot : Lot) → WritesBack f.effects → All IsWriting (flat_map (written_back f.effects f.size) (parts f lot))
+pub written_are : (f : DriverConfig) (lot : Lot) → WritesBack f.effects → All IsWriting (flat_map (written_back f.effects f.size) (parts f lot))
 unfolding written_back
 written_are f lot writes =
     all_in IsWriting (flat_map (written_back f.effects f.size) (parts f lot))
@@ -140,7 +140,7 @@ written_are f lot writes =
     let b = of_map (cbo (lend_op f.effects p.0.dir)) o (blocks f.size p.0.device) p.2 in
     record { op = lend_op f.effects p.0.dir; block = record { 0 = b.0 }; is = sym b.2; writes = writes p.0.dir })
 
-pub record IsDropping (f : Fixed) (lot : Lot) (o : HartOp) : Type 0 where
+pub record IsDropping (f : DriverConfig) (lot : Lot) (o : HartOp) : Type 0 where
   pub back : comes_back lot.list.dir ≡ true
   pub op : CboOp
   pub block : Block
@@ -157,7 +157,7 @@ of_if : (t : Bool) (xs : List HartOp) (o : HartOp) → In o (if t then xs else [
 of_if true xs o here = (refl, here)
 of_if false xs o here = absurd here
 
-pub dropped_are : (f : Fixed) (lot : Lot) → IsBlockSize f.size → DropsBlocks f.effects → All (IsDropping f lot) (flat_map (dropped f.effects f.size) (parts f lot))
+pub dropped_are : (f : DriverConfig) (lot : Lot) → IsBlockSize f.size → DropsBlocks f.effects → All (IsDropping f lot) (flat_map (dropped f.effects f.size) (parts f lot))
 unfolding dropped
 dropped_are f lot size drops =
     all_in (IsDropping f lot) (flat_map (dropped f.effects f.size) (parts f lot))
@@ -187,13 +187,13 @@ dropped_are f lot size drops =
 writing_plain : (o : HartOp) → IsWriting o → is_plain o ≡ true
 writing_plain o w = ap is_plain w.is
 
-pub dropping_plain : (f : Fixed) (lot : Lot) (o : HartOp) → IsDropping f lot o → is_plain o ≡ true
+pub dropping_plain : (f : DriverConfig) (lot : Lot) (o : HartOp) → IsDropping f lot o → is_plain o ≡ true
 dropping_plain f lot o d = ap is_plain d.is
 
 pub writing_are_plain : (ops : List HartOp) → All IsWriting ops → Are is_plain ops
 writing_are_plain ops all = all_to IsWriting (λ (o : HartOp). is_plain o ≡ true) ops all writing_plain
 
-pub dropping_are_plain : (f : Fixed) (lot : Lot) (ops : List HartOp) → All (IsDropping f lot) ops → Are is_plain ops
+pub dropping_are_plain : (f : DriverConfig) (lot : Lot) (ops : List HartOp) → All (IsDropping f lot) ops → Are is_plain ops
 dropping_are_plain f lot ops all = all_to (IsDropping f lot) (λ (o : HartOp). is_plain o ≡ true) ops all (dropping_plain f lot)
 
 pub cbo_last : (o : HartOp) (op : CboOp) (block : Block) (rest : List Step) → o ≡ hart.Cbo op block → LoadsFirst (hart_step o ∷ rest)
@@ -203,7 +203,7 @@ pub writes_first : (ops : List HartOp) (rest : List Step) → All IsWriting ops 
 writes_first [] rest all first = first
 writes_first (o ∷ ops) rest all first = let w = All-head IsWriting o ops all in cbo_last o w.op w.block (op_steps ops ++ rest) w.is
 
-pub drops_first : (f : Fixed) (lot : Lot) (ops : List HartOp) (rest : List Step) → All (IsDropping f lot) ops → LoadsFirst rest → LoadsFirst (op_steps ops ++ rest)
+pub drops_first : (f : DriverConfig) (lot : Lot) (ops : List HartOp) (rest : List Step) → All (IsDropping f lot) ops → LoadsFirst rest → LoadsFirst (op_steps ops ++ rest)
 drops_first f lot [] rest all first = first
 drops_first f lot (o ∷ ops) rest all first = let d = All-head (IsDropping f lot) o ops all in cbo_last o d.op d.block (op_steps ops ++ rest) d.is
 

@@ -19,7 +19,7 @@ use Rattle.nc_rules.specs.declared.lots.LotId.{LotId}
 use Rattle.nc_rules.specs.declared.lots.Side.TheVariants as sides
 use Rattle.nc_rules.specs.declared.steps.Step.{Step}
 use Rattle.nc_rules.specs.declared.steps.Turn.TheVariants as turns
-use Rattle.nc_rules.specs.Lots.{Fixed, parts}
+use Rattle.nc_rules.specs.Lots.{DriverConfig, parts}
 use Rattle.nc_rules.specs.Plans.{hart_step, op_steps, turning, carried, token_steps, lending_end, lend_steps}
 use Rattle.nc_rules.specs.Turns.{lots_after}
 use Rattle.nc_holds.specs.Held.{SharesNone}
@@ -36,7 +36,7 @@ use Rattle.nc_flat_starts.proofs.PlanEnds.{LendingEnd, fence_byte, lending_end_s
 
 -- ---- write-backs go
 
-writes_go : (f : Fixed) (lots : List Lot) (lot : Lot) (ops : List HartOp) (rest : List Step) → IsInHand f lots lot false sides.Lending → All IsWriting ops → list_any (ends lot.id) rest ≡ true → LoadsFirst rest → PlanGoes f lots rest → PlanGoes f lots (op_steps ops ++ rest)
+writes_go : (f : DriverConfig) (lots : List Lot) (lot : Lot) (ops : List HartOp) (rest : List Step) → IsInHand f lots lot false sides.Lending → All IsWriting ops → list_any (ends lot.id) rest ≡ true → LoadsFirst rest → PlanGoes f lots rest → PlanGoes f lots (op_steps ops ++ rest)
 writes_go f lots lot [] rest hand all ended first go = go
 writes_go f lots lot (o ∷ ops) rest hand all ended first go =
     let w = All-head IsWriting o ops all in
@@ -45,7 +45,7 @@ writes_go f lots lot (o ∷ ops) rest hand all ended first go =
 
 -- ---- drops go
 
-unfoldable pub drop_at : (f : Fixed) (lots : List Lot) (lot : Lot) (o : HartOp) (ops : List HartOp) (rest : List Step) → IsInHand f lots lot false sides.Returning → IsDropping f lot o → All (IsDropping f lot) ops → list_any (ends lot.id) rest ≡ true → HasFull lot.id rest true → LoadsFirst rest
+unfoldable pub drop_at : (f : DriverConfig) (lots : List Lot) (lot : Lot) (o : HartOp) (ops : List HartOp) (rest : List Step) → IsInHand f lots lot false sides.Returning → IsDropping f lot o → All (IsDropping f lot) ops → list_any (ends lot.id) rest ≡ true → HasFull lot.id rest true → LoadsFirst rest
     → IsDrop f lots (hart_step o) (op_steps ops ++ rest)
 drop_at f lots lot o ops rest hand d more ended fenced first = record {
   lot = lot;
@@ -65,7 +65,7 @@ drop_at f lots lot o ops rest hand d more ended fenced first = record {
   next = drops_first f lot ops rest more first;
 }
 
-pub drops_go : (f : Fixed) (lots : List Lot) (lot : Lot) (ops : List HartOp) (rest : List Step) → IsInHand f lots lot false sides.Returning → All (IsDropping f lot) ops → list_any (ends lot.id) rest ≡ true → HasFull lot.id rest true → LoadsFirst rest → PlanGoes f lots rest
+pub drops_go : (f : DriverConfig) (lots : List Lot) (lot : Lot) (ops : List HartOp) (rest : List Step) → IsInHand f lots lot false sides.Returning → All (IsDropping f lot) ops → list_any (ends lot.id) rest ≡ true → HasFull lot.id rest true → LoadsFirst rest → PlanGoes f lots rest
     → PlanGoes f lots (op_steps ops ++ rest)
 drops_go f lots lot [] rest hand all ended fenced first go = go
 drops_go f lots lot (o ∷ ops) rest hand all ended fenced first go =
@@ -76,7 +76,7 @@ drops_go f lots lot (o ∷ ops) rest hand all ended fenced first go =
 -- ---- copies go
 
 -- which way an entry is copied, whatever of the plan is before
-abbrev Ways : Fixed → List Lot → Lot → (Entry → Span × Span) → List Step → Type 0
+abbrev Ways : DriverConfig → List Lot → Lot → (Entry → Span × Span) → List Step → Type 0
 Ways f lots lot cut rest = (e : Entry) (ops : List HartOp) → Are is_plain ops → GoesIn f lots lot e (op_steps ops ++ rest) (cut e).0 (cut e).1 ⊎ ComesOut f lots lot e (op_steps ops ++ rest) (cut e).0 (cut e).1
 
 pub copies_first : (cut : Entry → Span × Span) (ms : List Move) (rest : List Step) → LoadsFirst rest → LoadsFirst (op_steps (flat_map (ops_of cut) ms) ++ rest)
@@ -89,12 +89,12 @@ none_gives cut m (k ∷ ms) x all on =
     let P : Move → Type 0 = λ (k : Move). SharesNone (stored cut m) (stored cut k) in
     or_from (covers (stored cut k) x) (list_any (λ k. covers (stored cut k) x) ms) (false_from_ne_true (covers (stored cut k) x) (λ there. All-head P k ms all x on there)) (none_gives cut m ms x (All-tail P k ms all) on)
 
-pub copies_byte : (f : Fixed) (id : LotId) (cut : Entry → Span × Span) (ms : List Move) (rest : List Step) (x : ℕ) (n : MapId) → list_any (ends id) rest ≡ true
+pub copies_byte : (f : DriverConfig) (id : LotId) (cut : Entry → Span × Span) (ms : List Move) (rest : List Step) (x : ℕ) (n : MapId) → list_any (ends id) rest ≡ true
     → list_any (gives_at f.size x) (coming n id (op_steps (flat_map (ops_of cut) ms) ++ rest)) ≡ (list_any (λ k. covers (stored cut k) x) ms || list_any (gives_at f.size x) (coming n id rest))
 copies_byte f id cut ms rest x n ended =
     comes_ops (gives_at f.size x) n id (flat_map (ops_of cut) ms) rest (copies_are cut ms) ended ∙ ap (λ (t : Bool). t || list_any (gives_at f.size x) (coming n id rest)) (copies_give f.size x cut ms)
 
-pub copies_go : (f : Fixed) (lots : List Lot) (lot : Lot) (cut : Entry → Span × Span) (ms : List Move) (rest : List Step) → In lot lots → Ways f lots lot cut rest → All (IsMove cut lot.list.entries) ms → MovesApart cut ms → list_any (ends lot.id) rest ≡ true → LoadsFirst rest
+pub copies_go : (f : DriverConfig) (lots : List Lot) (lot : Lot) (cut : Entry → Span × Span) (ms : List Move) (rest : List Step) → In lot lots → Ways f lots lot cut rest → All (IsMove cut lot.list.entries) ms → MovesApart cut ms → list_any (ends lot.id) rest ≡ true → LoadsFirst rest
     → ((m : Move) (x : ℕ) → In m ms → covers (stored cut m) x ≡ true → HasByte f lot.id rest x false) → PlanGoes f lots rest → PlanGoes f lots (op_steps (flat_map (ops_of cut) ms) ++ rest)
 copies_go f lots lot cut [] rest here ways all apart ended first once go = go
 copies_go f lots lot cut (m ∷ ms) rest here ways all apart ended first once go =
@@ -138,24 +138,24 @@ some_gives cut (k ∷ ms) m x (inl same) on = or_left (covers (stored cut k) x) 
 some_gives cut (k ∷ ms) m x (inr later) on = or_right (covers (stored cut k) x) (list_any (λ k. covers (stored cut k) x) ms) (some_gives cut ms m x later on)
 
 -- it goes through, and puts each byte into its slot
-pub record Lends (f : Fixed) (lots : List Lot) (lot : Lot) (steps : List Step) : Type 0 where
+pub record Lends (f : DriverConfig) (lots : List Lot) (lot : Lot) (steps : List Step) : Type 0 where
   pub goes : PlanGoes f lots steps
   pub plan : IsPlan lot.id steps
   pub stores : (i : ℕ) (e : Entry) (y : ℕ) → slice_get lot.list.entries i ≡ Some e → e.bounced ≡ true → covers (device_of f e) y ≡ true → HasByte f lot.id steps y true
 
 -- what is done before it may be lent, in front of these steps
-abbrev copied_ops : Fixed → Lot → List HartOp
+abbrev copied_ops : DriverConfig → Lot → List HartOp
 copied_ops f lot = flat_map (ops_of (in_cut f)) (moves_of (in_cut f) lot.list.entries)
 
-abbrev backs_ops : Fixed → Lot → List HartOp
+abbrev backs_ops : DriverConfig → Lot → List HartOp
 backs_ops f lot = flat_map (written_back f.effects f.size) (parts f lot)
 
-carried_is : (f : Fixed) (lot : Lot) (end : List Step) → IsPlanned f lot → op_steps (carried f.effects f.size (parts f lot)) ++ end ≡ op_steps (copied_ops f lot) ++ (op_steps (backs_ops f lot) ++ end)
+carried_is : (f : DriverConfig) (lot : Lot) (end : List Step) → IsPlanned f lot → op_steps (carried f.effects f.size (parts f lot)) ++ end ≡ op_steps (copied_ops f lot) ++ (op_steps (backs_ops f lot) ++ end)
 carried_is f lot end is =
     ap (λ (ops : List HartOp). op_steps (ops ++ backs_ops f lot) ++ end) (ins_are f lot.list.dir lot.list.entries is.off) ∙ ap (λ (ss : List Step). ss ++ end) (steps_append (copied_ops f lot) (backs_ops f lot))
     ∙ append_steps (op_steps (copied_ops f lot)) (op_steps (backs_ops f lot)) end
 
-carried_goes : (f : Fixed) (lots : List Lot) (lot : Lot) (end : List Step) → IsInHand f lots lot false sides.Lending → IsPlanned f lot → WritesBack f.effects → list_any (ends lot.id) end ≡ true → LoadsFirst end → ((x : ℕ) (n : MapId) → list_any (gives_at f.size x) (coming n lot.id end) ≡ false) → PlanGoes f lots end
+carried_goes : (f : DriverConfig) (lots : List Lot) (lot : Lot) (end : List Step) → IsInHand f lots lot false sides.Lending → IsPlanned f lot → WritesBack f.effects → list_any (ends lot.id) end ≡ true → LoadsFirst end → ((x : ℕ) (n : MapId) → list_any (gives_at f.size x) (coming n lot.id end) ≡ false) → PlanGoes f lots end
     → PlanGoes f lots (op_steps (copied_ops f lot) ++ (op_steps (backs_ops f lot) ++ end))
 carried_goes f lots lot end hand is writes ended first byte go =
     let es = lot.list.entries in
@@ -171,14 +171,14 @@ carried_goes f lots lot end hand is writes ended first byte go =
     comes_ops (gives_at f.size x) n lot.id backs end plain ended ∙ or_from (list_any (gives_at f.size x) (flat_map op_coming backs)) (list_any (gives_at f.size x) (coming n lot.id end)) (writings_give f.size x backs all) (byte x n))
     (writes_go f lots lot backs end hand all ended first go)
 
-carried_first : (f : Fixed) (lot : Lot) (end : List Step) → WritesBack f.effects → LoadsFirst end → LoadsFirst (op_steps (copied_ops f lot) ++ (op_steps (backs_ops f lot) ++ end))
+carried_first : (f : DriverConfig) (lot : Lot) (end : List Step) → WritesBack f.effects → LoadsFirst end → LoadsFirst (op_steps (copied_ops f lot) ++ (op_steps (backs_ops f lot) ++ end))
 carried_first f lot end writes first = copies_first (in_cut f) (moves_of (in_cut f) lot.list.entries) (op_steps (backs_ops f lot) ++ end) (writes_first (backs_ops f lot) end (written_are f lot writes) first)
 
-carried_silent : (f : Fixed) (lot : Lot) (end : List Step) (b : ℕ) → WritesBack f.effects → list_any (posts b) end ≡ false → list_any (posts b) (op_steps (copied_ops f lot) ++ (op_steps (backs_ops f lot) ++ end)) ≡ false
+carried_silent : (f : DriverConfig) (lot : Lot) (end : List Step) (b : ℕ) → WritesBack f.effects → list_any (posts b) end ≡ false → list_any (posts b) (op_steps (copied_ops f lot) ++ (op_steps (backs_ops f lot) ++ end)) ≡ false
 carried_silent f lot end b writes silent =
     silent_ops b (copied_ops f lot) (op_steps (backs_ops f lot) ++ end) (copies_are (in_cut f) (moves_of (in_cut f) lot.list.entries)) (silent_ops b (backs_ops f lot) end (writing_are_plain (backs_ops f lot) (written_are f lot writes)) silent)
 
-pub lend_so : (f : Fixed) (lots : List Lot) (lot : Lot) → IsInHand f lots lot false sides.Lending → Others (IsStill f) lot.id lots → NamesLent lot.id lots → IsPlanned f lot → WritesBack f.effects → Lends f lots lot (lend_steps f lot)
+pub lend_so : (f : DriverConfig) (lots : List Lot) (lot : Lot) → IsInHand f lots lot false sides.Lending → Others (IsStill f) lot.id lots → NamesLent lot.id lots → IsPlanned f lot → WritesBack f.effects → Lends f lots lot (lend_steps f lot)
 lend_so f lots lot hand others named is writes =
     let es = lot.list.entries in
     let cut = in_cut f in
@@ -209,7 +209,7 @@ lend_so f lots lot hand others named is writes =
 abbrev give_step : LotId → Step
 give_step id = turning (turns.Give id) (hart_step full)
 
-given_is : (f : Fixed) (lot : Lot) (more : List Step) → IsPlanned f lot → f.light ≡ false → lend_steps f lot ++ more ≡ op_steps (copied_ops f lot) ++ (op_steps (backs_ops f lot) ++ (give_step lot.id ∷ more))
+given_is : (f : DriverConfig) (lot : Lot) (more : List Step) → IsPlanned f lot → f.light ≡ false → lend_steps f lot ++ more ≡ op_steps (copied_ops f lot) ++ (op_steps (backs_ops f lot) ++ (give_step lot.id ∷ more))
 given_is f lot more is unlight =
     append_steps (op_steps (carried f.effects f.size (parts f lot))) (lending_end f lot) more
     ∙ ap (λ (ss : List Step). op_steps (carried f.effects f.size (parts f lot)) ++ (ss ++ more)) (cond-false f.light (token_steps lot) (give_step lot.id ∷ []) unlight)
@@ -218,15 +218,15 @@ given_is f lot more is unlight =
 give_ended : (id : LotId) → ends id (give_step id) ≡ true
 give_ended id = or_left (turns_lot id (turns.Give id)) _ (same_id id)
 
-pub lend_goes : (f : Fixed) (lots : List Lot) (lot : Lot) (more : List Step) → IsInHand f lots lot false sides.Lending → IsPlanned f lot → WritesBack f.effects → f.light ≡ false → LoadsFirst more → PlanGoes f (lots_after (turns.Give lot.id) lots) more → PlanGoes f lots (lend_steps f lot ++ more)
+pub lend_goes : (f : DriverConfig) (lots : List Lot) (lot : Lot) (more : List Step) → IsInHand f lots lot false sides.Lending → IsPlanned f lot → WritesBack f.effects → f.light ≡ false → LoadsFirst more → PlanGoes f (lots_after (turns.Give lot.id) lots) more → PlanGoes f lots (lend_steps f lot ++ more)
 lend_goes f lots lot more hand is writes unlight first go =
     let end = give_step lot.id ∷ more in
     subst (λ (ss : List Step). PlanGoes f lots ss) (sym (given_is f lot more is unlight))
     (carried_goes f lots lot end hand is writes (or_left (ends lot.id (give_step lot.id)) (list_any (ends lot.id) more) (give_ended lot.id)) refl
     (λ x n. ap (list_any (gives_at f.size x)) (last n lot.id (give_step lot.id) more (give_ended lot.id)) ∙ fence_byte f.size x n (gives_lot lot.id (turns.Give lot.id))) (Gives (record { lot = lot; hand = hand; step = refl; next = first }), go))
 
-pub lend_first : (f : Fixed) (lot : Lot) (more : List Step) → IsPlanned f lot → WritesBack f.effects → f.light ≡ false → LoadsFirst (lend_steps f lot ++ more)
+pub lend_first : (f : DriverConfig) (lot : Lot) (more : List Step) → IsPlanned f lot → WritesBack f.effects → f.light ≡ false → LoadsFirst (lend_steps f lot ++ more)
 lend_first f lot more is writes unlight = subst LoadsFirst (sym (given_is f lot more is unlight)) (carried_first f lot (give_step lot.id ∷ more) writes refl)
 
-pub lend_silent : (f : Fixed) (lot : Lot) (more : List Step) (b : ℕ) → IsPlanned f lot → WritesBack f.effects → f.light ≡ false → list_any (posts b) more ≡ false → list_any (posts b) (lend_steps f lot ++ more) ≡ false
+pub lend_silent : (f : DriverConfig) (lot : Lot) (more : List Step) (b : ℕ) → IsPlanned f lot → WritesBack f.effects → f.light ≡ false → list_any (posts b) more ≡ false → list_any (posts b) (lend_steps f lot ++ more) ≡ false
 lend_silent f lot more b is writes unlight silent = ap (list_any (posts b)) (given_is f lot more is unlight) ∙ carried_silent f lot (give_step lot.id ∷ more) b writes silent

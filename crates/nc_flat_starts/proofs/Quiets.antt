@@ -26,7 +26,7 @@ use Rattle.nc_rules.specs.Lots.{lot_id, is_lot, map_id, owner_of_side}
 use Rattle.nc_rules.specs.Machine.{MachineState, hart_of, queue_of}
 use Rattle.nc_rules.specs.Turns.{is_area, last_owner, of_those, to_end}
 use Rattle.nc_rules.specs.Driver.{DriverState, Went, over, with_lots}
-use Rattle.nc_rules.specs.Watched.{owner_of}
+use Rattle.nc_rules.specs.EventTouches.{owner_of}
 use Rattle.nc_rules.specs.World.{WorldState, driver_of, owners_moved}
 use Rattle.nc_scripts.proofs.Lists.{all_to}
 use Rattle.nc_scripts.proofs.LotLaws.{its_name}

@@ -26,7 +26,7 @@ use Rattle.nc_rules.specs.declared.lots.LotId.{LotId}
 use Rattle.nc_rules.specs.declared.lots.Side.TheVariants as sides
 use Rattle.nc_rules.specs.declared.steps.Step.{Step}
 use Rattle.nc_rules.specs.declared.steps.Turn.{Turn}
-use Rattle.nc_rules.specs.Lots.{Fixed, parts}
+use Rattle.nc_rules.specs.Lots.{DriverConfig, parts}
 use Rattle.nc_rules.specs.Plans.{hart_step, op_steps, turning, ending, return_steps}
 use Rattle.nc_rules.specs.Turns.{lots_after}
 use Rattle.nc_scripts.proofs.Lists.{all_in}
@@ -65,18 +65,18 @@ turn_comes n id turn o more back =
 -- ---- what is left behind it
 
 -- it goes from the lots behind the turn on, and does not end the lot again
-pub record IsBehind (f : Fixed) (id : LotId) (lots : List Lot) (more : List Step) : Type 0 where
+pub record IsBehind (f : DriverConfig) (id : LotId) (lots : List Lot) (more : List Step) : Type 0 where
   pub goes : PlanGoes f lots more
   pub first : LoadsFirst more
   pub unended : list_any (ends id) more ≡ false
 
 -- nothing, where all lots are still then
-still_behind : (f : Fixed) (id : LotId) (lots : List Lot) → All (IsStill f) lots → IsBehind f id lots []
+still_behind : (f : DriverConfig) (id : LotId) (lots : List Lot) → All (IsStill f) lots → IsBehind f id lots []
 still_behind f id lots still = record { goes = still; first = refl; unended = refl }
 
 -- ---- nothing comes out of a slot
 
-none_bounces : (f : Fixed) (es : List Entry) → ((i : ℕ) (e : Entry) → slice_get es i ≡ Some e → 0 < e.span.len) → moves_of (out_cut f) es ≡ [] → All (λ e. e.bounced ≡ false) es
+none_bounces : (f : DriverConfig) (es : List Entry) → ((i : ℕ) (e : Entry) → slice_get es i ≡ Some e → 0 < e.span.len) → moves_of (out_cut f) es ≡ [] → All (λ e. e.bounced ≡ false) es
 none_bounces f es some none =
     all_in (λ (e : Entry). e.bounced ≡ false) es
     (λ e here.
@@ -86,11 +86,11 @@ none_bounces f es some none =
     let m = move_at (out_cut f) es at.0 e e.span.at (out_even f) at.1 bounced (covers-from e.span e.span.at (omega arith) (omega (arith, some at.0 e at.1))) in
     subst (λ (ms : List Move). In m.0 ms) none m.1))
 
-straight_so : (f : Fixed) (lot : Lot) (t : Bool) → comes_back lot.list.dir ≡ t → IsPlanned f lot → outs_of f t lot.list.entries ≡ [] → comes_back lot.list.dir ≡ true → All (λ e. e.bounced ≡ false) lot.list.entries
+straight_so : (f : DriverConfig) (lot : Lot) (t : Bool) → comes_back lot.list.dir ≡ t → IsPlanned f lot → outs_of f t lot.list.entries ≡ [] → comes_back lot.list.dir ≡ true → All (λ e. e.bounced ≡ false) lot.list.entries
 straight_so f lot true back is none comes = none_bounces f lot.list.entries is.some none
 straight_so f lot false back is none comes = absurd (both_ways (comes_back lot.list.dir) back comes)
 
-direct_end : (f : Fixed) (lots : List Lot) (lot : Lot) (turn : Turn) (more : List Step) → IsInHand f lots lot false sides.Returning → IsBack lot.id turn → (comes_back lot.list.dir ≡ true → All (λ e. e.bounced ≡ false) lot.list.entries) → IsBehind f lot.id (lots_after turn lots) more
+direct_end : (f : DriverConfig) (lots : List Lot) (lot : Lot) (turn : Turn) (more : List Step) → IsInHand f lots lot false sides.Returning → IsBack lot.id turn → (comes_back lot.list.dir ≡ true → All (λ e. e.bounced ≡ false) lot.list.entries) → IsBehind f lot.id (lots_after turn lots) more
     → PlanGoes f lots (turning turn (hart_step full) ∷ more)
 direct_end f lots lot turn more hand back straight behind = (Ends (record { lot = lot; hand = hand; turn = turn; is_back = back; step = refl; next = behind.first; straight = straight }), behind.goes)
 
@@ -110,7 +110,7 @@ last_comes cut n id turn m more back =
     (or_left (ends id (turning turn (hart_step (hart.Store (stored cut m) Pma Last)))) (list_any (ends id) more) (turn_ends id turn (hart.Store (stored cut m) Pma Last) more back))
     ∙ turn_comes n id turn (hart.Store (stored cut m) Pma Last) more back
 
-last_goes : (f : Fixed) (lots : List Lot) (lot : Lot) (turn : Turn) (m : Move) (more : List Step) → IsInHand f lots lot false sides.Returning → comes_back lot.list.dir ≡ true → IsBack lot.id turn → IsBehind f lot.id (lots_after turn lots) more → IsMove (out_cut f) lot.list.entries m
+last_goes : (f : DriverConfig) (lots : List Lot) (lot : Lot) (turn : Turn) (m : Move) (more : List Step) → IsInHand f lots lot false sides.Returning → comes_back lot.list.dir ≡ true → IsBack lot.id turn → IsBehind f lot.id (lots_after turn lots) more → IsMove (out_cut f) lot.list.entries m
     → PlanGoes f lots (last_copy (out_cut f) turn m ++ more)
 last_goes f lots lot turn m more hand comes back behind is =
     let from = device_of f m.entry in
@@ -202,7 +202,7 @@ outs_steps cut turn init m before =
     shift (o ∷ a) b load store = ap (λ (k : List HartOp). o ∷ k) (shift a b load store)
 
 -- what comes out, behind a fence that makes no turn
-outs_go : (f : Fixed) (lots : List Lot) (lot : Lot) (turn : Turn) (init : List Move) (m : Move) (more : List Step) → IsInHand f lots lot false sides.Returning → IsPlanned f lot → comes_back lot.list.dir ≡ true → IsBack lot.id turn → moves_of (out_cut f) lot.list.entries ≡ init ++ m ∷ []
+outs_go : (f : DriverConfig) (lots : List Lot) (lot : Lot) (turn : Turn) (init : List Move) (m : Move) (more : List Step) → IsInHand f lots lot false sides.Returning → IsPlanned f lot → comes_back lot.list.dir ≡ true → IsBack lot.id turn → moves_of (out_cut f) lot.list.entries ≡ init ++ m ∷ []
     → IsBehind f lot.id (lots_after turn lots) more → PlanGoes f lots (hart_step full ∷ (op_steps (flat_map (ops_of (out_cut f)) init) ++ (last_copy (out_cut f) turn m ++ more)))
 outs_go f lots lot turn init m more hand is comes back ms behind =
     let es = lot.list.entries in
@@ -244,7 +244,7 @@ outs_go f lots lot turn init m more hand is comes back ms behind =
 fence_comes : (n : MapId) (id : LotId) (rest : List Step) → list_any (ends id) rest ≡ true → list_any is_full (coming n id (hart_step full ∷ rest)) ≡ true
 fence_comes n id rest ended = ap (list_any is_full) (next n id (hart_step full) rest refl ended)
 
-no_out : (f : Fixed) (es : List Entry) (t : Bool) (init : List Move) (m : Move) → outs_of f t es ≡ init ++ m ∷ [] → (t ≡ true) × (moves_of (out_cut f) es ≡ init ++ m ∷ [])
+no_out : (f : DriverConfig) (es : List Entry) (t : Bool) (init : List Move) (m : Move) → outs_of f t es ≡ init ++ m ∷ [] → (t ≡ true) × (moves_of (out_cut f) es ≡ init ++ m ∷ [])
 no_out f es true init m is = (refl, is)
 no_out f es false init m is = absurd (never init m is)
   where
@@ -253,16 +253,16 @@ no_out f es false init m is = absurd (never init m is)
     never (k ∷ init) m e = absurd cc
 
 -- the blocks that are dropped
-abbrev pub drops_of : Fixed → Lot → List HartOp
+abbrev pub drops_of : DriverConfig → Lot → List HartOp
 drops_of f lot = flat_map (dropped f.effects f.size) (parts f lot)
 
 -- the plan: the fence makes the turn, or the last store of what comes out
-pub data IsReturn (f : Fixed) (lot : Lot) (turn : Turn) : Type 0 where
+pub data IsReturn (f : DriverConfig) (lot : Lot) (turn : Turn) : Type 0 where
   Straight : ending turn (return_steps f lot) ≡ op_steps (drops_of f lot) ++ turning turn (hart_step full) ∷ [] → (comes_back lot.list.dir ≡ true → All (λ e. e.bounced ≡ false) lot.list.entries) → IsReturn f lot turn
   CopiedOut : (init : List Move) (m : Move) → comes_back lot.list.dir ≡ true → moves_of (out_cut f) lot.list.entries ≡ init ++ m ∷ []
       → ending turn (return_steps f lot) ≡ op_steps (drops_of f lot) ++ (hart_step full ∷ (op_steps (flat_map (ops_of (out_cut f)) init) ++ last_copy (out_cut f) turn m)) → IsReturn f lot turn
 
-return_by : (f : Fixed) (lot : Lot) (turn : Turn) (ms : List Move) → IsPlanned f lot → outs_of f (comes_back lot.list.dir) lot.list.entries ≡ ms → IsSplit ms → flat_map copied_back (parts f lot) ≡ flat_map (ops_of (out_cut f)) ms → IsReturn f lot turn
+return_by : (f : DriverConfig) (lot : Lot) (turn : Turn) (ms : List Move) → IsPlanned f lot → outs_of f (comes_back lot.list.dir) lot.list.entries ≡ ms → IsSplit ms → flat_map copied_back (parts f lot) ≡ flat_map (ops_of (out_cut f)) ms → IsReturn f lot turn
 unfolding returning
 return_by f lot turn ms is from (NoMove none) outs =
     let ops = drops_of f lot in
@@ -279,13 +279,13 @@ return_by f lot turn ms is from (Before init m sp) outs =
     (ap (λ (k : List HartOp). ending turn (op_steps ((ops ++ full ∷ []) ++ k))) (outs ∙ ap (flat_map (ops_of cut)) sp)
     ∙ outs_steps cut turn init m (ops ++ full ∷ []) ∙ ap (λ (ss : List Step). ss ++ rest) (steps_append ops (full ∷ [])) ∙ append_steps (op_steps ops) (hart_step full ∷ []) rest)
 
-pub return_is : (f : Fixed) (lot : Lot) (turn : Turn) → IsPlanned f lot → IsReturn f lot turn
+pub return_is : (f : DriverConfig) (lot : Lot) (turn : Turn) → IsPlanned f lot → IsReturn f lot turn
 return_is f lot turn is =
     let ms = outs_of f (comes_back lot.list.dir) lot.list.entries in
     return_by f lot turn ms is refl (split ms) (outs_are f lot.list.dir lot.list.entries (comes_back lot.list.dir) refl is.off)
 
 -- what is behind the drops, with more behind it
-pub record ReturnTail (f : Fixed) (lots : List Lot) (lot : Lot) (turn : Turn) (more : List Step) : Type 0 where
+pub record ReturnTail (f : DriverConfig) (lots : List Lot) (lot : Lot) (turn : Turn) (more : List Step) : Type 0 where
   pub tail : List Step
   pub is : ending turn (return_steps f lot) ≡ op_steps (drops_of f lot) ++ tail
   pub goes : PlanGoes f lots (tail ++ more)
@@ -293,7 +293,7 @@ pub record ReturnTail (f : Fixed) (lots : List Lot) (lot : Lot) (turn : Turn) (m
   pub fenced : HasFull lot.id (tail ++ more) true
   pub first : LoadsFirst (tail ++ more)
 
-tail_by : (f : Fixed) (lots : List Lot) (lot : Lot) (turn : Turn) (more : List Step) → IsInHand f lots lot false sides.Returning → IsPlanned f lot → IsBack lot.id turn → IsBehind f lot.id (lots_after turn lots) more → IsReturn f lot turn → ReturnTail f lots lot turn more
+tail_by : (f : DriverConfig) (lots : List Lot) (lot : Lot) (turn : Turn) (more : List Step) → IsInHand f lots lot false sides.Returning → IsPlanned f lot → IsBack lot.id turn → IsBehind f lot.id (lots_after turn lots) more → IsReturn f lot turn → ReturnTail f lots lot turn more
 tail_by f lots lot turn more hand is back behind (Straight whole straight) = record {
   tail = turning turn (hart_step full) ∷ [];
   is = whole;
@@ -317,12 +317,12 @@ tail_by f lots lot turn more hand is back behind (CopiedOut init m comes ms whol
       first = refl;
     }
 
-pub tail_so : (f : Fixed) (lots : List Lot) (lot : Lot) (turn : Turn) (more : List Step) → IsInHand f lots lot false sides.Returning → IsPlanned f lot → IsBack lot.id turn → IsBehind f lot.id (lots_after turn lots) more → ReturnTail f lots lot turn more
+pub tail_so : (f : DriverConfig) (lots : List Lot) (lot : Lot) (turn : Turn) (more : List Step) → IsInHand f lots lot false sides.Returning → IsPlanned f lot → IsBack lot.id turn → IsBehind f lot.id (lots_after turn lots) more → ReturnTail f lots lot turn more
 tail_so f lots lot turn more hand is back behind = tail_by f lots lot turn more hand is back behind (return_is f lot turn is)
 
 -- ---- what is known of the plan beside
 
-plan_by : (f : Fixed) (lot : Lot) (turn : Turn) → All (IsDropping f lot) (drops_of f lot) → IsBack lot.id turn → IsReturn f lot turn → IsPlan lot.id (ending turn (return_steps f lot))
+plan_by : (f : DriverConfig) (lot : Lot) (turn : Turn) → All (IsDropping f lot) (drops_of f lot) → IsBack lot.id turn → IsReturn f lot turn → IsPlan lot.id (ending turn (return_steps f lot))
 plan_by f lot turn all back (Straight whole straight) =
     let ops = drops_of f lot in
     let end = turning turn (hart_step full) ∷ [] in
@@ -344,16 +344,16 @@ plan_by f lot turn all back (CopiedOut init m comes ms whole) =
       first = drops_first f lot ops (hart_step full ∷ rest) all refl;
     })
 
-pub return_plan : (f : Fixed) (lot : Lot) (turn : Turn) → IsPlanned f lot → DropsBlocks f.effects → IsBack lot.id turn → IsPlan lot.id (ending turn (return_steps f lot))
+pub return_plan : (f : DriverConfig) (lot : Lot) (turn : Turn) → IsPlanned f lot → DropsBlocks f.effects → IsBack lot.id turn → IsPlan lot.id (ending turn (return_steps f lot))
 return_plan f lot turn is drops back = plan_by f lot turn (dropped_are f lot is.size drops) back (return_is f lot turn is)
 
 -- ---- the whole
 
-pub record Returns (f : Fixed) (lots : List Lot) (lot : Lot) (steps : List Step) : Type 0 where
+pub record Returns (f : DriverConfig) (lots : List Lot) (lot : Lot) (steps : List Step) : Type 0 where
   pub goes : PlanGoes f lots steps
   pub plan : IsPlan lot.id steps
 
-pub return_so : (f : Fixed) (lots : List Lot) (lot : Lot) (turn : Turn) → IsInHand f lots lot false sides.Returning → Others (IsStill f) lot.id lots → IsPlanned f lot → DropsBlocks f.effects → IsBack lot.id turn → IsSingly lot.id turn lots → Returns f lots lot (ending turn (return_steps f lot))
+pub return_so : (f : DriverConfig) (lots : List Lot) (lot : Lot) (turn : Turn) → IsInHand f lots lot false sides.Returning → Others (IsStill f) lot.id lots → IsPlanned f lot → DropsBlocks f.effects → IsBack lot.id turn → IsSingly lot.id turn lots → Returns f lots lot (ending turn (return_steps f lot))
 return_so f lots lot turn hand others is drops back single =
     let t = tail_so f lots lot turn [] hand is back (still_behind f lot.id (lots_after turn lots) (back_still f lot.id turn lots back single others)) in
     let whole : op_steps (drops_of f lot) ++ (t.tail ++ []) ≡ ending turn (return_steps f lot) = ap (λ (ss : List Step). op_steps (drops_of f lot) ++ ss) (append-nil t.tail) ∙ sym t.is in

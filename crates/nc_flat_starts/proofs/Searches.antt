@@ -21,7 +21,7 @@ use Rattle.nc_rules.specs.declared.steps.Phase.{Phase}
 use Rattle.nc_rules.specs.declared.steps.Phase.TheVariants.{Steps, Search, Work}
 use Rattle.nc_rules.specs.declared.steps.Step.{Step}
 use Rattle.nc_rules.specs.declared.lots.Kind.TheVariants as kinds
-use Rattle.nc_rules.specs.Lots.{Fixed, is_wanted, same_kind, lot_waits, some_lot_waits, with_slot, slot_given}
+use Rattle.nc_rules.specs.Lots.{DriverConfig, is_wanted, same_kind, lot_waits, some_lot_waits, with_slot, slot_given}
 use Rattle.nc_rules.specs.Turns.{is_area}
 use Rattle.nc_rules.specs.Operations.{has_start, step_at}
 use Rattle.nc_rules.specs.Driver.{DriverState, Went, in_hand, next_of, next_of_op, next_in, next_act, next_rest, next_step, searched, searching, stays, searches, give_up, told, told_of, told_in, told_word}
@@ -128,13 +128,13 @@ given_lent k (lot ∷ lots) other unlent here lends =
       ]
     ]
 
-still_with : (f : Fixed) (k : ℕ) (lot : Lot) → IsStill f lot → IsStill f (with_slot k lot)
+still_with : (f : DriverConfig) (k : ℕ) (lot : Lot) → IsStill f lot → IsStill f (with_slot k lot)
 still_with f k lot (StillDevice is) = StillDevice is
 still_with f k lot (StillSynced is kind) = StillSynced is kind
 still_with f k lot (StillOwn is kind) = StillOwn is kind
 still_with f k lot (StillSent is light) = StillSent is light
 
-still_given : (f : Fixed) (o : Option Op) (k : ℕ) (lot : Lot) → IsStillOrMade f o lot → IsStillOrMade f o (with_slot k lot)
+still_given : (f : DriverConfig) (o : Option Op) (k : ℕ) (lot : Lot) → IsStillOrMade f o lot → IsStillOrMade f o (with_slot k lot)
 still_given f o k lot (inl still) = inl (still_with f k lot still)
 still_given f None k lot (inr is) = inr is
 still_given f (Some o) k lot (inr is) = inr is
@@ -192,7 +192,7 @@ pub record IsSearch (sc : Scenario) (f : List ℕ) (w : WorldState) (h : HartNo)
   pub unlent : WaitsUnlent (driver_of w h.0).lots
   pub waits : some_lot_waits (driver_of w h.0).lots ≡ true
 
-or_wanted : (f : Fixed) (o : Option Op) (lot : Lot) → IsStillOrMade f o lot → IsStillOrWanted f lot
+or_wanted : (f : DriverConfig) (o : Option Op) (lot : Lot) → IsStillOrMade f o lot → IsStillOrWanted f lot
 or_wanted f o lot (inl still) = inl still
 or_wanted f o lot (inr is) = inr is.0
 

@@ -11,7 +11,7 @@ use Rattle.nc_rules.specs.declared.lots.Side.{Side}
 use Rattle.nc_rules.specs.declared.lots.Side.TheVariants as sides
 use Rattle.nc_rules.specs.declared.steps.Turn.{Turn}
 use Rattle.nc_rules.specs.declared.steps.Turn.TheVariants as turns
-use Rattle.nc_rules.specs.Lots.{Fixed, is_lot}
+use Rattle.nc_rules.specs.Lots.{DriverConfig, is_lot}
 use Rattle.nc_rules.specs.Turns.{is_area, with_side, set_side, lots_after}
 use Rattle.nc_scripts.specs.Drivers.{AreApart}
 use Rattle.nc_scripts.proofs.LotLaws.{named_so, its_name}
@@ -79,16 +79,16 @@ set_others P side id (x ∷ lots) all =
     All-cons Q (with_side side id x) (set_side side id lots) now (set_others P side id lots (All-tail Q x lots all))
 
 -- the turn that opens leaves the lot in hand
-pub hand_beside : (f : Fixed) (side : Side) (area : Bool) (lots : List Lot) (lot : Lot) → In lot lots → is_area lot.kind ≡ area → Others (IsBeside f (turned_lot side lot)) lot.id lots → IsInHand f (set_side side lot.id lots) (turned_lot side lot) area side
+pub hand_beside : (f : DriverConfig) (side : Side) (area : Bool) (lots : List Lot) (lot : Lot) → In lot lots → is_area lot.kind ≡ area → Others (IsBeside f (turned_lot side lot)) lot.id lots → IsInHand f (set_side side lot.id lots) (turned_lot side lot) area side
 hand_beside f side area lots lot here is others = record { here = set_here side lots lot here; area_is = is; side_is = refl; others = set_others (IsBeside f (turned_lot side lot)) side lot.id lots others }
 
-pub hand_set : (f : Fixed) (side : Side) (area : Bool) (lots : List Lot) (lot : Lot) → In lot lots → is_area lot.kind ≡ area → Others (IsStill f) lot.id lots → IsInHand f (set_side side lot.id lots) (turned_lot side lot) area side
+pub hand_set : (f : DriverConfig) (side : Side) (area : Bool) (lots : List Lot) (lot : Lot) → In lot lots → is_area lot.kind ≡ area → Others (IsStill f) lot.id lots → IsInHand f (set_side side lot.id lots) (turned_lot side lot) area side
 hand_set f side area lots lot here is others =
     hand_beside f side area lots lot here is
     (all_to (λ (other : Lot). is_lot lot.id other ≡ false → IsStill f other) (λ (other : Lot). is_lot lot.id other ≡ false → IsBeside f (turned_lot side lot) other) lots others (λ other still off. inl (still off)))
 
 -- a side that is still leaves them all still
-pub set_still : (f : Fixed) (side : Side) (id : LotId) (lots : List Lot) → ((lot : Lot) → In lot lots → is_lot id lot ≡ true → IsStill f (turned_lot side lot)) → Others (IsStill f) id lots → All (IsStill f) (set_side side id lots)
+pub set_still : (f : DriverConfig) (side : Side) (id : LotId) (lots : List Lot) → ((lot : Lot) → In lot lots → is_lot id lot ≡ true → IsStill f (turned_lot side lot)) → Others (IsStill f) id lots → All (IsStill f) (set_side side id lots)
 set_still f side id [] now all = All-nil (IsStill f)
 set_still f side id (x ∷ lots) now all =
     let P : Lot → Type 0 = λ other. is_lot id other ≡ false → IsStill f other in
@@ -120,14 +120,14 @@ without_all P id (x ∷ lots) all =
 
 -- ---- the turns that leave all still
 
-pub given_still : (f : Fixed) (id : LotId) (lots : List Lot) → Others (IsStill f) id lots → All (IsStill f) (lots_after (turns.Give id) lots)
+pub given_still : (f : DriverConfig) (id : LotId) (lots : List Lot) → Others (IsStill f) id lots → All (IsStill f) (lots_after (turns.Give id) lots)
 given_still f id lots others = set_still f sides.Device id lots (λ lot there is. StillDevice refl) others
 
 -- with light fences one of which the token is queued is still
 abbrev pub NamesLent : LotId → List Lot → Type 0
 NamesLent id lots = (lot : Lot) → In lot lots → is_lot id lot ≡ true → lot.side ≡ sides.Lending
 
-pub sent_still : (f : Fixed) (id : LotId) (lots : List Lot) → f.light ≡ true → NamesLent id lots → Others (IsStill f) id lots → All (IsStill f) lots
+pub sent_still : (f : DriverConfig) (id : LotId) (lots : List Lot) → f.light ≡ true → NamesLent id lots → Others (IsStill f) id lots → All (IsStill f) lots
 sent_still f id lots light named others =
     all_in (IsStill f) lots
     (λ lot there. elim (cases_Bool (is_lot id lot)) [
@@ -139,7 +139,7 @@ sent_still f id lots light named others =
 abbrev pub IsSingly : LotId → Turn → List Lot → Type 0
 IsSingly id turn lots = turn ≡ turns.Sync id → (lot : Lot) → In lot lots → is_lot id lot ≡ true → lot.kind ≡ Single
 
-pub back_still : (f : Fixed) (id : LotId) (turn : Turn) (lots : List Lot) → IsBack id turn → IsSingly id turn lots → Others (IsStill f) id lots → All (IsStill f) (lots_after turn lots)
+pub back_still : (f : DriverConfig) (id : LotId) (turn : Turn) (lots : List Lot) → IsBack id turn → IsSingly id turn lots → Others (IsStill f) id lots → All (IsStill f) (lots_after turn lots)
 back_still f id turn lots (inl is) single others = subst (λ (t : Turn). All (IsStill f) (lots_after t lots)) (sym is) (set_still f sides.Synced id lots (λ lot there named. StillSynced refl (single is lot there named)) others)
 back_still f id turn lots (inr is) single others = subst (λ (t : Turn). All (IsStill f) (lots_after t lots)) (sym is) (without_all (IsStill f) id lots others)
 
@@ -147,9 +147,9 @@ back_still f id turn lots (inr is) single others = subst (λ (t : Turn). All (Is
 abbrev pub NamesArea : LotId → List Lot → Type 0
 NamesArea id lots = (lot : Lot) → In lot lots → is_lot id lot ≡ true → lot.kind ≡ Area
 
-pub settled_still : (f : Fixed) (id : LotId) (lots : List Lot) → NamesArea id lots → Others (IsStill f) id lots → All (IsStill f) (lots_after (turns.Settle id) lots)
+pub settled_still : (f : DriverConfig) (id : LotId) (lots : List Lot) → NamesArea id lots → Others (IsStill f) id lots → All (IsStill f) (lots_after (turns.Settle id) lots)
 settled_still f id lots area others = set_still f sides.Own id lots (λ lot there named. StillOwn refl (area lot there named)) others
 
-pub area_still : (f : Fixed) (id : LotId) (turn : Turn) (lots : List Lot) → IsAreaBack id turn → NamesArea id lots → Others (IsStill f) id lots → All (IsStill f) (lots_after turn lots)
+pub area_still : (f : DriverConfig) (id : LotId) (turn : Turn) (lots : List Lot) → IsAreaBack id turn → NamesArea id lots → Others (IsStill f) id lots → All (IsStill f) (lots_after turn lots)
 area_still f id turn lots (inl is) area others = subst (λ (t : Turn). All (IsStill f) (lots_after t lots)) (sym is) (settled_still f id lots area others)
 area_still f id turn lots (inr is) area others = subst (λ (t : Turn). All (IsStill f) (lots_after t lots)) (sym is) (without_all (IsStill f) id lots others)

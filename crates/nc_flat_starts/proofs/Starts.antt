@@ -21,13 +21,13 @@ use Rattle.nc_rules.specs.declared.steps.Phase.TheVariants.{Steps}
 use Rattle.nc_rules.specs.declared.steps.Step.{Step}
 use Rattle.nc_rules.specs.declared.steps.Turn.{Turn}
 use Rattle.nc_rules.specs.declared.steps.Turn.TheVariants as turns
-use Rattle.nc_rules.specs.Lots.{Fixed, lot_named, is_lot, is_named, is_labelled, is_wanted, same_kind, lot_waits, some_lot_waits}
+use Rattle.nc_rules.specs.Lots.{DriverConfig, lot_named, is_lot, is_named, is_labelled, is_wanted, same_kind, lot_waits, some_lot_waits}
 use Rattle.nc_rules.specs.Turns.{is_area}
 use Rattle.nc_rules.specs.Plans.{lend_steps, return_steps, ending}
 use Rattle.nc_rules.specs.Machine.{queue_of}
 use Rattle.nc_rules.specs.Operations.{opening, plan_of, waited_label}
 use Rattle.nc_rules.specs.Driver.{DriverState, Went, in_hand, stays, searches, with_lots, opened, placed}
-use Rattle.nc_rules.specs.Watched.{owner_of}
+use Rattle.nc_rules.specs.EventTouches.{owner_of}
 use Rattle.nc_rules.specs.World.{WorldState, driver_of}
 use Rattle.nc_scripts.specs.Drivers.{IsSettled, IsPhase}
 use Rattle.nc_scripts.proofs.Lists.{all_in, all_to, found}
@@ -101,7 +101,7 @@ at_steps sc f w h o n covered flat lt out hand lends phase =
     }
 
 -- the lots that it has
-pub as_wanted : (f : Fixed) (lots : List Lot) → All (IsStill f) lots → All (IsStillOrWanted f) lots
+pub as_wanted : (f : DriverConfig) (lots : List Lot) → All (IsStill f) lots → All (IsStillOrWanted f) lots
 as_wanted f lots all = all_to (IsStill f) (IsStillOrWanted f) lots all (λ lot is. inl is)
 
 pub here_call : (sc : Scenario) (f : List ℕ) (w : WorldState) (h : HartNo) (o : Op) → IsStart sc f w h o → is_copy o ≡ false → IsCall sc f w h o (driver_of w h.0).lots

@@ -16,10 +16,10 @@ use Rattle.nc_scen.specs.Regions.{pool_of, slots_of}
 use Rattle.nc_scen.specs.declared.scenario.Scenario.{Scenario}
 use Rattle.nc_sg.specs.declared.list.Entry.{Entry}
 use Rattle.nc_rules.specs.declared.lots.Lot.{Lot}
-use Rattle.nc_rules.specs.Lots.{Fixed}
+use Rattle.nc_rules.specs.Lots.{DriverConfig}
 use Rattle.nc_rules.specs.Machine.{MachineState, hart_of, queue_of}
 use Rattle.nc_rules.specs.Driver.{DriverState, Went}
-use Rattle.nc_rules.specs.Watched.{owner_of}
+use Rattle.nc_rules.specs.EventTouches.{owner_of}
 use Rattle.nc_rules.specs.World.{WorldState, driver_of, hart}
 use Rattle.nc_scripts.proofs.Lists.{all_to}
 use Rattle.nc_rows.specs.Ahead.{is_full}
@@ -43,7 +43,7 @@ pub pool_ram : (sc : Scenario) (f : List ℕ) (w : WorldState) (x : ℕ) → Fla
 pool_ram sc f w x flat over =
     let lt : 0 < length w.machine.harts = omega (arith, flat.world.machine.some) in
     let d = flat.world.holds.each 0 lt in
-    let pool : (driver_of w 0).fixed.pool ≡ pool_of sc = ap (λ (k : Fixed). k.pool) (flat.world.fixed 0 (subst (λ (n : ℕ). 0 < n) flat.world.of_scenario.harts lt)) in
+    let pool : (driver_of w 0).fixed.pool ≡ pool_of sc = ap (λ (k : DriverConfig). k.pool) (flat.world.fixed 0 (subst (λ (n : ℕ). 0 < n) flat.world.of_scenario.harts lt)) in
     let high = covers-high (driver_of w 0).fixed.pool x (subst (λ (s : Span). covers s x ≡ true) (sym pool) over) in
     omega (arith, d.driver.fixed.pool_end, flat.world.of_scenario.ram, high)
 
@@ -134,8 +134,8 @@ pool_slots sc f w x flat over slot =
     let lt : 0 < length w.machine.harts = omega (arith, flat.world.machine.some) in
     let d = flat.world.holds.each 0 lt in
     let same = flat.world.fixed 0 (subst (λ (n : ℕ). 0 < n) flat.world.of_scenario.harts lt) in
-    let pool : (driver_of w 0).fixed.pool ≡ pool_of sc = ap (λ (k : Fixed). k.pool) same in
-    let slots : slots_span (driver_of w 0).fixed ≡ slots_of sc = ap (λ (k : Fixed). slots_span k) same in
+    let pool : (driver_of w 0).fixed.pool ≡ pool_of sc = ap (λ (k : DriverConfig). k.pool) same in
+    let slots : slots_span (driver_of w 0).fixed ≡ slots_of sc = ap (λ (k : DriverConfig). slots_span k) same in
     d.regions.slots_off_pool x (subst (λ (s : Span). covers s x ≡ true) (sym slots) slot) (subst (λ (s : Span). covers s x ≡ true) (sym pool) over)
 
 -- ---- copies of the other harts

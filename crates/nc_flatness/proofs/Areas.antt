@@ -10,9 +10,9 @@ use Rattle.nc_sg.specs.declared.list.Entry.{Entry}
 use Rattle.nc_scen.specs.Regions.{pool_of}
 use Rattle.nc_scen.specs.declared.scenario.Scenario.{Scenario}
 use Rattle.nc_rules.specs.declared.lots.Lot.{Lot}
-use Rattle.nc_rules.specs.Lots.{Fixed}
+use Rattle.nc_rules.specs.Lots.{DriverConfig}
 use Rattle.nc_rules.specs.Turns.{is_area}
-use Rattle.nc_rules.specs.Watched.{owner_of}
+use Rattle.nc_rules.specs.EventTouches.{owner_of}
 use Rattle.nc_rules.specs.World.{WorldState, driver_of}
 use Rattle.nc_holds.specs.Held.{LiesInBuffer, FitsSide, IsEntryOf}
 use Rattle.nc_holds.proofs.ListsA.{all_at, at_get, same_some}
@@ -26,7 +26,7 @@ use Rattle.nc_flatness.proofs.Owned.{fixed_is, IsMapped, of_buffer, loan_mapped}
 -- ---- the pool
 
 pub pool_is : (sc : Scenario) (f : List ℕ) (w : WorldState) (h : ℕ) → Flatness sc f w → h < length w.machine.harts → (driver_of w h).fixed.pool ≡ pool_of sc
-pool_is sc f w h flat lt = ap (λ (k : Fixed). k.pool) (fixed_is sc f w h flat lt)
+pool_is sc f w h flat lt = ap (λ (k : DriverConfig). k.pool) (fixed_is sc f w h flat lt)
 
 -- ---- the places of an entry
 

@@ -18,10 +18,10 @@ use Rattle.nc_rules.specs.declared.lots.Lot.{Lot}
 use Rattle.nc_rules.specs.declared.lots.LotId.{LotId}
 use Rattle.nc_rules.specs.declared.steps.Step.{Step}
 use Rattle.nc_rules.specs.Driver.{DriverState, Went}
-use Rattle.nc_rules.specs.Lots.{Fixed}
+use Rattle.nc_rules.specs.Lots.{DriverConfig}
 use Rattle.nc_rules.specs.Machine.{MachineState, queue_of}
 use Rattle.nc_rules.specs.Refusals.{buffer_of}
-use Rattle.nc_rules.specs.Watched.{owner_of}
+use Rattle.nc_rules.specs.EventTouches.{owner_of}
 use Rattle.nc_rules.specs.World.{WorldState, no_driver, driver_of}
 use Rattle.nc_calls.specs.PlaceLaws.{NotHeld}
 use Rattle.nc_scripts.proofs.Lists.{all_to}
@@ -51,7 +51,7 @@ number_is (s ∷ ss) zero x lt on off = number_by s ss x true on
 number_is (s ∷ ss) (suc b) x lt on off = number_by s ss x false (off zero (omega arith)) ∙ ap suc (number_is ss b x (omega (arith, lt)) on (λ c less. off (suc c) (omega (arith, less))))
 
 -- a byte of buffer b has its number
-pub number_of : (f : Fixed) (b x : ℕ) → AreRegions f → b < length f.buffers → covers (buffer_of f b) x ≡ true → number_in f.buffers x ≡ b
+pub number_of : (f : DriverConfig) (b x : ℕ) → AreRegions f → b < length f.buffers → covers (buffer_of f b) x ≡ true → number_in f.buffers x ≡ b
 number_of f b x regions lt on = number_is f.buffers b x lt on (λ c less. off_by c less (covers (buffer_of f c) x) refl)
   where
     off_by : (c : ℕ) → c < b → (t : Bool) → covers (buffer_of f c) x ≡ t → covers (buffer_of f c) x ≡ false
@@ -87,10 +87,10 @@ fixed_gone w h machine went g lt same = elim (cases_eq g h.0) [
 ]
 
 pub buffer_gone : (w : WorldState) (h : HartNo) (machine : MachineState) (went : Went) → h.0 < length w.drivers → went.driver.fixed ≡ (driver_of w h.0).fixed → (book_of (gone w h machine went)).buffer ≡ (book_of w).buffer
-buffer_gone w h machine went lt same = ap (λ (f : Fixed). number_in f.buffers) (fixed_gone w h machine went 0 lt same)
+buffer_gone w h machine went lt same = ap (λ (f : DriverConfig). number_in f.buffers) (fixed_gone w h machine went 0 lt same)
 
 loan_kept : (d e : DriverState) (n : MapId) → e.fixed ≡ d.fixed → e.lots ≡ d.lots → loan_of e n ≡ loan_of d n
-loan_kept d e n fixed lots = ap (λ (f : Fixed). loan_of (record e { fixed = f }) n) fixed ∙ ap (λ (k : List Lot). loan_of (record e { fixed = d.fixed; lots = k }) n) lots
+loan_kept d e n fixed lots = ap (λ (f : DriverConfig). loan_of (record e { fixed = f }) n) fixed ∙ ap (λ (k : List Lot). loan_of (record e { fixed = d.fixed; lots = k }) n) lots
 
 pub loan_gone : (w : WorldState) (h : HartNo) (machine : MachineState) (went : Went) (n : MapId) → h.0 < length w.drivers → went.driver.fixed ≡ (driver_of w h.0).fixed → went.driver.lots ≡ (driver_of w h.0).lots
     → (book_of (gone w h machine went)).loan n ≡ (book_of w).loan n

@@ -27,7 +27,7 @@ use Rattle.nc_rules.specs.Lots.{is_wanted, is_own, map_id, owner_of_side}
 use Rattle.nc_rules.specs.Machine.{queue_of, channel_of, grantee_of}
 use Rattle.nc_rules.specs.Refusals.{buffer_of, part_of}
 use Rattle.nc_rules.specs.Turns.{is_area}
-use Rattle.nc_rules.specs.Watched.{owner_of}
+use Rattle.nc_rules.specs.EventTouches.{owner_of}
 use Rattle.nc_rules.specs.World.{WorldState, driver_of, hart}
 use Rattle.nc_holds.specs.Held.{IsEntryOf}
 use Rattle.nc_transfers.specs.Bytes.{SameEnds}

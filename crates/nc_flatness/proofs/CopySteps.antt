@@ -30,12 +30,12 @@ use Rattle.nc_rules.specs.declared.steps.Step.{Step}
 use Rattle.nc_rules.specs.declared.steps.Turn.{Turn}
 use Rattle.nc_rules.specs.Copies.{source, target}
 use Rattle.nc_rules.specs.Driver.{DriverState, in_hand, went_to}
-use Rattle.nc_rules.specs.Lots.{Fixed, is_lot, is_wanted}
+use Rattle.nc_rules.specs.Lots.{DriverConfig, is_lot, is_wanted}
 use Rattle.nc_rules.specs.Machine.{queue_of, channel_of, grantee_of}
 use Rattle.nc_rules.specs.Plans.{control_step}
 use Rattle.nc_rules.specs.Refusals.{buffer_of, part_of}
 use Rattle.nc_rules.specs.Turns.{lots_after, lots_after_both}
-use Rattle.nc_rules.specs.Watched.{owner_of}
+use Rattle.nc_rules.specs.EventTouches.{owner_of}
 use Rattle.nc_rules.specs.World.{WorldState, driver_of, hart}
 use Rattle.nc_scripts.specs.Drivers.{is_claim}
 use Rattle.nc_scripts.proofs.LotLaws.{Becomes, Thins, none, keep, drop, thins_all, thinned}
@@ -160,7 +160,7 @@ pub record IsItsPoll (lots : List Lot) (s : Step) (rest : List Step) : Type 0 wh
   pub more : List Step
   pub release : rest ≡ control_step both.chan 0 ∷ more
 
-pub poll_is : (f : Fixed) (lots : List Lot) (s : Step) (rest : List Step) → StepGoes f lots s rest → is_poll s.act ≡ true → IsItsPoll lots s rest
+pub poll_is : (f : DriverConfig) (lots : List Lot) (s : Step) (rest : List Step) → StepGoes f lots s rest → is_poll s.act ≡ true → IsItsPoll lots s rest
 poll_is f lots s rest (Polls is) on =
     record { both = record { chan = is.chan; reads = is.reads; writes = is.writes; source_is = is.source_is; target_is = is.target_is }; more = is.more; release = is.release }
 poll_is f lots s rest (Loads is) on = absurd (no_poll s _ is.step refl on)
@@ -188,7 +188,7 @@ end_from first last lots now id dir chan e =
     let same = x.2 in
     (x.0, record { here = x.1; id_is = sym same.id ∙ e.id_is; kind = sym same.kind ∙ e.kind; dir_is = sym (ap (λ (l : SgView). l.dir) same.list) ∙ e.dir_is; chan_is = sym same.chan ∙ e.chan_is })
 
-pub ends_there : (f : Fixed) (lots : List Lot) (rest : List Step) → PlanGoes f lots rest → polls rest ≡ true → BothAreThere lots
+pub ends_there : (f : DriverConfig) (lots : List Lot) (rest : List Step) → PlanGoes f lots rest → polls rest ≡ true → BothAreThere lots
 ends_there f lots [] goes on = absurd (false≢true on)
 ends_there f lots (s ∷ rest) goes on = elim (cases_Bool (is_poll s.act)) [
   | inl here ↦ (poll_is f lots s rest goes.0 here).both
@@ -210,7 +210,7 @@ append_more : (p q : List QueueEntry) → HasMore q → HasMore (p ++ q)
 append_more [] q more = more
 append_more (e ∷ p) q more = record { first = e; others = p ++ q; is = refl }
 
-pub more_registers : (f : Fixed) (lots : List Lot) (rest : List Step) → PlanGoes f lots rest → polls rest ≡ true → HasMore (registers_coming rest)
+pub more_registers : (f : DriverConfig) (lots : List Lot) (rest : List Step) → PlanGoes f lots rest → polls rest ≡ true → HasMore (registers_coming rest)
 more_registers f lots [] goes on = absurd (false≢true on)
 more_registers f lots (s ∷ rest) goes on =
     let later : HasMore (registers_coming rest) = elim (cases_Bool (is_poll s.act)) [
@@ -266,7 +266,7 @@ under_step sc f g w v h s rest k from to e flat c now fixed lots left on u =
     let chan = c.channels k.chan.0 u.granted in
     let seen : (id : LotId) (dir : Dir) (range device : Span) → IsEndAt d.fixed ls id dir k.chan range device → IsEndAt (driver_of v h).fixed (driver_of v h).lots id dir k.chan range device =
     λ id dir range device is.
-    subst (λ (j : DriverState). IsEndAt j.fixed j.lots id dir k.chan range device) (sym now) (subst (λ (x : Fixed). IsEndAt x e.lots id dir k.chan range device) (sym fixed) (subst (λ (xs : List Lot). IsEndAt d.fixed xs id dir k.chan range device) (sym lots) is)) in
+    subst (λ (j : DriverState). IsEndAt j.fixed j.lots id dir k.chan range device) (sym now) (subst (λ (x : DriverConfig). IsEndAt x e.lots id dir k.chan range device) (sym fixed) (subst (λ (xs : List Lot). IsEndAt d.fixed xs id dir k.chan range device) (sym lots) is)) in
     let coming : registers_coming rest ≡ registers_coming d.rest = sym (ap registers_coming c.rest_is ∙ coming_by s rest ∙ ap (λ (q : List QueueEntry). q ++ registers_coming rest) its.registers) in
     record {
       ends = u.ends;

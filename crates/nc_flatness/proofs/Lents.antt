@@ -24,7 +24,7 @@ use Rattle.nc_rules.specs.declared.steps.Turn.{Turn}
 use Rattle.nc_rules.specs.declared.steps.Turn.TheVariants as turns
 use Rattle.nc_rules.specs.Driver.{DriverState, in_hand, with_lots}
 use Rattle.nc_rules.specs.Copies.{source, target}
-use Rattle.nc_rules.specs.Lots.{Fixed, is_lot}
+use Rattle.nc_rules.specs.Lots.{DriverConfig, is_lot}
 use Rattle.nc_rules.specs.Turns.{is_area, with_side, set_side, lots_after}
 use Rattle.nc_scripts.proofs.Lists.{all_filtered}
 use Rattle.nc_scripts.proofs.LotLaws.{its_name}
@@ -47,7 +47,7 @@ all_sided P Q side id (lot ∷ lots) all hit miss =
     one false is p = subst Q (sym (cond-false (is_lot id lot) (record lot { side = side }) lot is)) (miss lot p is)
 
 -- each lot stays a mapping
-pub sides_mapping : (f : Fixed) (side : Side) (id : LotId) (lots : List Lot) → All IsMapping lots → All IsMapping (set_side side id lots)
+pub sides_mapping : (f : DriverConfig) (side : Side) (id : LotId) (lots : List Lot) → All IsMapping lots → All IsMapping (set_side side id lots)
 sides_mapping f side id lots all = all_sided IsMapping IsMapping side id lots all (λ lot is hit. record { kind = is.kind }) (λ lot is miss. is)
 
 -- ---- the channel has it
@@ -55,10 +55,10 @@ sides_mapping f side id lots all = all_sided IsMapping IsMapping side id lots al
 abbrev pub lent : LotId → List Lot → List Lot
 lent id lots = set_side sides.Device id lots
 
-still_lent : (f : Fixed) (id : LotId) (lots : List Lot) → All (IsStill f) lots → All (IsStill f) (lent id lots)
+still_lent : (f : DriverConfig) (id : LotId) (lots : List Lot) → All (IsStill f) lots → All (IsStill f) (lent id lots)
 still_lent f id lots all = all_sided (IsStill f) (IsStill f) sides.Device id lots all (λ lot is hit. StillDevice refl) (λ lot is miss. is)
 
-hand_lent : (f : Fixed) (lots : List Lot) (lot : Lot) (area : Bool) (side : Side) (id : LotId) → IsInHand f lots lot area side → is_lot id lot ≡ false → IsInHand f (lent id lots) lot area side
+hand_lent : (f : DriverConfig) (lots : List Lot) (lot : Lot) (area : Bool) (side : Side) (id : LotId) → IsInHand f lots lot area side → is_lot id lot ≡ false → IsInHand f (lent id lots) lot area side
 hand_lent f lots lot area side id hand off = record {
   here = kept_in sides.Device id lots lot off hand.here;
   area_is = hand.area_is;
@@ -69,7 +69,7 @@ hand_lent f lots lot area side id hand off = record {
 entry_lent : (lots : List Lot) (lot : Lot) (i : ℕ) (e : Range) (id : LotId) → IsEntryOf lots lot i e → is_lot id lot ≡ false → IsEntryOf (lent id lots) lot i e
 entry_lent lots lot i e id here off = record { lot_in = kept_in sides.Device id lots lot off here.lot_in; entry = here.entry }
 
-way_lent : (f : Fixed) (lots : List Lot) (lot : Lot) (e : Range) (rest : List Step) (from to : Span) (id : LotId) → GoesIn f lots lot e rest from to ⊎ ComesOut f lots lot e rest from to → is_lot id lot ≡ false
+way_lent : (f : DriverConfig) (lots : List Lot) (lot : Lot) (e : Range) (rest : List Step) (from to : Span) (id : LotId) → GoesIn f lots lot e rest from to ⊎ ComesOut f lots lot e rest from to → is_lot id lot ≡ false
     → GoesIn f (lent id lots) lot e rest from to ⊎ ComesOut f (lent id lots) lot e rest from to
 way_lent f lots lot e rest from to id (inl goes) off = inl (record { hand = hand_lent f lots lot false sides.Lending id goes.hand off; later = goes.later; from_is = goes.from_is; to_is = goes.to_is })
 way_lent f lots lot e rest from to id (inr comes) off =
@@ -175,14 +175,14 @@ IsMoving steps lot = ((lot.side ≡ sides.Lending) × HasEnd lot.id steps) ⊎ (
 abbrev IsApart : LotId → List Lot → List Step → Type 0
 IsApart id lots steps = (lot : Lot) → In lot lots → IsMoving steps lot → is_lot id lot ≡ false
 
-copied_apart : (f : Fixed) (lots : List Lot) (s : Step) (rest : List Step) (from to : Span) (id : LotId) → (c : IsCopied f lots rest from to) → IsApart id lots (s ∷ rest) → is_lot id c.lot ≡ false
+copied_apart : (f : DriverConfig) (lots : List Lot) (s : Step) (rest : List Step) (from to : Span) (id : LotId) → (c : IsCopied f lots rest from to) → IsApart id lots (s ∷ rest) → is_lot id c.lot ≡ false
 copied_apart f lots s rest from to id c apart = elim c.way [
   | inl goes ↦ apart c.lot c.here.lot_in (inl (goes.hand.side_is, behind c.lot.id s rest goes.later))
   | inr comes ↦ apart c.lot c.here.lot_in (inr comes.hand.side_is)
 ]
 
 -- a drop and an end of another lot
-drop_lent : (f : Fixed) (lots : List Lot) (s : Step) (rest : List Step) (id : LotId) → (is : IsDrop f lots s rest) → is_lot id is.lot ≡ false → IsDrop f (lent id lots) s rest
+drop_lent : (f : DriverConfig) (lots : List Lot) (s : Step) (rest : List Step) (id : LotId) → (is : IsDrop f lots s rest) → is_lot id is.lot ≡ false → IsDrop f (lent id lots) s rest
 drop_lent f lots s rest id is off = record {
   lot = is.lot;
   hand = hand_lent f lots is.lot false sides.Returning id is.hand off;
@@ -201,7 +201,7 @@ drop_lent f lots s rest id is off = record {
   next = is.next;
 }
 
-end_lent : (f : Fixed) (lots : List Lot) (s : Step) (rest : List Step) (id : LotId) → (is : IsEnd f lots s rest) → is_lot id is.lot ≡ false → IsEnd f (lent id lots) s rest
+end_lent : (f : DriverConfig) (lots : List Lot) (s : Step) (rest : List Step) (id : LotId) → (is : IsEnd f lots s rest) → is_lot id is.lot ≡ false → IsEnd f (lent id lots) s rest
 end_lent f lots s rest id is off = record { lot = is.lot; hand = hand_lent f lots is.lot false sides.Returning id is.hand off; turn = is.turn; is_back = is.is_back; step = is.step; next = is.next; straight = is.straight }
 
 -- an end of a copy stays one
@@ -239,13 +239,13 @@ unnamed_off id lot off = false_from_ne_true (same_lot id lot.id) (λ same. false
 taken_lent : (lots : List Lot) (lot : Lot) (s : Step) (id : LotId) → is_lot id lot ≡ false → IsTaken lots lot s → IsTaken (lent id lots) lot s
 taken_lent lots lot s id off is = record { here = kept_in sides.Device id lots lot off is.here; kind = is.kind; side = is.side; first = is.first }
 
-drop_over : (f : Fixed) (ls ks : List Lot) (s : Step) (rest : List Step) → ls ≡ ks → (is : IsDrop f ls s rest) → (to : IsDrop f ks s rest) × (to.lot ≡ is.lot)
+drop_over : (f : DriverConfig) (ls ks : List Lot) (s : Step) (rest : List Step) → ls ≡ ks → (is : IsDrop f ls s rest) → (to : IsDrop f ks s rest) × (to.lot ≡ is.lot)
 drop_over f ls ks s rest e is = subst (λ (l : List Lot). (to : IsDrop f l s rest) × (to.lot ≡ is.lot)) e (is, refl)
 
-end_over : (f : Fixed) (ls ks : List Lot) (s : Step) (rest : List Step) → ls ≡ ks → (is : IsEnd f ls s rest) → (to : IsEnd f ks s rest) × (to.lot ≡ is.lot)
+end_over : (f : DriverConfig) (ls ks : List Lot) (s : Step) (rest : List Step) → ls ≡ ks → (is : IsEnd f ls s rest) → (to : IsEnd f ks s rest) × (to.lot ≡ is.lot)
 end_over f ls ks s rest e is = subst (λ (l : List Lot). (to : IsEnd f l s rest) × (to.lot ≡ is.lot)) e (is, refl)
 
-step_lent : (f : Fixed) (lots : List Lot) (s : Step) (rest : List Step) (id : LotId) → StepGoes f lots s rest → AreLending id lots → IsApart id lots (s ∷ rest) → StepGoes f (lent id lots) s rest
+step_lent : (f : DriverConfig) (lots : List Lot) (s : Step) (rest : List Step) (id : LotId) → StepGoes f lots s rest → AreLending id lots → IsApart id lots (s ∷ rest) → StepGoes f (lent id lots) s rest
 unfolding drop_lent end_lent
 step_lent f lots s rest id (Loads is) all apart =
     let c = is.copied in
@@ -387,7 +387,7 @@ step_lent f lots s rest id (TakesSource is) all apart =
     })
 
 -- a first turn is of no lot that is being lent
-first_off : (f : Fixed) (lots : List Lot) (s : Step) (rest : List Step) (id : LotId) → StepGoes f lots s rest → list_any (ends id) (s ∷ rest) ≡ false → turns_lot id s.first ≡ false
+first_off : (f : DriverConfig) (lots : List Lot) (s : Step) (rest : List Step) (id : LotId) → StepGoes f lots s rest → list_any (ends id) (s ∷ rest) ≡ false → turns_lot id s.first ≡ false
 first_off f lots s rest id goes none = false_from_ne_true (turns_lot id s.first) (λ turns. false≢true (sym none ∙ first_ends f lots s rest id goes turns))
 
 -- ---- what is left of a plan
@@ -398,7 +398,7 @@ moves_apart id lots steps none all lot here (inl lends) =
 moves_apart id lots steps none all lot here (inr returns) =
     false_from_ne_true (is_lot id lot) (λ named. let both : sides.Returning ≡ sides.Lending = sym returns ∙ all_at (λ (l : Lot). is_lot id l ≡ true → l.side ≡ sides.Lending) lots lot all here named in absurd (cc))
 
-pub plan_lent : (f : Fixed) (lots : List Lot) (rest : List Step) (id : LotId) → PlanGoes f lots rest → list_any (ends id) rest ≡ false → AreLending id lots → PlanGoes f (lent id lots) rest
+pub plan_lent : (f : DriverConfig) (lots : List Lot) (rest : List Step) (id : LotId) → PlanGoes f lots rest → list_any (ends id) rest ≡ false → AreLending id lots → PlanGoes f (lent id lots) rest
 plan_lent f lots [] id goes none all = still_lent f id lots goes
 plan_lent f lots (s ∷ rest) id goes none all =
     let off = or_parts (ends id s) (list_any (ends id) rest) none in

@@ -16,7 +16,7 @@ use Rattle.nc_rules.specs.declared.lots.Kind.TheVariants as kinds
 use Rattle.nc_rules.specs.declared.lots.Lot.{Lot}
 use Rattle.nc_rules.specs.declared.lots.LotId.{LotId}
 use Rattle.nc_rules.specs.Driver.{DriverState}
-use Rattle.nc_rules.specs.Lots.{Fixed, is_lot, is_wanted, map_id, grant_of, no_entry}
+use Rattle.nc_rules.specs.Lots.{DriverConfig, is_lot, is_wanted, map_id, grant_of, no_entry}
 use Rattle.nc_rules.specs.Turns.{is_area}
 use Rattle.nc_rules.specs.World.{WorldState, no_driver, driver_of, hart}
 use Rattle.nc_rules.specs.World as worlds
@@ -149,7 +149,7 @@ pub record IsLoan (w : WorldState) (n : MapId) (l : Loan) : Type 0 where
   pub dir : l.grant.dir ≡ lot.list.dir
   pub chan : l.grant.chan ≡ lot.chan
 
-some_by : (f : Fixed) (n : MapId) (o : Option Lot) (l : Loan) → option_map (loan_by f n) o ≡ Some l → (lot : Lot) × (o ≡ Some lot) × (l ≡ loan_by f n lot)
+some_by : (f : DriverConfig) (n : MapId) (o : Option Lot) (l : Loan) → option_map (loan_by f n) o ≡ Some l → (lot : Lot) × (o ≡ Some lot) × (l ≡ loan_by f n lot)
 some_by f n None l e = absurd (cc)
 some_by f n (Some lot) l e = let same : loan_by f n lot ≡ l = cc in (lot, refl, sym same)
 

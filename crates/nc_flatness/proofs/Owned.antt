@@ -19,9 +19,9 @@ use Rattle.nc_scen.specs.declared.scenario.HartSpec.{HartSpec}
 use Rattle.nc_scen.specs.declared.scenario.Scenario.{Scenario}
 use Rattle.nc_rules.specs.declared.lots.Lot.{Lot}
 use Rattle.nc_rules.specs.Driver.{in_hand}
-use Rattle.nc_rules.specs.Lots.{Fixed, map_id, owner_of_side}
+use Rattle.nc_rules.specs.Lots.{DriverConfig, map_id, owner_of_side}
 use Rattle.nc_rules.specs.Start.{fixed_of, hart_spec, no_hart_spec}
-use Rattle.nc_rules.specs.Watched.{owner_of}
+use Rattle.nc_rules.specs.EventTouches.{owner_of}
 use Rattle.nc_rules.specs.World.{WorldState, driver_of, hart}
 use Rattle.nc_plan.specs.Plans.{In}
 use Rattle.nc_holds.specs.Held.{IsEntryOf, FitsSide}
@@ -123,8 +123,8 @@ script_by (s ∷ specs) (suc h) all lt = script_by specs h (All-tail IsCoveredSc
 pub covered_op : (sc : Scenario) (w : WorldState) (h : ℕ) (o : Op) → IsCovered sc → IsWorldOf sc w → h < length sc.harts → in_hand (driver_of w h) ≡ Some o → (driver_of w h).fixed.light ≡ true → is_covered_op o ≡ true
 covered_op sc w h o c world lt e light =
     let fixed = world.fixed h lt in
-    covered_by (hart_spec sc h).script (driver_of w h).op o (script_by sc.harts h (c.scripts (sym (ap (λ (f : Fixed). f.light) fixed) ∙ light)) lt)
-    (ap (λ (f : Fixed). slice_get f.script (driver_of w h).op) (sym fixed) ∙ e)
+    covered_by (hart_spec sc h).script (driver_of w h).op o (script_by sc.harts h (c.scripts (sym (ap (λ (f : DriverConfig). f.light) fixed) ∙ light)) lt)
+    (ap (λ (f : DriverConfig). slice_get f.script (driver_of w h).op) (sym fixed) ∙ e)
 
 -- so a hart that has a copy in hand has full fences
 pub copy_full : (sc : Scenario) (w : WorldState) (h : ℕ) (chan : ChanNo) (src src_off dst dst_off len cfg : ℕ) → IsCovered sc → IsWorldOf sc w → h < length sc.harts → in_hand (driver_of w h) ≡ Some (ops.Copy chan src src_off dst dst_off len cfg)

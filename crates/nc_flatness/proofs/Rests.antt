@@ -24,7 +24,7 @@ use Rattle.nc_rules.specs.declared.steps.Turn.{Turn}
 use Rattle.nc_rules.specs.declared.steps.Turn.TheVariants as turns
 use Rattle.nc_rules.specs.Driver.{DriverState, in_hand}
 use Rattle.nc_rules.specs.Copies.{source, copy_step, claim_step, back_steps, end_part, copy_steps}
-use Rattle.nc_rules.specs.Lots.{Fixed, is_lot, map_id, parts}
+use Rattle.nc_rules.specs.Lots.{DriverConfig, is_lot, map_id, parts}
 use Rattle.nc_rules.specs.Plans.{hart_step, op_steps, turning, carried, token_steps, lending_end, lend_steps}
 use Rattle.nc_rules.specs.Turns.{with_side, set_side, lots_after, lots_after_both}
 use Rattle.nc_rules.specs.World.{WorldState, no_driver, driver_of}
@@ -101,7 +101,7 @@ pub before : (id : LotId) (steps more : List Step) → HasEnd id steps → HasEn
 before id steps more ended = list_any-append (ends id) steps more ∙ or_left (list_any (ends id) steps) (list_any (ends id) more) ended
 
 -- the lending of a lot ends its stay
-pub lend_ends : (f : Fixed) (lot : Lot) → HasEnd lot.id (lend_steps f lot)
+pub lend_ends : (f : DriverConfig) (lot : Lot) → HasEnd lot.id (lend_steps f lot)
 lend_ends f lot =
     let ops = op_steps (carried f.effects f.size (parts f lot)) in
     list_any-append (ends lot.id) ops (lending_end f lot) ∙ or_right (list_any (ends lot.id) ops) (list_any (ends lot.id) (lending_end f lot)) (by_light f.light refl)
@@ -119,7 +119,7 @@ full_ends id rest full = elim (cases_Bool (list_any (ends id) rest)) [
 ]
 
 -- the plan of a copy ends the stay of its source
-pub copy_ends : (f : Fixed) (chan : ChanNo) (config : ℕ) (src dst : Lot) → HasEnd src.id (copy_steps f chan config src dst)
+pub copy_ends : (f : DriverConfig) (chan : ChanNo) (config : ℕ) (src dst : Lot) → HasEnd src.id (copy_steps f chan config src dst)
 copy_ends f chan config src dst =
     let lends = claim_step chan ∷ lend_steps f src in
     let both = lends ++ lend_steps f dst in
@@ -128,7 +128,7 @@ copy_ends f chan config src dst =
     (before src.id (both ++ moves) (back_steps f dst) (before src.id both moves (before src.id lends (lend_steps f dst) (behind src.id (claim_step chan) (lend_steps f src) (lend_ends f src)))))
 
 -- a lot that a step's first turn is of has its end to come
-pub first_ends : (f : Fixed) (lots : List Lot) (s : Step) (rest : List Step) (id : LotId) → StepGoes f lots s rest → turns_lot id s.first ≡ true → HasEnd id (s ∷ rest)
+pub first_ends : (f : DriverConfig) (lots : List Lot) (s : Step) (rest : List Step) (id : LotId) → StepGoes f lots s rest → turns_lot id s.first ≡ true → HasEnd id (s ∷ rest)
 first_ends f lots s rest id (Loads is) on = absurd (false≢true (sym (stay_turns id s.first (ap (λ (t : Step). t.first) is.step)) ∙ on))
 first_ends f lots s rest id (Stores is) on = absurd (false≢true (sym (stay_turns id s.first is.first) ∙ on))
 first_ends f lots s rest id (WritesBack is) on = absurd (false≢true (sym (stay_turns id s.first (ap (λ (t : Step). t.first) is.step)) ∙ on))
@@ -168,7 +168,7 @@ first_ends f lots s rest id (TakesSource is) on =
     subst (λ (k : LotId). HasEnd k (s ∷ rest)) (ap (λ (l : Lot). l.id) is.same ∙ sym name) ended
 
 -- a lot that is not still has its end in the rest
-pub ends_later : (f : Fixed) (lots : List Lot) (rest : List Step) (lot : Lot) → PlanGoes f lots rest → In lot lots → (IsStill f lot → ⊥) → list_any (ends lot.id) rest ≡ true
+pub ends_later : (f : DriverConfig) (lots : List Lot) (rest : List Step) (lot : Lot) → PlanGoes f lots rest → In lot lots → (IsStill f lot → ⊥) → list_any (ends lot.id) rest ≡ true
 ends_later f lots [] lot goes here moves = absurd (moves (all_at (IsStill f) lots lot goes here))
 ends_later f lots (s ∷ rest) lot goes here moves = elim (cases_Bool (turns_lot lot.id s.first)) [
   | inl first ↦ first_ends f lots s rest lot.id goes.0 first
@@ -178,19 +178,19 @@ ends_later f lots (s ∷ rest) lot goes here moves = elim (cases_Bool (turns_lot
 ]
 
 -- a lot that is taken back is not still, and one that is lent is so with light fences alone
-pub back_moves : (f : Fixed) (lot : Lot) → lot.side ≡ sides.Returning → IsStill f lot → ⊥
+pub back_moves : (f : DriverConfig) (lot : Lot) → lot.side ≡ sides.Returning → IsStill f lot → ⊥
 back_moves f lot is (StillDevice side) = let both = sym side ∙ is in absurd (cc)
 back_moves f lot is (StillSynced side kind) = let both = sym side ∙ is in absurd (cc)
 back_moves f lot is (StillOwn side kind) = let both = sym side ∙ is in absurd (cc)
 back_moves f lot is (StillSent side light) = let both = sym side ∙ is in absurd (cc)
 
-pub lend_light : (f : Fixed) (lot : Lot) → lot.side ≡ sides.Lending → IsStill f lot → f.light ≡ true
+pub lend_light : (f : DriverConfig) (lot : Lot) → lot.side ≡ sides.Lending → IsStill f lot → f.light ≡ true
 lend_light f lot is (StillDevice side) = let both = sym side ∙ is in absurd (cc)
 lend_light f lot is (StillSynced side kind) = let both = sym side ∙ is in absurd (cc)
 lend_light f lot is (StillOwn side kind) = let both = sym side ∙ is in absurd (cc)
 lend_light f lot is (StillSent side light) = light
 
-pub lend_moves : (f : Fixed) (lot : Lot) → lot.side ≡ sides.Lending → f.light ≡ false → IsStill f lot → ⊥
+pub lend_moves : (f : DriverConfig) (lot : Lot) → lot.side ≡ sides.Lending → f.light ≡ false → IsStill f lot → ⊥
 lend_moves f lot is full still = false≢true (sym full ∙ lend_light f lot is still)
 
 -- ---- what a rest ends
@@ -202,7 +202,7 @@ ends_others steps a b one ended other = false_from_ne_true (list_any (ends b) st
 -- ---- a store of a last load's bytes
 
 -- the step that comes next is one, of a piece
-pub record IsNextStore (f : Fixed) (lots : List Lot) (span : Span) : Type 0 where
+pub record IsNextStore (f : DriverConfig) (lots : List Lot) (span : Span) : Type 0 where
   pub step : Step
   pub rest : List Step
   pub is : IsStore f lots step rest
@@ -211,7 +211,7 @@ pub record IsNextStore (f : Fixed) (lots : List Lot) (span : Span) : Type 0 wher
 none_some : {A : Type 0} (o : Option A) (a : A) → o ≡ None → o ≡ Some a → ⊥
 none_some o a none some = let both = sym none ∙ some in absurd (cc)
 
-store_of : (f : Fixed) (lots : List Lot) (s : Step) (rest : List Step) (span : Span) → StepGoes f lots s rest → act_last s.act ≡ Some span → IsNextStore f lots span
+store_of : (f : DriverConfig) (lots : List Lot) (s : Step) (rest : List Step) (span : Span) → StepGoes f lots s rest → act_last s.act ≡ Some span → IsNextStore f lots span
 store_of f lots s rest span (Loads is) e = absurd (none_some (act_last s.act) span (ap (λ (t : Step). act_last t.act) is.step) e)
 store_of f lots s rest span (Stores is) e =
     record { step = s; rest = rest; is = is; span_is = same_some span (moved is.from.at is.to.at is.span) (sym e ∙ ap act_last is.act) }
@@ -233,7 +233,7 @@ store_of f lots s rest span (Polls is) e = absurd (none_some (act_last s.act) sp
 store_of f lots s rest span (TakesTarget is) e = absurd (none_some (act_last s.act) span (ap (λ (t : Step). act_last t.act) is.goes.step) e)
 store_of f lots s rest span (TakesSource is) e = absurd (none_some (act_last s.act) span (ap (λ (t : Step). act_last t.act) is.goes.step) e)
 
-goes_store : (f : Fixed) (lots : List Lot) (rest : List Step) (span : Span) → PlanGoes f lots rest → rest_last rest ≡ Some span → IsNextStore f lots span
+goes_store : (f : DriverConfig) (lots : List Lot) (rest : List Step) (span : Span) → PlanGoes f lots rest → rest_last rest ≡ Some span → IsNextStore f lots span
 goes_store f lots [] span goes e = absurd (cc)
 goes_store f lots (s ∷ rest) span goes e = store_of f lots s rest span goes.0 e
 

@@ -18,8 +18,8 @@ use Rattle.nc_rules.specs.declared.lots.Lot.{Lot}
 use Rattle.nc_rules.specs.declared.lots.Side.{Side}
 use Rattle.nc_rules.specs.declared.lots.Side.TheVariants as sides
 use Rattle.nc_rules.specs.Turns.{is_area}
-use Rattle.nc_rules.specs.Lots.{Fixed, is_wanted, lot_waits, map_id, owner_of_side}
-use Rattle.nc_rules.specs.Watched.{owner_of}
+use Rattle.nc_rules.specs.Lots.{DriverConfig, is_wanted, lot_waits, map_id, owner_of_side}
+use Rattle.nc_rules.specs.EventTouches.{owner_of}
 use Rattle.nc_rules.specs.World.{WorldState, driver_of, hart}
 use Rattle.nc_scripts.proofs.Lists.{position_any}
 use Rattle.nc_holds.specs.Held.{slots_span, LiesInBuffer, FitsSide, IsEntryOf}
@@ -46,10 +46,10 @@ slot_at sc k = record { at = sc.slots_at + 2048 * k; len = 2048 }
 -- ---- what drivers know of the slots
 
 pub slots_at_is : (sc : Scenario) (f : List ℕ) (w : WorldState) (h : ℕ) → Flatness sc f w → h < length w.machine.harts → (driver_of w h).fixed.slots_at ≡ sc.slots_at
-slots_at_is sc f w h flat lt = ap (λ (k : Fixed). k.slots_at) (fixed_is sc f w h flat lt)
+slots_at_is sc f w h flat lt = ap (λ (k : DriverConfig). k.slots_at) (fixed_is sc f w h flat lt)
 
 pub slots_are : (sc : Scenario) (f : List ℕ) (w : WorldState) (h : ℕ) → Flatness sc f w → h < length w.machine.harts → (driver_of w h).fixed.slots ≡ sc.slots
-slots_are sc f w h flat lt = ap (λ (k : Fixed). k.slots) (fixed_is sc f w h flat lt)
+slots_are sc f w h flat lt = ap (λ (k : DriverConfig). k.slots) (fixed_is sc f w h flat lt)
 
 pub slots_whole : (sc : Scenario) (f : List ℕ) (w : WorldState) → Flatness sc f w → sc.slots_at % 2048 ≡ 0
 slots_whole sc f w flat =
@@ -251,8 +251,8 @@ pub entry_unslotted : (sc : Scenario) (f : List ℕ) (w : WorldState) (h : ℕ) 
 entry_unslotted sc f w h lot i e x flat here on =
     let lt = hart_of_lot w h lot flat.world.holds here.lot_in in
     let holds = flat.world.holds.each h lt in
-    let slots : covers (slots_span (driver_of w h).fixed) x ≡ covers (slots_of sc) x = ap (λ (k : Fixed). covers (slots_span k) x) (fixed_is sc f w h flat lt) in
-    let pool : covers (driver_of w h).fixed.pool x ≡ covers (pool_of sc) x = ap (λ (k : Fixed). covers k.pool x) (fixed_is sc f w h flat lt) in
+    let slots : covers (slots_span (driver_of w h).fixed) x ≡ covers (slots_of sc) x = ap (λ (k : DriverConfig). covers (slots_span k) x) (fixed_is sc f w h flat lt) in
+    let pool : covers (driver_of w h).fixed.pool x ≡ covers (pool_of sc) x = ap (λ (k : DriverConfig). covers k.pool x) (fixed_is sc f w h flat lt) in
     let fits = all_at (FitsSide (driver_of w h).fixed) (driver_of w h).lots lot holds.agrees.sides here.lot_in in
     off_by (covers (slots_of sc) x) (λ over. elim (cases_Bool (is_area lot.kind)) [
       | inl area ↦ holds.regions.slots_off_pool x (slots ∙ over) (pool ∙ entry_pooled sc f w h lot i e x flat here area on)

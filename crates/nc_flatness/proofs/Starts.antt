@@ -27,7 +27,7 @@ use Rattle.nc_rules.specs.Driver.{DriverState}
 use Rattle.nc_rules.specs.Machine.{MachineState, hart_of, queue_of}
 use Rattle.nc_rules.specs.Start.{memory, first_machine, first_driver}
 use Rattle.nc_rules.specs.World.{driver_of, first_owners, hart, start}
-use Rattle.nc_rules.specs.Watched.{owner_of}
+use Rattle.nc_rules.specs.EventTouches.{owner_of}
 use Rattle.nc_calls.specs.PlaceLaws.{BothAt, NotHeld}
 use Rattle.nc_calls.proofs.StartPlaces.{start_is_empty}
 use Rattle.nc_rows.specs.Places.{given, ThreadRow, CalmRow}

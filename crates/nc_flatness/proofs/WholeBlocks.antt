@@ -14,9 +14,9 @@ use Rattle.nc_sg.specs.declared.list.Entry.{Entry}
 use Rattle.nc_scen.specs.declared.scenario.Scenario.{Scenario}
 use Rattle.nc_rules.specs.declared.lots.Kind.{Kind}
 use Rattle.nc_rules.specs.declared.lots.Lot.{Lot}
-use Rattle.nc_rules.specs.Lots.{Fixed, reach_of, owner_of_side}
+use Rattle.nc_rules.specs.Lots.{DriverConfig, reach_of, owner_of_side}
 use Rattle.nc_rules.specs.Turns.{is_area}
-use Rattle.nc_rules.specs.Watched.{owner_of}
+use Rattle.nc_rules.specs.EventTouches.{owner_of}
 use Rattle.nc_rules.specs.World.{WorldState, driver_of}
 use Rattle.nc_scripts.specs.Drivers.{BouncesSo}
 use Rattle.nc_holds.specs.Held.{IsEntryOf}
@@ -56,7 +56,7 @@ whole_slots s at size low = low_by s at size.one_of low
 -- ---- entries
 
 -- a range that does not bounce is whole blocks, where its device may write
-whole_by : (f : Fixed) (kind : Kind) (dir : Dir) (chan : ChanNo) (e : Entry) → BouncesSo f kind dir chan e → is_area kind ≡ false → e.bounced ≡ false → comes_back dir ≡ true → is_whole f.size e.span ≡ true
+whole_by : (f : DriverConfig) (kind : Kind) (dir : Dir) (chan : ChanNo) (e : Entry) → BouncesSo f kind dir chan e → is_area kind ≡ false → e.bounced ≡ false → comes_back dir ≡ true → is_whole f.size e.span ≡ true
 whole_by f kind dir chan e so mapping direct back =
     let none : ((comes_back dir && not (is_whole f.size e.span)) || nat_lt (reach_of f chan) (e.span.at + e.span.len)) ≡ false =
     sym (so ∙ ap (λ (t : Bool). not t && bounces e.span dir f.size (reach_of f chan)) mapping) ∙ direct in

@@ -24,7 +24,7 @@ use Rattle.nc_rules.specs.Next.{touched_by, after_outcome, counted, next}
 use Rattle.nc_rules.specs.Outcomes.{Outcome, start_outcome, op_outcome, claim_outcome, poll_outcome, take_outcome, step_outcome, try_outcome, told_outcome, at_word, leaves, drain_outcome, outcome}
 use Rattle.nc_rules.specs.Sound.{IsMachine}
 use Rattle.nc_rules.specs.Start.{fixed_of, hart_spec, first_driver, first_machine}
-use Rattle.nc_rules.specs.Watched.{drain_touch}
+use Rattle.nc_rules.specs.EventTouches.{drain_touch}
 use Rattle.nc_rules.specs.Records.{drain_records}
 use Rattle.nc_rules.specs.World.{WorldState, no_driver, driver_of, with_moves, hart, start}
 use Rattle.nc_calls.specs.MachineLaws.{SameShape}

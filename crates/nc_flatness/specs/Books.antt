@@ -8,7 +8,7 @@ use Rattle.nc_num.specs.declared.places.Span.{Span}
 use Rattle.nc_model.specs.declared.owners.Owner.{Owner}
 use Rattle.nc_model.specs.declared.owners.Owner.TheVariants.{Thread, Passing, Lending, Device, Returning, Synced, Pool}
 use Rattle.nc_rules.specs.declared.lots.Lot.{Lot}
-use Rattle.nc_rules.specs.Lots.{Fixed, is_wanted, grant_of, no_entry}
+use Rattle.nc_rules.specs.Lots.{DriverConfig, is_wanted, grant_of, no_entry}
 use Rattle.nc_rules.specs.Turns.{is_area}
 use Rattle.nc_rules.specs.Driver.{DriverState}
 use Rattle.nc_rules.specs.World.{WorldState, driver_of}
@@ -18,7 +18,7 @@ use Rattle.nc_rows.specs.Rows.{Loan, Book}
 abbrev pub is_entry_of : MapId → Lot → Bool
 is_entry_of n lot = not (is_wanted lot.side) && (lot.id.label.0 == n.label.0 && (nat_le lot.id.first n.entry && nat_lt n.entry (lot.id.first + length lot.list.entries)))
 
-abbrev pub loan_by : Fixed → MapId → Lot → Loan
+abbrev pub loan_by : DriverConfig → MapId → Lot → Loan
 loan_by f n lot = record { grant = grant_of f.slots_at lot n (slice_index_or lot.list.entries (n.entry - lot.id.first) no_entry); lot = lot.id; area = is_area lot.kind }
 
 -- what mapping n is, of a driver's lots

@@ -26,10 +26,10 @@ use Rattle.nc_rules.specs.declared.steps.Seen.TheVariants as seen
 use Rattle.nc_rules.specs.declared.steps.Step.{Step}
 use Rattle.nc_rules.specs.Copies.{source, target}
 use Rattle.nc_rules.specs.Driver.{in_hand}
-use Rattle.nc_rules.specs.Lots.{Fixed, is_lot, is_wanted}
+use Rattle.nc_rules.specs.Lots.{DriverConfig, is_lot, is_wanted}
 use Rattle.nc_rules.specs.Machine.{queue_of, channel_of, grantee_of}
 use Rattle.nc_rules.specs.Refusals.{buffer_of, part_of}
-use Rattle.nc_rules.specs.Watched.{owner_of}
+use Rattle.nc_rules.specs.EventTouches.{owner_of}
 use Rattle.nc_rules.specs.World.{WorldState, driver_of, hart}
 use Rattle.nc_scripts.specs.Drivers.{is_claim}
 use Rattle.nc_holds.specs.Held.{SharesNone}
@@ -53,10 +53,10 @@ abbrev pub copy_op : CopyOp → Op
 copy_op k = ops.Copy k.chan k.src k.src_off k.dst k.dst_off k.len k.config
 
 -- its ranges
-abbrev pub source_range : Fixed → CopyOp → Span → Type 0
+abbrev pub source_range : DriverConfig → CopyOp → Span → Type 0
 source_range f k range = part_of (buffer_of f k.src) k.src_off k.len ≡ Ok range
 
-abbrev pub target_range : Fixed → CopyOp → Span → Type 0
+abbrev pub target_range : DriverConfig → CopyOp → Span → Type 0
 target_range f k range = part_of (buffer_of f k.dst) k.dst_off k.len ≡ Ok range
 
 -- ---- its steps
@@ -113,7 +113,7 @@ AreItsEnds k from to lots =
     All (λ lot. (is_lot source lot ≡ true → IsOneRange lot ToDev k.chan from) × (is_lot target lot ≡ true → IsOneRange lot FromDev k.chan to)) lots
 
 -- an end that is lent: its range, and where the channel sees it
-pub record IsEndAt (f : Fixed) (lots : List Lot) (id : LotId) (dir : Dir) (chan : ChanNo) (range device : Span) : Type 0 where
+pub record IsEndAt (f : DriverConfig) (lots : List Lot) (id : LotId) (dir : Dir) (chan : ChanNo) (range device : Span) : Type 0 where
   pub lot : Lot
   pub is : IsCopyEnd lots lot id dir chan
   pub lent : is_wanted lot.side ≡ false

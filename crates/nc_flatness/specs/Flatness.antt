@@ -23,13 +23,13 @@ use Rattle.nc_rules.specs.declared.steps.Phase.{Phase}
 use Rattle.nc_rules.specs.declared.steps.Phase.TheVariants.{Steps, Search, Work}
 use Rattle.nc_rules.specs.declared.steps.Step.{Step}
 use Rattle.nc_rules.specs.Machine.{MachineState, queue_of}
-use Rattle.nc_rules.specs.Lots.{Fixed, same_kind}
+use Rattle.nc_rules.specs.Lots.{DriverConfig, same_kind}
 use Rattle.nc_rules.specs.Handing.{hand_steps}
 use Rattle.nc_rules.specs.Plans.{hart_step}
 use Rattle.nc_rules.specs.Driver.{DriverState, in_hand}
 use Rattle.nc_rules.specs.Sound.{IsMachine}
 use Rattle.nc_rules.specs.Start.{fixed_of, hart_spec}
-use Rattle.nc_rules.specs.Watched.{owner_of}
+use Rattle.nc_rules.specs.EventTouches.{owner_of}
 use Rattle.nc_rules.specs.World.{WorldState, driver_of, hart}
 use Rattle.nc_holds.specs.Rests.{RestAt}
 use Rattle.nc_holds.specs.Holds.{Holds}
@@ -72,7 +72,7 @@ pub record IsMapping (lot : Lot) : Type 0 where
   pub kind : is_mapping lot.kind ≡ true
 
 -- it is still, or waits for its slots
-abbrev pub IsStillOrWanted : Fixed → Lot → Type 0
+abbrev pub IsStillOrWanted : DriverConfig → Lot → Type 0
 IsStillOrWanted f lot = IsStill f lot ⊎ (lot.side ≡ sides.Wanted)
 
 -- the operation makes lots of this kind
@@ -88,7 +88,7 @@ IsMadeBy None lot = ⊥
 IsMadeBy (Some o) lot = makes_kind o lot.kind ≡ true
 
 -- the same, where what waits is what the operation in hand makes
-abbrev pub IsStillOrMade : Fixed → Option Op → Lot → Type 0
+abbrev pub IsStillOrMade : DriverConfig → Option Op → Lot → Type 0
 IsStillOrMade f o lot = IsStill f lot ⊎ ((lot.side ≡ sides.Wanted) × IsMadeBy o lot)
 
 abbrev pub mail_step : ℕ → HartNo → Step

@@ -33,7 +33,7 @@ use Rattle.nc_rules.specs.declared.steps.Act.TheVariants as acts
 use Rattle.nc_rules.specs.declared.steps.Step.{Step}
 use Rattle.nc_rules.specs.declared.steps.Turn.{Turn}
 use Rattle.nc_rules.specs.declared.steps.Turn.TheVariants as turns
-use Rattle.nc_rules.specs.Lots.{Fixed, is_lot}
+use Rattle.nc_rules.specs.Lots.{DriverConfig, is_lot}
 use Rattle.nc_rules.specs.Copies.{source, target, copy_steps}
 use Rattle.nc_rules.specs.Plans.{hart_step, turning, control_step}
 use Rattle.nc_rules.specs.Plans.{step as no_turn}
@@ -48,7 +48,7 @@ use Rattle.nc_flatness.specs.Tokens.{is_lending_side, ends_lending}
 
 -- no plan is at it: it is with its channel; a single mapping is synced, or an area is the hart's own; or, with light
 -- fences, its token is queued
-pub data IsStill (f : Fixed) (lot : Lot) : Type 0 where
+pub data IsStill (f : DriverConfig) (lot : Lot) : Type 0 where
   StillDevice : lot.side ≡ sides.Device → IsStill f lot
   StillSynced : lot.side ≡ sides.Synced → lot.kind ≡ Single → IsStill f lot
   StillOwn : lot.side ≡ sides.Own → lot.kind ≡ Area → IsStill f lot
@@ -63,18 +63,18 @@ pub record IsWaiting (lot other : Lot) : Type 0 where
   pub waits : other.side ≡ sides.Lending
 
 -- a lot beside the one in hand is still, or it waits for it
-abbrev pub IsBeside : Fixed → Lot → Lot → Type 0
+abbrev pub IsBeside : DriverConfig → Lot → Lot → Type 0
 IsBeside f lot other = IsStill f other ⊎ IsWaiting lot other
 
 -- the plan is of this lot, which is an area or none and has this side, and nothing is done to another
-pub record IsInHand (f : Fixed) (lots : List Lot) (lot : Lot) (area : Bool) (side : Side) : Type 0 where
+pub record IsInHand (f : DriverConfig) (lots : List Lot) (lot : Lot) (area : Bool) (side : Side) : Type 0 where
   pub here : In lot lots
   pub area_is : is_area lot.kind ≡ area
   pub side_is : lot.side ≡ side
   pub others : All (λ other. is_lot lot.id other ≡ false → IsBeside f lot other) lots
 
 -- the range by which the channel sees an entry
-abbrev pub device_of : Fixed → Entry → Span
+abbrev pub device_of : DriverConfig → Entry → Span
 device_of f e = sg.device f.slots_at e
 
 -- ---- what is to come for a lot, whichever of its mappings is asked for
@@ -97,11 +97,11 @@ HasEnd id rest = list_any (ends id) rest ≡ true
 abbrev pub HasLend : LotId → List Step → Type 0
 HasLend id rest = list_any (ends_lending id) rest ≡ true
 
-abbrev pub HasByte : Fixed → LotId → List Step → ℕ → Bool → Type 0
+abbrev pub HasByte : DriverConfig → LotId → List Step → ℕ → Bool → Type 0
 HasByte f id rest x t = (n : MapId) → list_any (gives_at f.size x) (coming n id rest) ≡ t
 
 -- an entry that gives a byte of block b
-abbrev pub HasBlock : Fixed → LotId → List Step → ℕ → Bool → Type 0
+abbrev pub HasBlock : DriverConfig → LotId → List Step → ℕ → Bool → Type 0
 HasBlock f id rest b t = (n : MapId) → list_any (gives_in f.size b) (coming n id rest) ≡ t
 
 -- ---- copies
@@ -110,13 +110,13 @@ abbrev pub IsWithin : Span → Span → Type 0
 IsWithin span range = (range.at ≤ span.at) × (span.at + span.len ≤ range.at + range.len)
 
 -- a range of the lot goes into its slot before the lot is lent, and comes out of it again behind the full fence
-pub record GoesIn (f : Fixed) (lots : List Lot) (lot : Lot) (e : Entry) (rest : List Step) (from to : Span) : Type 0 where
+pub record GoesIn (f : DriverConfig) (lots : List Lot) (lot : Lot) (e : Entry) (rest : List Step) (from to : Span) : Type 0 where
   pub hand : IsInHand f lots lot false sides.Lending
   pub later : HasLend lot.id rest
   pub from_is : from ≡ e.span
   pub to_is : to ≡ device_of f e
 
-pub record ComesOut (f : Fixed) (lots : List Lot) (lot : Lot) (e : Entry) (rest : List Step) (from to : Span) : Type 0 where
+pub record ComesOut (f : DriverConfig) (lots : List Lot) (lot : Lot) (e : Entry) (rest : List Step) (from to : Span) : Type 0 where
   pub hand : IsInHand f lots lot false sides.Returning
   pub back : comes_back lot.list.dir ≡ true
   pub fenced : HasFull lot.id rest false
@@ -124,7 +124,7 @@ pub record ComesOut (f : Fixed) (lots : List Lot) (lot : Lot) (e : Entry) (rest 
   pub to_is : to ≡ e.span
 
 -- entry i of the lot bounces, and is copied from the first range to the second
-pub record IsCopied (f : Fixed) (lots : List Lot) (rest : List Step) (from to : Span) : Type 0 where
+pub record IsCopied (f : DriverConfig) (lots : List Lot) (rest : List Step) (from to : Span) : Type 0 where
   pub lot : Lot
   pub i : ℕ
   pub entry : Entry
@@ -133,7 +133,7 @@ pub record IsCopied (f : Fixed) (lots : List Lot) (rest : List Step) (from to : 
   pub way : GoesIn f lots lot entry rest from to ⊎ ComesOut f lots lot entry rest from to
 
 -- a piece is loaded, of which the store comes next
-pub record IsLoad (f : Fixed) (lots : List Lot) (s : Step) (rest : List Step) : Type 0 where
+pub record IsLoad (f : DriverConfig) (lots : List Lot) (s : Step) (rest : List Step) : Type 0 where
   pub from : Span
   pub to : Span
   pub copied : IsCopied f lots rest from to
@@ -147,7 +147,7 @@ abbrev pub IsBack : LotId → Turn → Type 0
 IsBack id turn = (turn ≡ turns.Sync id) ⊎ (turn ≡ turns.End id)
 
 -- a piece is stored, and no later store of the plan gives its bytes; with the last piece that comes out the lot is back
-pub record IsStore (f : Fixed) (lots : List Lot) (s : Step) (rest : List Step) : Type 0 where
+pub record IsStore (f : DriverConfig) (lots : List Lot) (s : Step) (rest : List Step) : Type 0 where
   pub from : Span
   pub to : Span
   pub copied : IsCopied f lots rest from to
@@ -162,7 +162,7 @@ pub record IsStore (f : Fixed) (lots : List Lot) (s : Step) (rest : List Step) :
 -- ---- cache operations
 
 -- a block is written back before the lot is lent
-pub record IsWriteBack (f : Fixed) (lots : List Lot) (s : Step) (rest : List Step) : Type 0 where
+pub record IsWriteBack (f : DriverConfig) (lots : List Lot) (s : Step) (rest : List Step) : Type 0 where
   pub lot : Lot
   pub hand : IsInHand f lots lot false sides.Lending
   pub op : CboOp
@@ -173,7 +173,7 @@ pub record IsWriteBack (f : Fixed) (lots : List Lot) (s : Step) (rest : List Ste
   pub next : LoadsFirst rest
 
 -- a block that the device may have written is dropped before the full fence
-pub record IsDrop (f : Fixed) (lots : List Lot) (s : Step) (rest : List Step) : Type 0 where
+pub record IsDrop (f : DriverConfig) (lots : List Lot) (s : Step) (rest : List Step) : Type 0 where
   pub lot : Lot
   pub hand : IsInHand f lots lot false sides.Returning
   pub back : comes_back lot.list.dir ≡ true
@@ -193,14 +193,14 @@ pub record IsDrop (f : Fixed) (lots : List Lot) (s : Step) (rest : List Step) : 
 -- ---- full fences
 
 -- the lot is its channel's
-pub record IsGive (f : Fixed) (lots : List Lot) (s : Step) (rest : List Step) : Type 0 where
+pub record IsGive (f : DriverConfig) (lots : List Lot) (s : Step) (rest : List Step) : Type 0 where
   pub lot : Lot
   pub hand : IsInHand f lots lot false sides.Lending
   pub step : s ≡ turning (turns.Give lot.id) (hart_step full)
   pub next : LoadsFirst rest
 
 -- what bounces comes out of its slot behind it
-pub record IsFence (f : Fixed) (lots : List Lot) (s : Step) (rest : List Step) : Type 0 where
+pub record IsFence (f : DriverConfig) (lots : List Lot) (s : Step) (rest : List Step) : Type 0 where
   pub lot : Lot
   pub hand : IsInHand f lots lot false sides.Returning
   pub step : s ≡ hart_step full
@@ -209,7 +209,7 @@ pub record IsFence (f : Fixed) (lots : List Lot) (s : Step) (rest : List Step) :
   pub out : (i : ℕ) (e : Entry) (x : ℕ) → IsEntryOf lots lot i e → e.bounced ≡ true → comes_back lot.list.dir ≡ true → covers e.span x ≡ true → HasByte f lot.id rest x true
 
 -- nothing comes out of a slot, and the lot is back
-pub record IsEnd (f : Fixed) (lots : List Lot) (s : Step) (rest : List Step) : Type 0 where
+pub record IsEnd (f : DriverConfig) (lots : List Lot) (s : Step) (rest : List Step) : Type 0 where
   pub lot : Lot
   pub hand : IsInHand f lots lot false sides.Returning
   pub turn : Turn
@@ -221,7 +221,7 @@ pub record IsEnd (f : Fixed) (lots : List Lot) (s : Step) (rest : List Step) : T
 -- ---- areas
 
 -- a block of an area that is allocated is zeroed, and not again: flat memory has zeros there
-pub record IsZero (f : Fixed) (lots : List Lot) (s : Step) (rest : List Step) : Type 0 where
+pub record IsZero (f : DriverConfig) (lots : List Lot) (s : Step) (rest : List Step) : Type 0 where
   pub lot : Lot
   pub hand : IsInHand f lots lot true sides.Lending
   pub block : Block
@@ -235,7 +235,7 @@ pub record IsZero (f : Fixed) (lots : List Lot) (s : Step) (rest : List Step) : 
   pub next : LoadsFirst rest
 
 -- a block of it is flushed, behind the zeros
-pub record IsFlush (f : Fixed) (lots : List Lot) (s : Step) (rest : List Step) : Type 0 where
+pub record IsFlush (f : DriverConfig) (lots : List Lot) (s : Step) (rest : List Step) : Type 0 where
   pub lot : Lot
   pub hand : IsInHand f lots lot true sides.Lending
   pub block : Block
@@ -244,14 +244,14 @@ pub record IsFlush (f : Fixed) (lots : List Lot) (s : Step) (rest : List Step) :
   pub next : LoadsFirst rest
 
 -- the area that was allocated is its hart's
-pub record IsSettle (f : Fixed) (lots : List Lot) (s : Step) (rest : List Step) : Type 0 where
+pub record IsSettle (f : DriverConfig) (lots : List Lot) (s : Step) (rest : List Step) : Type 0 where
   pub lot : Lot
   pub hand : IsInHand f lots lot true sides.Lending
   pub step : s ≡ turning (turns.Settle lot.id) (hart_step full)
   pub over : rest ≡ []
 
 -- an area is its channel's
-pub record IsAreaGive (f : Fixed) (lots : List Lot) (s : Step) (rest : List Step) : Type 0 where
+pub record IsAreaGive (f : DriverConfig) (lots : List Lot) (s : Step) (rest : List Step) : Type 0 where
   pub lot : Lot
   pub hand : IsInHand f lots lot true sides.Lending
   pub step : s ≡ turning (turns.Give lot.id) (hart_step full)
@@ -262,7 +262,7 @@ abbrev pub IsAreaBack : LotId → Turn → Type 0
 IsAreaBack id turn = (turn ≡ turns.Settle id) ⊎ (turn ≡ turns.End id)
 
 -- an area has come back
-pub record IsTakeBack (f : Fixed) (lots : List Lot) (s : Step) (rest : List Step) : Type 0 where
+pub record IsTakeBack (f : DriverConfig) (lots : List Lot) (s : Step) (rest : List Step) : Type 0 where
   pub lot : Lot
   pub hand : IsInHand f lots lot true sides.Returning
   pub turn : Turn
@@ -277,7 +277,7 @@ abbrev pub token_step : Lot → Step
 token_step lot = hart_step (hart_ops.IoStore (io.Lend lot.id.label lot.id.first (length lot.list.entries)))
 
 -- a marker is queued, behind which the token comes next
-pub record IsMark (f : Fixed) (lots : List Lot) (s : Step) (rest : List Step) : Type 0 where
+pub record IsMark (f : DriverConfig) (lots : List Lot) (s : Step) (rest : List Step) : Type 0 where
   pub lot : Lot
   pub hand : IsInHand f lots lot (is_area lot.kind) sides.Lending
   pub light : f.light ≡ true
@@ -287,12 +287,12 @@ pub record IsMark (f : Fixed) (lots : List Lot) (s : Step) (rest : List Step) : 
 
 -- what is still to come for a lot behind its token gives no byte where the channel sees it, and where the channel may
 -- write it none of its blocks
-pub record IsQuiet (f : Fixed) (lot : Lot) (rest : List Step) : Type 0 where
+pub record IsQuiet (f : DriverConfig) (lot : Lot) (rest : List Step) : Type 0 where
   pub bytes : (i : ℕ) (e : Entry) (y : ℕ) → slice_get lot.list.entries i ≡ Some e → covers (device_of f e) y ≡ true → HasByte f lot.id rest y false
   pub blocks : comes_back lot.list.dir ≡ true → (i : ℕ) (e : Entry) (y : ℕ) → slice_get lot.list.entries i ≡ Some e → covers (device_of f e) y ≡ true → HasBlock f lot.id rest (y / f.size) false
 
 -- the token is queued: the plan is over, or that of a copy goes on, which lends the lot no more
-pub record IsPost (f : Fixed) (lots : List Lot) (s : Step) (rest : List Step) : Type 0 where
+pub record IsPost (f : DriverConfig) (lots : List Lot) (s : Step) (rest : List Step) : Type 0 where
   pub lot : Lot
   pub hand : IsInHand f lots lot (is_area lot.kind) sides.Lending
   pub light : f.light ≡ true
@@ -314,7 +314,7 @@ pub record IsCopyEnd (lots : List Lot) (lot : Lot) (id : LotId) (dir : Dir) (cha
   pub chan_is : lot.chan ≡ chan
 
 -- the channel is claimed, and both ends are lent with it; the rest of the copy's plan comes behind it
-pub record IsClaim (f : Fixed) (lots : List Lot) (s : Step) (rest : List Step) : Type 0 where
+pub record IsClaim (f : DriverConfig) (lots : List Lot) (s : Step) (rest : List Step) : Type 0 where
   pub chan : ChanNo
   pub config : ℕ
   -- the transfer does not start again
@@ -329,7 +329,7 @@ pub record IsClaim (f : Fixed) (lots : List Lot) (s : Step) (rest : List Step) :
   pub next : LoadsFirst rest
 
 -- a register of the channel is stored to
-pub record IsRegister (f : Fixed) (lots : List Lot) (s : Step) (rest : List Step) : Type 0 where
+pub record IsRegister (f : DriverConfig) (lots : List Lot) (s : Step) (rest : List Step) : Type 0 where
   pub chan : ChanNo
   pub off : ℕ
   pub width : ℕ
@@ -339,7 +339,7 @@ pub record IsRegister (f : Fixed) (lots : List Lot) (s : Step) (rest : List Step
   pub next : LoadsFirst rest
 
 -- the channel, which has both ends, is polled, and released next
-pub record IsPoll (f : Fixed) (lots : List Lot) (s : Step) (rest : List Step) : Type 0 where
+pub record IsPoll (f : DriverConfig) (lots : List Lot) (s : Step) (rest : List Step) : Type 0 where
   pub chan : ChanNo
   pub step : s ≡ no_turn (acts.Poll chan)
   pub still : All (IsStill f) lots
@@ -360,7 +360,7 @@ pub record IsTaken (lots : List Lot) (lot : Lot) (s : Step) : Type 0 where
   pub first : s.first ≡ turns.Return lot.id
 
 -- the destination, with the drop of its first block
-pub record IsTakeTarget (f : Fixed) (lots : List Lot) (s : Step) (rest : List Step) : Type 0 where
+pub record IsTakeTarget (f : DriverConfig) (lots : List Lot) (s : Step) (rest : List Step) : Type 0 where
   pub lot : Lot
   pub taken : IsTaken lots lot s
   pub goes : IsDrop f (set_side sides.Returning lot.id lots) (record s { first = turns.Stay }) rest
@@ -369,7 +369,7 @@ pub record IsTakeTarget (f : Fixed) (lots : List Lot) (s : Step) (rest : List St
   pub drops : (n : MapId) (i : ℕ) (e : Entry) (y : ℕ) → slice_get lot.list.entries i ≡ Some e → covers (device_of f e) y ≡ true → Stands (has_op drops_copies (y / f.size)) is_full (coming n lot.id (s ∷ rest))
 
 -- the source, which ends with the same step
-pub record IsTakeSource (f : Fixed) (lots : List Lot) (s : Step) (rest : List Step) : Type 0 where
+pub record IsTakeSource (f : DriverConfig) (lots : List Lot) (s : Step) (rest : List Step) : Type 0 where
   pub lot : Lot
   pub taken : IsTaken lots lot s
   pub goes : IsEnd f (set_side sides.Returning lot.id lots) (record s { first = turns.Stay }) rest
@@ -380,7 +380,7 @@ pub record IsTakeSource (f : Fixed) (lots : List Lot) (s : Step) (rest : List St
 
 -- ---- all steps
 
-pub data StepGoes (f : Fixed) (lots : List Lot) (s : Step) (rest : List Step) : Type 0 where
+pub data StepGoes (f : DriverConfig) (lots : List Lot) (s : Step) (rest : List Step) : Type 0 where
   Loads : IsLoad f lots s rest → StepGoes f lots s rest
   Stores : IsStore f lots s rest → StepGoes f lots s rest
   WritesBack : IsWriteBack f lots s rest → StepGoes f lots s rest
@@ -412,7 +412,7 @@ lots_behind (acts.Op op) lots = lots
 lots_behind (acts.Claim chan) lots = lots
 lots_behind (acts.Take buf) lots = lots
 
-abbrev pub PlanGoes : Fixed → List Lot → List Step → Type 0
+abbrev pub PlanGoes : DriverConfig → List Lot → List Step → Type 0
 PlanGoes f lots [] = All (IsStill f) lots
 PlanGoes f lots (s ∷ rest) = StepGoes f lots s rest × PlanGoes f (lots_after_both s.first s.last (lots_behind s.act lots)) rest
 

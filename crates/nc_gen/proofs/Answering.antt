@@ -30,8 +30,8 @@ use Rattle.nc_rules.specs.declared.steps.Seen.TheVariants as seen
 use Rattle.nc_model.specs.declared.owners.Access.TheVariants.{Read, Write}
 use Rattle.nc_rules.specs.Machine.{MachineState, hart_of, grantee_of}
 use Rattle.nc_rules.specs.View.{bytes_seen}
-use Rattle.nc_rules.specs.Calls.{load_transfers, drain_transfers, drain_next, leaving, issue_answer, control_of, fill_answer, evict_answer, chan_read_told, chan_write_told}
-use Rattle.nc_rules.specs.Watched.{issue_touch, poll_touch, drain_touch, transaction_touch}
+use Rattle.nc_rules.specs.Calls.{load_transfers, drain_transfers, drain_next, leaving, issue_answer, control_of, fill_answer, evict_answer, chan_read_step, chan_write_step}
+use Rattle.nc_rules.specs.EventTouches.{issue_touch, poll_touch, drain_touch, transaction_touch}
 use Rattle.nc_rules.specs.Turns.{Moved}
 use Rattle.nc_rules.specs.Driver.{Went, next_of, searching, is_script, started, told, done, lent}
 use Rattle.nc_rules.specs.Records.{place, start_of, mark_record, touch_records, transfer_record, transfer_records, answer_records, load_record, store_record, op_records, entry_record, drain_records, done_records, read_records, write_records, try_records, told_records, told_answer, owner_records, back_records, answered, moves_records}
@@ -214,8 +214,8 @@ module _ (p : Record → Bool) (only : (r : Record) → answer_in r ≡ None →
   one_done w (events.Drain h i) = one_drained w h i (leaving w.machine h.0 i)
   one_done w (events.Fill h b) = one_runs None (answer_records w.machine.size (fill_answer w.machine h.0 b.0)) (none_answered w.machine.size (fill_answer w.machine h.0 b.0))
   one_done w (events.Evict h b) = one_runs None (answer_records w.machine.size (evict_answer w.machine h.0 b.0)) (none_answered w.machine.size (evict_answer w.machine h.0 b.0))
-  one_done w (events.ChanRead chan) = one_runs (transaction_touch w chan Read (chan_read_told w.machine chan.0)) (read_records chan (chan_read_told w.machine chan.0)) (none_read chan (chan_read_told w.machine chan.0))
-  one_done w (events.ChanWrite chan) = one_runs (transaction_touch w chan Write (chan_write_told w.machine chan.0)) (write_records chan (chan_write_told w.machine chan.0)) (none_written chan (chan_write_told w.machine chan.0))
+  one_done w (events.ChanRead chan) = one_runs (transaction_touch w chan Read (chan_read_step w.machine chan.0)) (read_records chan (chan_read_step w.machine chan.0)) (none_read chan (chan_read_step w.machine chan.0))
+  one_done w (events.ChanWrite chan) = one_runs (transaction_touch w chan Write (chan_write_step w.machine chan.0)) (write_records chan (chan_write_step w.machine chan.0)) (none_written chan (chan_write_step w.machine chan.0))
 
   one_if : (t : Bool) (e : Event) (rs : List Record) → many rs ≤ 1 → many (if t then records.Event e ∷ rs else []) ≤ 1
   one_if true e rs one = omega (arith, many_more (records.Event e ∷ []) rs, many_one (records.Event e) refl, one)

@@ -19,7 +19,7 @@ use Rattle.nc_rules.specs.declared.steps.Seen.TheVariants as seen
 use Rattle.nc_rules.specs.declared.steps.Step.{Step}
 use Rattle.nc_rules.specs.declared.steps.Turn.{Turn}
 use Rattle.nc_rules.specs.declared.steps.Turn.TheVariants as turns
-use Rattle.nc_rules.specs.Lots.{Fixed, lot_id}
+use Rattle.nc_rules.specs.Lots.{DriverConfig, lot_id}
 use Rattle.nc_rules.specs.Refusals.{buffer_of}
 use Rattle.nc_rules.specs.Turns.{lots_after, lots_after_both}
 use Rattle.nc_rules.specs.Operations.{has_start, step_at}
@@ -36,12 +36,12 @@ use Rattle.nc_holds.proofs.CallShapes.{here, MakesTurn, IsQuietTurn, As, Turns, 
 use Rattle.nc_holds.proofs.CallStarts.{gives_up, just_stays, went_plan, went_lots}
 
 -- what a taken buffer needs: it was passed to this hart
-abbrev pub CanTake : Fixed → Held → Next → Type 0
+abbrev pub CanTake : DriverConfig → Held → Next → Type 0
 CanTake f s next = (buf : ℕ) → next ≡ nexts.Take buf → (g : HartNo) × IsOwnedBy s.owners (buffer_of f buf) (owners.Passing g f.me)
 
 -- ---- a step by its number
 
-last_by : (f : Fixed) (s : Held) (step : Step) → CanTake f s (next_act step.act) → LastIs f step → MakesTurn f s step.last
+last_by : (f : DriverConfig) (s : Held) (step : Step) → CanTake f s (next_act step.act) → LastIs f step → MakesTurn f s step.last
 last_by f s step take (inl e) = stays_turn f s step.last e
 last_by f s step take (inr k) =
     let g = take k.0 (ap next_act k.2) in
@@ -58,7 +58,7 @@ stepped_plan d n lots saw (Ok (Some s)) = All-nil (IsPlanStep lots)
 stepped_plan d n lots saw (Ok None) = All-nil (IsPlanStep lots)
 
 -- over no turn at its beginning
-same_here : (f : Fixed) (m : Held) (t : Turn) → t ≡ turns.Stay → changed f m (Turned t) ≡ m
+same_here : (f : DriverConfig) (m : Held) (t : Turn) → t ≡ turns.Stay → changed f m (Turned t) ≡ m
 same_here f m t e = ap (λ u. changed f m (Turned u)) e
 
 stepped_call : (ram : ℕ) (d : DriverState) (s : Held) (o : Op) (n : ℕ) (saw : Seen) (step : Step) (r : Result (Option Step) Refusal) → IsNumbered d.fixed step → CanTake d.fixed s (next_act step.act) → IsCall ram d.fixed (here s d.lots) s.slots (stepped d o n saw (Ok (Some step)) r)

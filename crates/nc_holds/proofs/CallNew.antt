@@ -21,7 +21,7 @@ use Rattle.nc_rules.specs.declared.lots.Kind.{Kind}
 use Rattle.nc_rules.specs.declared.lots.Kind.TheVariants as kinds
 use Rattle.nc_rules.specs.declared.lots.Lot.{Lot}
 use Rattle.nc_rules.specs.declared.lots.LotId.{LotId}
-use Rattle.nc_rules.specs.Lots.{Fixed, lot_id, reach_of, ranges_lot, area_lot, slots_held}
+use Rattle.nc_rules.specs.Lots.{DriverConfig, lot_id, reach_of, ranges_lot, area_lot, slots_held}
 use Rattle.nc_rules.specs.Refusals.{◌>>=◌, wanted, some_or, buffer_of, all_some, ranges_of, unused, named, owned, owned_from, planned, lendable, placeable}
 use Rattle.nc_rules.specs.Turns.{is_area}
 use Rattle.nc_rules.specs.Accesses as accesses
@@ -51,14 +51,14 @@ fresh_none : (dir : Dir) (size reach : ℕ) (rs : List Span) → held (map (fres
 fresh_none dir size reach [] = refl
 fresh_none dir size reach (r ∷ rs) = fresh_none dir size reach rs
 
-ranges_none : (f : Fixed) (id : LotId) (kind : Kind) (dir : Dir) (chan : ChanNo) (rs : List Span) → slots_held (ranges_lot f id kind dir chan rs) ≡ []
+ranges_none : (f : DriverConfig) (id : LotId) (kind : Kind) (dir : Dir) (chan : ChanNo) (rs : List Span) → slots_held (ranges_lot f id kind dir chan rs) ≡ []
 ranges_none f id kind dir chan rs = fresh_none dir f.size (reach_of f chan) rs
 
-one_plain : (o : Op) (f : Fixed) (id : LotId) (kind : Kind) (dir : Dir) (chan : ChanNo) (rs : List Span) → is_area kind ≡ false → NewIs o (ranges_lot f id kind dir chan rs ∷ [])
+one_plain : (o : Op) (f : DriverConfig) (id : LotId) (kind : Kind) (dir : Dir) (chan : ChanNo) (rs : List Span) → is_area kind ≡ false → NewIs o (ranges_lot f id kind dir chan rs ∷ [])
 one_plain o f id kind dir chan rs off =
     Plain (λ i. ranges_none f id kind dir chan rs i ++ []) (All-cons NoArea (ranges_lot f id kind dir chan rs) [] off (All-nil NoArea))
 
-ranges_new : (o : Op) (f : Fixed) (lots : List Lot) (label : Label) (kind : Kind) (dir : Dir) (chan : ChanNo) (owners : List Owner) (es : List SgEntry) (new : List Lot) → is_area kind ≡ false
+ranges_new : (o : Op) (f : DriverConfig) (lots : List Lot) (label : Label) (kind : Kind) (dir : Dir) (chan : ChanNo) (owners : List Owner) (es : List SgEntry) (new : List Lot) → is_area kind ≡ false
     → ranges_begin f lots label kind dir chan owners es ≡ Ok new → NewIs o new
 ranges_new o f lots label kind dir chan owners es new off e =
     let p1 = passed (all_some es) (λ _. ranges_of f es >>= λ ranges. behind_ranges f lots label kind dir chan owners ranges) new e in
@@ -69,12 +69,12 @@ ranges_new o f lots label kind dir chan owners es new off e =
     let p5 = passed (lendable f.effects dir) (λ _. placeable f (lot ∷ [])) new p4.rest in
     subst (λ (ls : List Lot). NewIs o ls) (placeable_is f (lot ∷ []) new p5.rest).same (one_plain o f (lot_id label 0) kind dir chan p2.value off)
 
-list_new : (f : Fixed) (lots : List Lot) (label : Label) (entries : List SgEntry) (dir : Dir) (chan : ChanNo) (owners : List Owner) (new : List Lot) → lists.map_sg_begin f lots label entries dir chan owners ≡ Ok new → NewIs (ops.MapSg label entries dir chan) new
+list_new : (f : DriverConfig) (lots : List Lot) (label : Label) (entries : List SgEntry) (dir : Dir) (chan : ChanNo) (owners : List Owner) (new : List Lot) → lists.map_sg_begin f lots label entries dir chan owners ≡ Ok new → NewIs (ops.MapSg label entries dir chan) new
 list_new f lots label entries dir chan owners new e =
     let p = passed (some_entries entries) (λ _. ranges_begin f lots label kinds.List dir chan owners entries) new e in
     ranges_new (ops.MapSg label entries dir chan) f lots label kinds.List dir chan owners entries new refl p.rest
 
-copy_new : (o : Op) (f : Fixed) (src dst : SgEntry) (chan : ChanNo) (owners : List Owner) (new : List Lot) → copy_begin f src dst chan owners ≡ Ok new → NewIs o new
+copy_new : (o : Op) (f : DriverConfig) (src dst : SgEntry) (chan : ChanNo) (owners : List Owner) (new : List Lot) → copy_begin f src dst chan owners ≡ Ok new → NewIs o new
 copy_new o f src dst chan owners new e =
     let p1 = passed (all_some (src ∷ dst ∷ [])) (λ _. ranges_of f (src ∷ dst ∷ []) >>= λ ranges. behind_copy f chan owners ranges) new e in
     let p2 = passed (ranges_of f (src ∷ dst ∷ [])) (λ ranges. behind_copy f chan owners ranges) new p1.rest in
@@ -86,7 +86,7 @@ copy_new o f src dst chan owners new e =
     subst (λ (ls : List Lot). NewIs o ls) (placeable_is f (ends_of f chan p2.value) new p5.rest).same
     (Plain refl (All-cons NoArea s (t ∷ []) refl (All-cons NoArea t [] refl (All-nil NoArea))))
 
-calloc_new : (f : Fixed) (lots : List Lot) (label : Label) (count : ℕ) (chan : ChanNo) (pool : PageMap) (new : List Lot) → calloc_begin f lots label count chan pool ≡ Ok new → NewIs (ops.Calloc label count chan) new
+calloc_new : (f : DriverConfig) (lots : List Lot) (label : Label) (count : ℕ) (chan : ChanNo) (pool : PageMap) (new : List Lot) → calloc_begin f lots label count chan pool ≡ Ok new → NewIs (ops.Calloc label count chan) new
 calloc_new f lots label count chan pool new e =
     let p1 = passed (wanted refusals.Empty (not (count == 0))) (λ _. unused lots label >>= λ _. wanted refusals.NoPbmt f.pbmte >>= λ _. planned (both (effects.legal f.effects.zero) (effects.legal f.effects.flush)) >>= λ _. area_is f label chan (lowest_span pool count)) new e in
     let p2 = passed (unused lots label) (λ _. wanted refusals.NoPbmt f.pbmte >>= λ _. planned (both (effects.legal f.effects.zero) (effects.legal f.effects.flush)) >>= λ _. area_is f label chan (lowest_span pool count)) new p1.rest in
@@ -98,7 +98,7 @@ calloc_new f lots label count chan pool new e =
 none_new : (o : Op) (new : List Lot) → [] ≡ new → NewIs o new
 none_new o new none = subst (λ (ls : List Lot). NewIs o ls) none (Plain refl (All-nil NoArea))
 
-pub new_lots : (f : Fixed) (lots new : List Lot) (owners : List Owner) (pool : PageMap) (o : Op) → begin f lots owners pool o ≡ Ok new → NewIs o new
+pub new_lots : (f : DriverConfig) (lots new : List Lot) (owners : List Owner) (pool : PageMap) (o : Op) → begin f lots owners pool o ≡ Ok new → NewIs o new
 unfolding begin meaning accesses.load accesses.store cache_ops.cache_operation cache_ops.fence handing.take handing.hand channels.claim channels.free channels.set_up channels.run channels.poll channels.read_register channels.write_register mappings.map_single mappings.unmap_single mappings.sync_for_cpu mappings.sync_for_device lists.map_sg lists.unmap_sg areas.calloc areas.give_area areas.take_area areas.free_area copies.copy
 new_lots f lots new owners pool (ops.Map label buf off len dir chan) e = ranges_new (ops.Map label buf off len dir chan) f lots label kinds.Single dir chan owners (record { buf = buf; off = off; len = len } ∷ []) new refl e
 new_lots f lots new owners pool (ops.MapSg label entries dir chan) e = list_new f lots label entries dir chan owners new e
@@ -127,11 +127,11 @@ new_lots f lots new owners pool (ops.Regr chan off width) e = none_new (ops.Regr
 new_lots f lots new owners pool (ops.Regw chan off width value) e = none_new (ops.Regw chan off width value) new (cc)
 
 -- a buffer that is handed is the hart's own, and nothing is made
-pub record IsHanded (f : Fixed) (owners : List Owner) (buf : ℕ) (new : List Lot) : Type 0 where
+pub record IsHanded (f : DriverConfig) (owners : List Owner) (buf : ℕ) (new : List Lot) : Type 0 where
   pub owned : (u : Unit {0}) × (owned f.me owners (buffer_of f buf) ≡ Ok u)
   pub none : [] ≡ new
 
-pub handed : (f : Fixed) (lots new : List Lot) (owners : List Owner) (pool : PageMap) (buf : ℕ) (to : HartNo) → begin f lots owners pool (ops.Hand buf to) ≡ Ok new → IsHanded f owners buf new
+pub handed : (f : DriverConfig) (lots new : List Lot) (owners : List Owner) (pool : PageMap) (buf : ℕ) (to : HartNo) → begin f lots owners pool (ops.Hand buf to) ≡ Ok new → IsHanded f owners buf new
 unfolding begin meaning handing.hand
 handed f lots new owners pool buf to e =
     let p = passed (owned f.me owners (buffer_of f buf)) (λ _. Ok []) new e in

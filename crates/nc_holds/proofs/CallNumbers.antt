@@ -18,7 +18,7 @@ use Rattle.nc_rules.specs.declared.steps.Act.TheVariants as acts
 use Rattle.nc_rules.specs.declared.steps.Step.{Step}
 use Rattle.nc_rules.specs.declared.steps.Turn.TheVariants as turns
 use Rattle.nc_rules.specs.declared.lots.Lot.{Lot}
-use Rattle.nc_rules.specs.Lots.{Fixed}
+use Rattle.nc_rules.specs.Lots.{DriverConfig}
 use Rattle.nc_rules.specs.Refusals.{◌>>=◌, buffer_of, part_of, legal}
 use Rattle.nc_rules.specs.Plans.{step, hart_step, single, control_step}
 use Rattle.nc_rules.specs.Accesses.{spot_at, piece_step}
@@ -37,43 +37,43 @@ use Rattle.nc_rules.specs.Operations.{meaning, step_at}
 use Rattle.nc_scripts.proofs.DriverSteps.{passed}
 
 -- it takes a buffer, or makes no turn at its end
-abbrev pub LastIs : Fixed → Step → Type 0
+abbrev pub LastIs : DriverConfig → Step → Type 0
 LastIs f s = (s.last ≡ turns.Stay) ⊎ ((buf : ℕ) × (s.last ≡ turns.Own (buffer_of f buf)) × (s.act ≡ acts.Take buf))
 
-pub record IsNumbered (f : Fixed) (s : Step) : Type 0 where
+pub record IsNumbered (f : DriverConfig) (s : Step) : Type 0 where
   pub first : s.first ≡ turns.Stay
   pub last : LastIs f s
 
-plain : (f : Fixed) (op : HartOp) → IsNumbered f (hart_step op)
+plain : (f : DriverConfig) (op : HartOp) → IsNumbered f (hart_step op)
 plain f op = record { first = refl; last = inl refl }
 
-single_by : (f : Fixed) (t : Step) (n : ℕ) (s : Step) → IsNumbered f t → single t n ≡ Some s → IsNumbered f s
+single_by : (f : DriverConfig) (t : Step) (n : ℕ) (s : Step) → IsNumbered f t → single t n ≡ Some s → IsNumbered f s
 single_by f t zero s h e = let same : t ≡ s = cc in subst (λ (x : Step). IsNumbered f x) same h
 single_by f t (suc n) s h e = absurd (cc)
 
-is_single : (f : Fixed) (t : Step) (n : ℕ) (s : Step) → IsNumbered f t → ◌≡◌ {A = Result (Option Step) Refusal} (Ok (single t n)) (Ok (Some s)) → IsNumbered f s
+is_single : (f : DriverConfig) (t : Step) (n : ℕ) (s : Step) → IsNumbered f t → ◌≡◌ {A = Result (Option Step) Refusal} (Ok (single t n)) (Ok (Some s)) → IsNumbered f s
 is_single f t n s h e = single_by f t n s h (cc)
 
-piece_by : (f : Fixed) (r : Result (Option HartOp) PageFault) (s : Step) → piece_step r ≡ Ok (Some s) → IsNumbered f s
+piece_by : (f : DriverConfig) (r : Result (Option HartOp) PageFault) (s : Step) → piece_step r ≡ Ok (Some s) → IsNumbered f s
 piece_by f (Ok None) s e = absurd (cc)
 piece_by f (Ok (Some op)) s e = let same : hart_step op ≡ s = cc in subst (λ (x : Step). IsNumbered f x) same (plain f op)
 piece_by f (Err fault) s e = absurd (cc)
 
-mapped_by : {X : Type 0} (f : Fixed) (g : X → HartOp) (o : Option X) (s : Step) → ◌≡◌ {A = Result (Option Step) Refusal} (Ok (option_map (λ x. hart_step (g x)) o)) (Ok (Some s)) → IsNumbered f s
+mapped_by : {X : Type 0} (f : DriverConfig) (g : X → HartOp) (o : Option X) (s : Step) → ◌≡◌ {A = Result (Option Step) Refusal} (Ok (option_map (λ x. hart_step (g x)) o)) (Ok (Some s)) → IsNumbered f s
 mapped_by f g None s e = absurd (cc)
 mapped_by f g (Some x) s e = let same : hart_step (g x) ≡ s = cc in subst (λ (x : Step). IsNumbered f x) same (plain f (g x))
 
-load_is : (f : Fixed) (lots : List Lot) (spot : Spot) (off len n : ℕ) (s : Step) → (spot_at f lots spot off len >>= λ to. piece_step (load_step to f.pbmte f.table len n)) ≡ Ok (Some s) → IsNumbered f s
+load_is : (f : DriverConfig) (lots : List Lot) (spot : Spot) (off len n : ℕ) (s : Step) → (spot_at f lots spot off len >>= λ to. piece_step (load_step to f.pbmte f.table len n)) ≡ Ok (Some s) → IsNumbered f s
 load_is f lots spot off len n s e =
     let p = passed (spot_at f lots spot off len) (λ to. piece_step (load_step to f.pbmte f.table len n)) (Some s) e in
     piece_by f (load_step p.value f.pbmte f.table len n) s p.rest
 
-store_is : (f : Fixed) (lots : List Lot) (spot : Spot) (off : ℕ) (bytes : List ℕ) (n : ℕ) (s : Step) → (spot_at f lots spot off (length bytes) >>= λ to. piece_step (store_step to f.pbmte f.table bytes n)) ≡ Ok (Some s) → IsNumbered f s
+store_is : (f : DriverConfig) (lots : List Lot) (spot : Spot) (off : ℕ) (bytes : List ℕ) (n : ℕ) (s : Step) → (spot_at f lots spot off (length bytes) >>= λ to. piece_step (store_step to f.pbmte f.table bytes n)) ≡ Ok (Some s) → IsNumbered f s
 store_is f lots spot off bytes n s e =
     let p = passed (spot_at f lots spot off (length bytes)) (λ to. piece_step (store_step to f.pbmte f.table bytes n)) (Some s) e in
     piece_by f (store_step p.value f.pbmte f.table bytes n) s p.rest
 
-cbo_is : (f : Fixed) (op : CboOp) (buf off n : ℕ) (s : Step)
+cbo_is : (f : DriverConfig) (op : CboOp) (buf off n : ℕ) (s : Step)
     → (part_of (buffer_of f buf) off 1 >>= λ byte. legal (effect_of f.effects op) >>= λ effect. Ok (option_map (cbo_step effect) (slice_get (cbo_blocks f op byte.at) n))) ≡ Ok (Some s)
     → IsNumbered f s
 cbo_is f op buf off n s e =
@@ -81,19 +81,19 @@ cbo_is f op buf off n s e =
     let q = passed (legal (effect_of f.effects op)) (λ effect. Ok (option_map (cbo_step effect) (slice_get (cbo_blocks f op p.value.at) n))) (Some s) p.rest in
     mapped_by f (λ (b : ℕ). hart.Cbo q.value (record { 0 = b })) (slice_get (cbo_blocks f op p.value.at) n) s q.rest
 
-regs_is : (f : Fixed) (lots : List Lot) (chan : ChanNo) (src dst : BusArg) (len cfg n : ℕ) (s : Step)
+regs_is : (f : DriverConfig) (lots : List Lot) (chan : ChanNo) (src dst : BusArg) (len cfg n : ℕ) (s : Step)
     → (bus_of f lots src >>= λ source. bus_of f lots dst >>= λ target. Ok (option_map hart_step (registers.regs_step chan source target len cfg n))) ≡ Ok (Some s) → IsNumbered f s
 regs_is f lots chan src dst len cfg n s e =
     let p = passed (bus_of f lots src) (λ source. bus_of f lots dst >>= λ target. Ok (option_map hart_step (registers.regs_step chan source target len cfg n))) (Some s) e in
     let q = passed (bus_of f lots dst) (λ target. Ok (option_map hart_step (registers.regs_step chan p.value target len cfg n))) (Some s) p.rest in
     mapped_by f (λ (op : HartOp). op) (registers.regs_step chan p.value q.value len cfg n) s q.rest
 
-read_is : (f : Fixed) (chan : ChanNo) (off width n : ℕ) (s : Step) → (known off width >>= λ _. Ok (single (hart_step (hart.IoLoad chan off width)) n)) ≡ Ok (Some s) → IsNumbered f s
+read_is : (f : DriverConfig) (chan : ChanNo) (off width n : ℕ) (s : Step) → (known off width >>= λ _. Ok (single (hart_step (hart.IoLoad chan off width)) n)) ≡ Ok (Some s) → IsNumbered f s
 read_is f chan off width n s e =
     let p = passed (known off width) (λ _. Ok (single (hart_step (hart.IoLoad chan off width)) n)) (Some s) e in
     is_single f (hart_step (hart.IoLoad chan off width)) n s (plain f (hart.IoLoad chan off width)) p.rest
 
-write_is : (f : Fixed) (chan : ChanNo) (off width value n : ℕ) (s : Step) → (known off width >>= λ _. Ok (single (hart_step (hart.IoStore (io.Reg chan off width value))) n)) ≡ Ok (Some s) → IsNumbered f s
+write_is : (f : DriverConfig) (chan : ChanNo) (off width value n : ℕ) (s : Step) → (known off width >>= λ _. Ok (single (hart_step (hart.IoStore (io.Reg chan off width value))) n)) ≡ Ok (Some s) → IsNumbered f s
 write_is f chan off width value n s e =
     let p = passed (known off width) (λ _. Ok (single (hart_step (hart.IoStore (io.Reg chan off width value))) n)) (Some s) e in
     is_single f (hart_step (hart.IoStore (io.Reg chan off width value))) n s (plain f (hart.IoStore (io.Reg chan off width value))) p.rest
@@ -101,7 +101,7 @@ write_is f chan off width value n s e =
 none : {X : Type 0} (s : Step) → ◌≡◌ {A = Result (Option Step) Refusal} (Ok None) (Ok (Some s)) → X
 none s e = absurd (cc)
 
-pub step_turns : (f : Fixed) (lots : List Lot) (o : Op) (n : ℕ) (s : Step) → step_at f lots o n ≡ Ok (Some s) → IsNumbered f s
+pub step_turns : (f : DriverConfig) (lots : List Lot) (o : Op) (n : ℕ) (s : Step) → step_at f lots o n ≡ Ok (Some s) → IsNumbered f s
 unfolding step_at meaning accesses.load accesses.store cache_ops.cache_operation cache_ops.fence handing.take handing.hand channels.claim channels.free channels.set_up channels.run channels.poll channels.read_register channels.write_register mappings.map_single mappings.unmap_single mappings.sync_for_cpu mappings.sync_for_device lists.map_sg lists.unmap_sg areas.calloc areas.give_area areas.take_area areas.free_area copies.copy
 step_turns f lots (ops.Ld spot off len) n s e = load_is f lots spot off len n s e
 step_turns f lots (ops.St spot off bytes) n s e = store_is f lots spot off bytes n s e

@@ -19,7 +19,7 @@ use Rattle.nc_rules.specs.declared.lots.Lot.{Lot}
 use Rattle.nc_rules.specs.declared.steps.Step.{Step}
 use Rattle.nc_rules.specs.declared.steps.Turn.{Turn}
 use Rattle.nc_rules.specs.declared.steps.Turn.TheVariants as turns
-use Rattle.nc_rules.specs.Lots.{Fixed, is_lot, is_named, is_labelled, same_kind, is_synced, is_own, lot_named, only_entry, parts}
+use Rattle.nc_rules.specs.Lots.{DriverConfig, is_lot, is_named, is_labelled, same_kind, is_synced, is_own, lot_named, only_entry, parts}
 use Rattle.nc_rules.specs.Refusals.{buffer_of}
 use Rattle.nc_rules.specs.Turns.{is_area}
 use Rattle.nc_rules.specs.Plans.{hart_step, op_steps, turning, ending, beginning, carried, token_steps, lending_end, lend_steps, return_steps}
@@ -76,19 +76,19 @@ end_by : (lots : List Lot) (lot : Lot) (light : Bool) → ArePlanSteps lots (if 
 end_by lots lot true = op_plan lots (_ ∷ _ ∷ [])
 end_by lots lot false = one lots (turning (turns.Give lot.id) (hart_step full)) (record { first = tt; last = tt })
 
-lending_end_plan : (lots : List Lot) (f : Fixed) (lot : Lot) → ArePlanSteps lots (lending_end f lot)
+lending_end_plan : (lots : List Lot) (f : DriverConfig) (lot : Lot) → ArePlanSteps lots (lending_end f lot)
 lending_end_plan lots f lot = end_by lots lot f.light
 
-lend_plan : (lots : List Lot) (f : Fixed) (lot : Lot) → ArePlanSteps lots (lend_steps f lot)
+lend_plan : (lots : List Lot) (f : DriverConfig) (lot : Lot) → ArePlanSteps lots (lend_steps f lot)
 lend_plan lots f lot = join lots (op_steps (carried f.effects f.size (parts f lot))) (lending_end f lot) (op_plan lots (carried f.effects f.size (parts f lot))) (lending_end_plan lots f lot)
 
-back_with : (lots : List Lot) (f : Fixed) (lot : Lot) (t : Turn) → IsLastTurn lots t → ArePlanSteps lots (ending t (return_steps f lot))
+back_with : (lots : List Lot) (f : DriverConfig) (lot : Lot) (t : Turn) → IsLastTurn lots t → ArePlanSteps lots (ending t (return_steps f lot))
 back_with lots f lot t th = ending_plan lots t (return_steps f lot) th (op_plan lots (returning f.effects f.size (parts f lot)))
 
 fence_plan : (lots : List Lot) (t : Turn) → IsLastTurn lots t → ArePlanSteps lots (fenced t)
 fence_plan lots t th = one lots (turning t (hart_step full)) (record { first = tt; last = th })
 
-back_plan : (lots : List Lot) (f : Fixed) (lot : Lot) → ArePlanSteps lots (back_steps f lot)
+back_plan : (lots : List Lot) (f : DriverConfig) (lot : Lot) → ArePlanSteps lots (back_steps f lot)
 back_plan lots f lot = beginning_plan lots (turns.Return lot.id) (ending (turns.End lot.id) (return_steps f lot)) tt (back_with lots f lot (turns.End lot.id) tt)
 
 copied_step : (lots : List Lot) (chan : ChanNo) (c : CopyStep) → IsPlanStep lots (copy_step chan c)
@@ -99,7 +99,7 @@ transfer_plan : (lots : List Lot) (chan : ChanNo) (cs : List CopyStep) → ArePl
 transfer_plan lots chan [] = none lots
 transfer_plan lots chan (c ∷ cs) = All-cons (IsPlanStep lots) (copy_step chan c) (map (copy_step chan) cs) (copied_step lots chan c) (transfer_plan lots chan cs)
 
-copy_plan : (lots : List Lot) (f : Fixed) (chan : ChanNo) (cfg : ℕ) (src dst : Lot) → ArePlanSteps lots (copy_steps f chan cfg src dst)
+copy_plan : (lots : List Lot) (f : DriverConfig) (chan : ChanNo) (cfg : ℕ) (src dst : Lot) → ArePlanSteps lots (copy_steps f chan cfg src dst)
 copy_plan lots f chan cfg src dst =
     let set = map (copy_step chan) (transfer chan (end_part f src) (end_part f dst) cfg) in
     let lends = join lots (lend_steps f src) (lend_steps f dst) (lend_plan lots f src) (lend_plan lots f dst) in
@@ -108,7 +108,7 @@ copy_plan lots f chan cfg src dst =
     let all = join lots (((lend_steps f src ++ lend_steps f dst) ++ set) ++ back_steps f dst) (back_steps f src) one_back (back_plan lots f src) in
     All-cons (IsPlanStep lots) (claim_step chan) ((((lend_steps f src ++ lend_steps f dst) ++ set) ++ back_steps f dst) ++ back_steps f src) (record { first = refl; last = tt }) all
 
-copy_by : (lots : List Lot) (f : Fixed) (chan : ChanNo) (cfg : ℕ) (src dst : Option Lot) → ArePlanSteps lots (copy_steps_of f chan cfg src dst)
+copy_by : (lots : List Lot) (f : DriverConfig) (chan : ChanNo) (cfg : ℕ) (src dst : Option Lot) → ArePlanSteps lots (copy_steps_of f chan cfg src dst)
 copy_by lots f chan cfg None dst = none lots
 copy_by lots f chan cfg (Some src) None = none lots
 copy_by lots f chan cfg (Some src) (Some dst) = copy_plan lots f chan cfg src dst
@@ -138,7 +138,7 @@ area_alone lots label lot apart e =
     (λ x here named. let same : x ≡ lot = only_one (is_lot lot.id) lots x lot (apart lot.id) here k.is named (its_name lot lot.id refl) in subst (λ (l : Lot). is_area l.kind ≡ true) (sym same) area)
 
 -- the turns of every plan
-pub plan_steps : (f : Fixed) (lots : List Lot) (o : Op) → AreApart lots → ArePlanSteps lots (plan_of f lots o)
+pub plan_steps : (f : DriverConfig) (lots : List Lot) (o : Op) → AreApart lots → ArePlanSteps lots (plan_of f lots o)
 unfolding plan_of meaning accesses.load accesses.store cache_ops.cache_operation cache_ops.fence handing.take handing.hand channels.claim channels.free channels.set_up channels.run channels.poll channels.read_register channels.write_register mappings.map_single mappings.unmap_single mappings.sync_for_cpu mappings.sync_for_device lists.map_sg lists.unmap_sg areas.calloc areas.give_area areas.take_area areas.free_area copies.copy
 plan_steps f lots (ops.Map label buf off len dir chan) apart = with_by lots (lend_steps f) (lot_named lots label kinds.Single) (λ lot e. lend_plan lots f lot)
 plan_steps f lots (ops.MapSg label entries dir chan) apart = with_by lots (lend_steps f) (lot_named lots label kinds.List) (λ lot e. lend_plan lots f lot)
@@ -174,7 +174,7 @@ plan_steps f lots (ops.Regw chan off width value) apart = none lots
 -- ---- openings
 
 -- what an operation can open with
-abbrev pub IsOpening : Fixed → Op → Turn → Type 0
+abbrev pub IsOpening : DriverConfig → Op → Turn → Type 0
 IsOpening f o turns.Stay = Unit {0}
 IsOpening f o (turns.Lend id) = Unit {0}
 IsOpening f o (turns.Return id) = Unit {0}
@@ -185,15 +185,15 @@ IsOpening f o (turns.Give id) = ⊥
 IsOpening f o (turns.Sync id) = ⊥
 IsOpening f o (turns.Settle id) = ⊥
 
-with_turn : (f : Fixed) (o : Op) (g : Lot → Turn) (l : Option Lot) → ((lot : Lot) → IsOpening f o (g lot)) → IsOpening f o (with_lot turns.Stay g l)
+with_turn : (f : DriverConfig) (o : Op) (g : Lot → Turn) (l : Option Lot) → ((lot : Lot) → IsOpening f o (g lot)) → IsOpening f o (with_lot turns.Stay g l)
 with_turn f o g None h = tt
 with_turn f o g (Some lot) h = h lot
 
-if_turn : (f : Fixed) (o : Op) (b : Bool) (t u : Turn) → IsOpening f o t → IsOpening f o u → IsOpening f o (if b then t else u)
+if_turn : (f : DriverConfig) (o : Op) (b : Bool) (t u : Turn) → IsOpening f o t → IsOpening f o u → IsOpening f o (if b then t else u)
 if_turn f o true t u h k = h
 if_turn f o false t u h k = k
 
-pub opening_is : (f : Fixed) (lots : List Lot) (o : Op) → IsOpening f o (opening f lots o)
+pub opening_is : (f : DriverConfig) (lots : List Lot) (o : Op) → IsOpening f o (opening f lots o)
 unfolding opening meaning accesses.load accesses.store cache_ops.cache_operation cache_ops.fence handing.take handing.hand channels.claim channels.free channels.set_up channels.run channels.poll channels.read_register channels.write_register mappings.map_single mappings.unmap_single mappings.sync_for_cpu mappings.sync_for_device lists.map_sg lists.unmap_sg areas.calloc areas.give_area areas.take_area areas.free_area copies.copy
 opening_is f lots (ops.Unmap label) =
     with_turn f (ops.Unmap label) unmap_turn (lot_named lots label kinds.Single) (λ lot. if_turn f (ops.Unmap label) (is_synced lot.side) (turns.End lot.id) (turns.Return lot.id) tt tt)

@@ -17,7 +17,7 @@ use Rattle.nc_rules.specs.declared.steps.PageMove.TheVariants as pages
 use Rattle.nc_rules.specs.declared.steps.Step.{Step}
 use Rattle.nc_rules.specs.declared.steps.Turn.{Turn}
 use Rattle.nc_rules.specs.declared.steps.Turn.TheVariants as turns
-use Rattle.nc_rules.specs.Lots.{Fixed, is_lot, is_wanted, lot_waits, slots_held}
+use Rattle.nc_rules.specs.Lots.{DriverConfig, is_lot, is_wanted, lot_waits, slots_held}
 use Rattle.nc_rules.specs.Refusals.{buffer_of}
 use Rattle.nc_rules.specs.Turns.{moved, is_area, those, lots_after, lots_after_both, ended_of, pages_of, page_move, page_moves, pages_taken, turned, given_up, without_wanted}
 use Rattle.nc_rules.specs.Driver.{Went}
@@ -36,31 +36,31 @@ abbrev pub here : Held → List Lot → Held
 here s lots = record s { lots = lots }
 
 -- a turn that drivers make
-pub record MakesTurn (f : Fixed) (s : Held) (t : Turn) : Type 0 where
+pub record MakesTurn (f : DriverConfig) (s : Held) (t : Turn) : Type 0 where
   pub may : MayTurn f s t
   pub fits : TurnFits s.lots t
   pub placed : (id : LotId) → t ≡ turns.Lend id → All IsPlaced s.lots
 
 -- it ends no grant and moves no page
-pub record IsQuietTurn (f : Fixed) (lots : List Lot) (t : Turn) : Type 0 where
+pub record IsQuietTurn (f : DriverConfig) (lots : List Lot) (t : Turn) : Type 0 where
   pub ended : ended_of f.me lots t ≡ []
   pub pages : pages_of lots t ≡ pages.Stay
 
 -- how a call begins, and what is held then
-pub data Begins (ram : ℕ) (f : Fixed) (s m : Held) : Type 0 where
+pub data Begins (ram : ℕ) (f : DriverConfig) (s m : Held) : Type 0 where
   As : m ≡ s → Begins ram f s m
   Makes : (new : List Lot) → IsMaking ram f s new → NoAreas new → flat_map slots_held new ≡ [] → m ≡ changed f s (Made new) → Begins ram f s m
   Gets : (k : ℕ) → MayGet s k → k < f.slots → m ≡ changed f s (Got k) → Begins ram f s m
 
 -- how it ends
-pub data Ends (f : Fixed) (m : Held) (went : Went) : Type 0 where
+pub data Ends (f : DriverConfig) (m : Held) (went : Went) : Type 0 where
   Stays : went.driver.lots ≡ m.lots → went.moves ≡ moved [] None → Ends f m went
   Drops : (a : Answer) → went.driver.lots ≡ without_wanted m.lots → went.moves ≡ given_up m.lots a → Ends f m went
   Turns : (t u : Turn) (a : Option Answer) → MakesTurn f m t → MakesTurn f (changed f m (Turned t)) u → (u ≡ turns.Stay) ⊎ IsQuietTurn f m.lots t
       → went.driver.lots ≡ lots_after_both t u m.lots → went.moves ≡ turned f m.lots t u a → Ends f m went
 
 -- an area is made and lent
-pub record Allocates (ram : ℕ) (f : Fixed) (s : Held) (went : Went) : Type 0 where
+pub record Allocates (ram : ℕ) (f : DriverConfig) (s : Held) (went : Went) : Type 0 where
   pub lot : Lot
   pub making : IsMaking ram f s (lot ∷ [])
   pub area : is_area lot.kind ≡ true
@@ -71,12 +71,12 @@ pub record Allocates (ram : ℕ) (f : Fixed) (s : Held) (went : Went) : Type 0 w
   pub moves : went.moves ≡ turned f (s.lots ++ lot ∷ []) (turns.Lend lot.id) turns.Stay answer
 
 -- where the slot words are these before it gives any back
-pub data Shape (ram : ℕ) (f : Fixed) (s : Held) (now : List (Option HartNo)) (went : Went) : Type 0 where
+pub data Shape (ram : ℕ) (f : DriverConfig) (s : Held) (now : List (Option HartNo)) (went : Went) : Type 0 where
   Plainly : (m : Held) → Begins ram f s m → Ends f m went → m.slots ≡ now → Shape ram f s now went
   ByArea : Allocates ram f s went → s.slots ≡ now → Shape ram f s now went
 
 -- a call of a driver, and that the rest is one of a plan
-pub record IsCall (ram : ℕ) (f : Fixed) (s : Held) (now : List (Option HartNo)) (went : Went) : Type 0 where
+pub record IsCall (ram : ℕ) (f : DriverConfig) (s : Held) (now : List (Option HartNo)) (went : Went) : Type 0 where
   pub shape : Shape ram f s now went
   pub plan : ArePlanSteps went.driver.lots went.driver.rest
 
@@ -101,21 +101,21 @@ named_placed lots id all = all_to IsPlaced (λ (lot : Lot). is_lot id lot ≡ tr
 
 -- ---- turns
 
-stay_turn : (f : Fixed) (s : Held) → MakesTurn f s turns.Stay
+stay_turn : (f : DriverConfig) (s : Held) → MakesTurn f s turns.Stay
 stay_turn f s = record { may = tt; fits = tt; placed = λ id e. absurd (cc) }
 
-pub stays_turn : (f : Fixed) (s : Held) (t : Turn) → t ≡ turns.Stay → MakesTurn f s t
+pub stays_turn : (f : DriverConfig) (s : Held) (t : Turn) → t ≡ turns.Stay → MakesTurn f s t
 stays_turn f s t e = subst (λ (u : Turn). MakesTurn f s u) (sym e) (stay_turn f s)
 
-lend_turn : (f : Fixed) (s : Held) (id : LotId) → All IsPlaced s.lots → MakesTurn f s (turns.Lend id)
+lend_turn : (f : DriverConfig) (s : Held) (id : LotId) → All IsPlaced s.lots → MakesTurn f s (turns.Lend id)
 lend_turn f s id all = record { may = named_placed s.lots id all; fits = tt; placed = λ i e. all }
 
 -- what an opening needs where it passes a buffer
-pub record CanPass (f : Fixed) (s : Held) (buf : ℕ) : Type 0 where
+pub record CanPass (f : DriverConfig) (s : Held) (buf : ℕ) : Type 0 where
   pub owned : IsOwnedBy s.owners (buffer_of f buf) (owners.Thread f.me)
   pub lent : AllLent s.lots
 
-pub opening_turn : (f : Fixed) (s : Held) (o : Op) (t : Turn) (ts : List Turn) → IsOpening f o t → All (IsOwed (t ∷ ts)) s.lots → All IsPlaced s.lots → ((buf : ℕ) (to : HartNo) → o ≡ ops.Hand buf to → CanPass f s buf) → MakesTurn f s t
+pub opening_turn : (f : DriverConfig) (s : Held) (o : Op) (t : Turn) (ts : List Turn) → IsOpening f o t → All (IsOwed (t ∷ ts)) s.lots → All IsPlaced s.lots → ((buf : ℕ) (to : HartNo) → o ≡ ops.Hand buf to → CanPass f s buf) → MakesTurn f s t
 opening_turn f s o turns.Stay ts is owed placed hand = stay_turn f s
 opening_turn f s o (turns.Lend id) ts is owed placed hand = lend_turn f s id placed
 opening_turn f s o (turns.Return id) ts is owed placed hand = record { may = lent_by (turns.Return id) ts s.lots id refl (λ e. absurd (cc)) owed; fits = tt; placed = λ i e. absurd (cc) }
@@ -132,7 +132,7 @@ opening_turn f s o (turns.Give id) ts is owed placed hand = absurd is
 opening_turn f s o (turns.Sync id) ts is owed placed hand = absurd is
 opening_turn f s o (turns.Settle id) ts is owed placed hand = absurd is
 
-pub first_turn : (f : Fixed) (s : Held) (t : Turn) (ts : List Turn) → IsFirstTurn t → All (IsOwed (t ∷ ts)) s.lots → All IsPlaced s.lots → MakesTurn f s t
+pub first_turn : (f : DriverConfig) (s : Held) (t : Turn) (ts : List Turn) → IsFirstTurn t → All (IsOwed (t ∷ ts)) s.lots → All IsPlaced s.lots → MakesTurn f s t
 first_turn f s turns.Stay ts is owed placed = stay_turn f s
 first_turn f s (turns.Lend id) ts is owed placed = lend_turn f s id placed
 first_turn f s (turns.Return id) ts is owed placed = record { may = lent_by (turns.Return id) ts s.lots id refl (λ e. absurd (cc)) owed; fits = tt; placed = λ i e. absurd (cc) }
@@ -143,7 +143,7 @@ first_turn f s (turns.Sync id) ts is owed placed = absurd is
 first_turn f s (turns.Settle id) ts is owed placed = absurd is
 first_turn f s (turns.End id) ts is owed placed = absurd is
 
-pub last_turn : (f : Fixed) (s : Held) (t : Turn) (ts : List Turn) → IsLastTurn s.lots t → All (IsOwed (t ∷ ts)) s.lots → All IsPlaced s.lots → MakesTurn f s t
+pub last_turn : (f : DriverConfig) (s : Held) (t : Turn) (ts : List Turn) → IsLastTurn s.lots t → All (IsOwed (t ∷ ts)) s.lots → All IsPlaced s.lots → MakesTurn f s t
 last_turn f s turns.Stay ts is owed placed = stay_turn f s
 last_turn f s (turns.Lend id) ts is owed placed = lend_turn f s id placed
 last_turn f s (turns.Give id) ts is owed placed = record { may = lent_by (turns.Give id) ts s.lots id refl (λ e. absurd (cc)) owed; fits = tt; placed = λ i e. absurd (cc) }
@@ -174,13 +174,13 @@ none_taken (lot ∷ lots) all =
     ap (λ p. page_move p (page_moves pages_taken lots)) (no_taking lot (All-head (λ (lot : Lot). is_area lot.kind ≡ false) lot lots all))
     ∙ none_taken lots (All-tail (λ (lot : Lot). is_area lot.kind ≡ false) lot lots all)
 
-ends_quiet : (ram : ℕ) (f : Fixed) (lots : List Lot) (id : LotId) → All (IsLotIn ram f) lots → IsEndName id → page_moves pages_taken (those id lots) ≡ pages.Stay
+ends_quiet : (ram : ℕ) (f : DriverConfig) (lots : List Lot) (id : LotId) → All (IsLotIn ram f) lots → IsEndName id → page_moves pages_taken (those id lots) ≡ pages.Stay
 ends_quiet ram f lots id all end =
     none_taken (those id lots)
     (all_filtered (IsLotIn ram f) (λ (lot : Lot). is_area lot.kind ≡ false) (is_lot id) lots all
     (λ lot is named. not_end f.pool lot.kind lot is.kind (subst (λ (i : LotId). IsEndName i) (sym (named_so lot id named)) end)))
 
-pub first_quiet : (ram : ℕ) (f : Fixed) (lots : List Lot) (t : Turn) → All (IsLotIn ram f) lots → IsFirstTurn t → IsQuietTurn f lots t
+pub first_quiet : (ram : ℕ) (f : DriverConfig) (lots : List Lot) (t : Turn) → All (IsLotIn ram f) lots → IsFirstTurn t → IsQuietTurn f lots t
 first_quiet ram f lots turns.Stay all is = record { ended = refl; pages = refl }
 first_quiet ram f lots (turns.Lend id) all is = record { ended = refl; pages = ends_quiet ram f lots id all is }
 first_quiet ram f lots (turns.Return id) all is = record { ended = refl; pages = refl }

@@ -28,7 +28,7 @@ use Rattle.nc_rules.specs.declared.steps.Phase.TheVariants.{Steps, Search, Work}
 use Rattle.nc_rules.specs.declared.steps.Seen.{Seen}
 use Rattle.nc_rules.specs.declared.steps.Step.{Step}
 use Rattle.nc_rules.specs.declared.steps.Turn.TheVariants as turns
-use Rattle.nc_rules.specs.Lots.{Fixed, lot_id, is_wanted, lot_waits, some_lot_waits, area_lot}
+use Rattle.nc_rules.specs.Lots.{DriverConfig, lot_id, is_wanted, lot_waits, some_lot_waits, area_lot}
 use Rattle.nc_rules.specs.Refusals.{owned, owned_but, buffer_of}
 use Rattle.nc_rules.specs.Turns.{lots_after, turned}
 use Rattle.nc_rules.specs.Areas as areas
@@ -127,7 +127,7 @@ settled_lent lots all = all_to IsSettled (λ (lot : Lot). is_wanted lot.side ≡
 settled_placed : (lots : List Lot) → All IsSettled lots → All IsPlaced lots
 settled_placed lots all = all_to IsSettled IsPlaced lots all (λ lot h. h.placed)
 
-hand_can : (f : Fixed) (s : Held) (new : List Lot) (o : Op) (buf : ℕ) (to : HartNo) → All IsSettled s.lots → begin f s.lots s.owners s.pages o ≡ Ok new → o ≡ ops.Hand buf to → CanPass f (changed f s (Made new)) buf
+hand_can : (f : DriverConfig) (s : Held) (new : List Lot) (o : Op) (buf : ℕ) (to : HartNo) → All IsSettled s.lots → begin f s.lots s.owners s.pages o ≡ Ok new → o ≡ ops.Hand buf to → CanPass f (changed f s (Made new)) buf
 hand_can f s new o buf to settled e is =
     let k = handed f s.lots new s.owners s.pages buf to (subst (λ (p : Op). begin f s.lots s.owners s.pages p ≡ Ok new) is e) in
     record {
@@ -135,7 +135,7 @@ hand_can f s new o buf to settled e is =
       lent = subst (λ (ls : List Lot). AllLent (s.lots ++ ls)) k.none (subst (λ (ls : List Lot). AllLent ls) (sym (append-nil s.lots)) (settled_lent s.lots settled));
     }
 
-area_opening : (f : Fixed) (lots : List Lot) (label : Label) (count : ℕ) (chan : ChanNo) → opening f lots (ops.Calloc label count chan) ≡ turns.Lend (lot_id label 0)
+area_opening : (f : DriverConfig) (lots : List Lot) (label : Label) (count : ℕ) (chan : ChanNo) → opening f lots (ops.Calloc label count chan) ≡ turns.Lend (lot_id label 0)
 unfolding opening meaning areas.calloc
 area_opening f lots label count chan = refl
 

@@ -17,7 +17,7 @@ use Rattle.nc_rules.specs.declared.steps.Phase.TheVariants.{Steps, Search, Work}
 use Rattle.nc_rules.specs.declared.steps.Step.{Step}
 use Rattle.nc_rules.specs.declared.answers.Refusal.{Refusal}
 use Rattle.std.specs.Prelude.{Result, Ok, Err}
-use Rattle.nc_rules.specs.Lots.{Fixed, is_wanted, lot_waits, some_lot_waits, slot_given}
+use Rattle.nc_rules.specs.Lots.{DriverConfig, is_wanted, lot_waits, some_lot_waits, slot_given}
 use Rattle.nc_rules.specs.Operations.{has_start, step_at}
 use Rattle.nc_rules.specs.Driver.{DriverState, in_hand, next_of, next_of_op, next_in, next_act, next_rest, next_step, searched, searching, stays, give_up, searches, told, told_of, told_in, told_word}
 use Rattle.nc_scripts.specs.Drivers.{IsSettled, AreMade, made_names, IsSearching, IsPhase, IsDriver}
@@ -49,7 +49,7 @@ makes_start : (o : Op) (lots : List Lot) (t : Bool) → has_start o ≡ t → Ar
 makes_start o lots true e made w = e
 makes_start o lots false e made w = absurd (made_some o lots made w (no_names o e))
 
-no_hand : (f : Fixed) (m : Held) (o : Op) (lots : List Lot) (buf : ℕ) (to : HartNo) → AreMade o lots → some_lot_waits lots ≡ true → o ≡ ops.Hand buf to → CanPass f m buf
+no_hand : (f : DriverConfig) (m : Held) (o : Op) (lots : List Lot) (buf : ℕ) (to : HartNo) → AreMade o lots → some_lot_waits lots ≡ true → o ≡ ops.Hand buf to → CanPass f m buf
 no_hand f m o lots buf to made w is = absurd (made_some o lots made w (ap made_names is))
 
 made_unlent : (o : Op) (lots : List Lot) → AreMade o lots → WaitsUnlent lots
@@ -65,7 +65,7 @@ missed_if ram d s o k true = record { shape = Plainly (here s d.lots) (As refl) 
 missed_if ram d s o k false = gives_up ram d s o refusals.NoSlot
 
 -- the slot words with that one where it is got
-abbrev pub words_now : Bool → Fixed → Held → ℕ → List (Option HartNo)
+abbrev pub words_now : Bool → DriverConfig → Held → ℕ → List (Option HartNo)
 words_now true f s k = slice_set s.slots k (Some f.me)
 words_now false f s k = s.slots
 

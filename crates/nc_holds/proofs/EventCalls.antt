@@ -6,7 +6,7 @@ use Rattle.nc_coherent.specs.Pages.{PageMap}
 use Rattle.nc_rules.specs.declared.lots.Lot.{Lot}
 use Rattle.nc_rules.specs.declared.steps.Turn.{Turn}
 use Rattle.nc_rules.specs.declared.steps.Turn.TheVariants as turns
-use Rattle.nc_rules.specs.Lots.{Fixed}
+use Rattle.nc_rules.specs.Lots.{DriverConfig}
 use Rattle.nc_rules.specs.Turns.{Moved, moved, lots_after, lots_after_both, grants_of, backs_of, pages_of, turned, given_up, without_wanted}
 use Rattle.nc_rules.specs.World.{owners_moved, grants_added, grants_ended, slots_back, pages_moved}
 use Rattle.nc_rules.specs.Driver.{Went}
@@ -21,7 +21,7 @@ use Rattle.nc_holds.proofs.EventHart.{Everyone, each_held, IsOneChange, change_s
 use Rattle.nc_holds.proofs.EventMoves.{moved_by, stayed, dropped, both_turned, grants_of_both, pages_of_both, backs_both}
 
 -- what is moved may be moved, where the slot words are these
-pub record MayBeMoved (ram : ℕ) (f : Fixed) (s : Held) (now : List (Option HartNo)) (moves : Moved) : Type 0 where
+pub record MayBeMoved (ram : ℕ) (f : DriverConfig) (s : Held) (now : List (Option HartNo)) (moves : Moved) : Type 0 where
   pub grants : CanAddAll ram s.grants moves.grants
   pub backs : AreBack f.me now moves.backs
   pub pages : MayMovePages s.pages moves.pages
@@ -43,12 +43,12 @@ record SharesAll (s m : Held) : Type 0 where
   grants : m.grants ≡ s.grants
   pages : m.pages ≡ s.pages
 
-begun_shares : (ram : ℕ) (f : Fixed) (s m : Held) → Begins ram f s m → SharesAll s m
+begun_shares : (ram : ℕ) (f : DriverConfig) (s m : Held) → Begins ram f s m → SharesAll s m
 begun_shares ram f s m (As e) = record { owners = ap (λ (h : Held). h.owners) e; grants = ap (λ (h : Held). h.grants) e; pages = ap (λ (h : Held). h.pages) e }
 begun_shares ram f s m (Makes new making areas none e) = record { owners = ap (λ (h : Held). h.owners) e; grants = ap (λ (h : Held). h.grants) e; pages = ap (λ (h : Held). h.pages) e }
 begun_shares ram f s m (Gets k may lt e) = record { owners = ap (λ (h : Held). h.owners) e; grants = ap (λ (h : Held). h.grants) e; pages = ap (λ (h : Held). h.pages) e }
 
-begun_stays : (laws : OwnerLaws) (ram n h : ℕ) (f : Fixed) (fixed : ℕ → Fixed) (lots : ℕ → List Lot) (s m : Held) → Everyone ram n h f fixed lots s → Begins ram f s m → Everyone ram n h f fixed lots m
+begun_stays : (laws : OwnerLaws) (ram n h : ℕ) (f : DriverConfig) (fixed : ℕ → DriverConfig) (lots : ℕ → List Lot) (s m : Held) → Everyone ram n h f fixed lots s → Begins ram f s m → Everyone ram n h f fixed lots m
 begun_stays laws ram n h f fixed lots s m all (As e) = subst (λ (x : Held). Everyone ram n h f fixed lots x) (sym e) all
 begun_stays laws ram n h f fixed lots s m all (Makes new making areas none e) =
     subst (λ (x : Held). Everyone ram n h f fixed lots x) (sym e) (change_stays laws ram n h f fixed lots s (Made new) all ((making, areas), making.may, none))
@@ -57,7 +57,7 @@ begun_stays laws ram n h f fixed lots s m all (Gets k may lt e) =
 
 -- ---- its end
 
-turn_one : (ram : ℕ) (f : Fixed) (m : Held) (t : Turn) → MakesTurn f m t → IsOneChange ram f m (Turned t)
+turn_one : (ram : ℕ) (f : DriverConfig) (m : Held) (t : Turn) → MakesTurn f m t → IsOneChange ram f m (Turned t)
 turn_one ram f m t h = ((h.may, h.fits), h.may, tt)
 
 after_went : Held → Went → Held
@@ -67,7 +67,7 @@ went_by : (m to : Held) (went : Went) (lots : List Lot) (moves : Moved) → went
 unfolding after_went
 went_by m to went lots moves el em e = (λ i. moved_by m (el i) (em i)) ∙ e
 
-ends_stay : (laws : OwnerLaws) (ram n h : ℕ) (f : Fixed) (fixed : ℕ → Fixed) (lots : ℕ → List Lot) (m : Held) (went : Went) → Everyone ram n h f fixed lots m → Ends f m went → Everyone ram n h f fixed lots (after_went m went)
+ends_stay : (laws : OwnerLaws) (ram n h : ℕ) (f : DriverConfig) (fixed : ℕ → DriverConfig) (lots : ℕ → List Lot) (m : Held) (went : Went) → Everyone ram n h f fixed lots m → Ends f m went → Everyone ram n h f fixed lots (after_went m went)
 ends_stay laws ram n h f fixed lots m went all (Stays el em) =
     subst (λ (x : Held). Everyone ram n h f fixed lots x) (sym (went_by m m went m.lots (moved [] None) el em (stayed m))) all
 ends_stay laws ram n h f fixed lots m went all (Drops a el em) =
@@ -80,7 +80,7 @@ ends_stay laws ram n h f fixed lots m went all (Turns t u a mt mu both el em) =
 
 -- ---- what its end moves
 
-turn_grants : (laws : OwnerLaws) (ram n h : ℕ) (f : Fixed) (fixed : ℕ → Fixed) (lots : ℕ → List Lot) (m : Held) (t : Turn) → Everyone ram n h f fixed lots m → MakesTurn f m t → CanAddAll ram m.grants (grants_of f.me f.slots_at m.lots t)
+turn_grants : (laws : OwnerLaws) (ram n h : ℕ) (f : DriverConfig) (fixed : ℕ → DriverConfig) (lots : ℕ → List Lot) (m : Held) (t : Turn) → Everyone ram n h f fixed lots m → MakesTurn f m t → CanAddAll ram m.grants (grants_of f.me f.slots_at m.lots t)
 turn_grants laws ram n h f fixed lots m turns.Stay all mt = tt
 turn_grants laws ram n h f fixed lots m (turns.Pass range to) all mt = tt
 turn_grants laws ram n h f fixed lots m (turns.Own range) all mt = tt
@@ -92,10 +92,10 @@ turn_grants laws ram n h f fixed lots m (turns.Sync id) all mt = tt
 turn_grants laws ram n h f fixed lots m (turns.Settle id) all mt = tt
 turn_grants laws ram n h f fixed lots m (turns.End id) all mt = tt
 
-turn_pages : (laws : OwnerLaws) (ram n h : ℕ) (f : Fixed) (fixed : ℕ → Fixed) (lots : ℕ → List Lot) (m : Held) (t : Turn) → Everyone ram n h f fixed lots m → MakesTurn f m t → MayMovePages m.pages (pages_of m.lots t)
+turn_pages : (laws : OwnerLaws) (ram n h : ℕ) (f : DriverConfig) (fixed : ℕ → DriverConfig) (lots : ℕ → List Lot) (m : Held) (t : Turn) → Everyone ram n h f fixed lots m → MakesTurn f m t → MayMovePages m.pages (pages_of m.lots t)
 turn_pages laws ram n h f fixed lots m t all mt = laws.may_move_pages ram n f m t all.knows all.mine (mt.may, mt.fits)
 
-ends_move : (laws : OwnerLaws) (ram n h : ℕ) (f : Fixed) (fixed : ℕ → Fixed) (lots : ℕ → List Lot) (m : Held) (went : Went) → Everyone ram n h f fixed lots m → Ends f m went → MayBeMoved ram f m m.slots went.moves
+ends_move : (laws : OwnerLaws) (ram n h : ℕ) (f : DriverConfig) (fixed : ℕ → DriverConfig) (lots : ℕ → List Lot) (m : Held) (went : Went) → Everyone ram n h f fixed lots m → Ends f m went → MayBeMoved ram f m m.slots went.moves
 ends_move laws ram n h f fixed lots m went all (Stays el em) = subst (λ (x : Moved). MayBeMoved ram f m m.slots x) (sym em) (record { grants = tt; backs = tt; pages = tt })
 ends_move laws ram n h f fixed lots m went all (Drops a el em) =
     subst (λ (x : Moved). MayBeMoved ram f m m.slots x) (sym em) (record { grants = tt; backs = (dropped_words f.me m.slots m.lots all.words).backs; pages = tt })
@@ -111,7 +111,7 @@ ends_move laws ram n h f fixed lots m went all (Turns t u a mt mu both el em) =
 
 -- ---- the whole call
 
-same_after : (ram : ℕ) (f : Fixed) (s m : Held) (now : List (Option HartNo)) (went : Went) → Begins ram f s m → m.slots ≡ now → after_went m went ≡ after_call s now went
+same_after : (ram : ℕ) (f : DriverConfig) (s m : Held) (now : List (Option HartNo)) (went : Went) → Begins ram f s m → m.slots ≡ now → after_went m went ≡ after_call s now went
 unfolding after_went after_call moved_by
 same_after ram f s m now went begins e =
     let k = begun_shares ram f s m begins in
@@ -123,7 +123,7 @@ same_after ram f s m now went begins e =
       pages = pages_moved (k.pages i) went.moves.pages;
     }
 
-same_moves : (ram : ℕ) (f : Fixed) (s m : Held) (now : List (Option HartNo)) (moves : Moved) → Begins ram f s m → m.slots ≡ now → MayBeMoved ram f m m.slots moves → MayBeMoved ram f s now moves
+same_moves : (ram : ℕ) (f : DriverConfig) (s m : Held) (now : List (Option HartNo)) (moves : Moved) → Begins ram f s m → m.slots ≡ now → MayBeMoved ram f m m.slots moves → MayBeMoved ram f s now moves
 same_moves ram f s m now moves begins e h =
     let k = begun_shares ram f s m begins in
     record {
@@ -133,7 +133,7 @@ same_moves ram f s m now moves begins e h =
     }
 
 -- an area that is made and lent, at once
-area_after : (ram : ℕ) (f : Fixed) (s : Held) (now : List (Option HartNo)) (went : Went) (k : Allocates ram f s went) → s.slots ≡ now → after_call s now went ≡ area_made f s k.lot
+area_after : (ram : ℕ) (f : DriverConfig) (s : Held) (now : List (Option HartNo)) (went : Went) (k : Allocates ram f s went) → s.slots ≡ now → after_call s now went ≡ area_made f s k.lot
 unfolding after_call moved_by after_went
 area_after ram f s now went k e =
     let m = changed f s (Made (k.lot ∷ [])) in
@@ -149,7 +149,7 @@ area_after ram f s now went k e =
       pages = pages_moved s.pages went.moves.pages;
     }
 
-area_moves : (laws : OwnerLaws) (ram n h : ℕ) (f : Fixed) (fixed : ℕ → Fixed) (lots : ℕ → List Lot) (s : Held) (went : Went) → Everyone ram n h f fixed lots s → (k : Allocates ram f s went) → MayBeMoved ram f s s.slots went.moves
+area_moves : (laws : OwnerLaws) (ram n h : ℕ) (f : DriverConfig) (fixed : ℕ → DriverConfig) (lots : ℕ → List Lot) (s : Held) (went : Went) → Everyone ram n h f fixed lots s → (k : Allocates ram f s went) → MayBeMoved ram f s s.slots went.moves
 area_moves laws ram n h f fixed lots s went all k =
     let m = changed f s (Made (k.lot ∷ [])) in
     let lend = turns.Lend k.lot.id in
@@ -159,19 +159,19 @@ area_moves laws ram n h f fixed lots s went all k =
       pages = pages_of_both f m lend turns.Stay k.answer (inl refl) (laws.area_may_move_pages ram n f s k.lot all.knows all.mine k.making k.area) tt;
     })
 
-shape_stays : (laws : OwnerLaws) (ram n h : ℕ) (f : Fixed) (fixed : ℕ → Fixed) (lots : ℕ → List Lot) (s : Held) (now : List (Option HartNo)) (went : Went) → Everyone ram n h f fixed lots s → Shape ram f s now went → Everyone ram n h f fixed lots (after_call s now went)
+shape_stays : (laws : OwnerLaws) (ram n h : ℕ) (f : DriverConfig) (fixed : ℕ → DriverConfig) (lots : ℕ → List Lot) (s : Held) (now : List (Option HartNo)) (went : Went) → Everyone ram n h f fixed lots s → Shape ram f s now went → Everyone ram n h f fixed lots (after_call s now went)
 shape_stays laws ram n h f fixed lots s now went all (Plainly m begins ends e) =
     subst (λ (x : Held). Everyone ram n h f fixed lots x) (same_after ram f s m now went begins e) (ends_stay laws ram n h f fixed lots m went (begun_stays laws ram n h f fixed lots s m all begins) ends)
 shape_stays laws ram n h f fixed lots s now went all (ByArea k e) =
     subst (λ (x : Held). Everyone ram n h f fixed lots x) (sym (area_after ram f s now went k e)) (area_stays laws ram n h f fixed lots s k.lot all k.making k.area k.unplaced)
 
-pub call_stays : (laws : OwnerLaws) (ram n h : ℕ) (f : Fixed) (fixed : ℕ → Fixed) (lots : ℕ → List Lot) (s : Held) (now : List (Option HartNo)) (went : Went) → Everyone ram n h f fixed lots s → IsCall ram f s now went → Everyone ram n h f fixed lots (after_call s now went)
+pub call_stays : (laws : OwnerLaws) (ram n h : ℕ) (f : DriverConfig) (fixed : ℕ → DriverConfig) (lots : ℕ → List Lot) (s : Held) (now : List (Option HartNo)) (went : Went) → Everyone ram n h f fixed lots s → IsCall ram f s now went → Everyone ram n h f fixed lots (after_call s now went)
 call_stays laws ram n h f fixed lots s now went all call = shape_stays laws ram n h f fixed lots s now went all call.shape
 
-shape_moves : (laws : OwnerLaws) (ram n h : ℕ) (f : Fixed) (fixed : ℕ → Fixed) (lots : ℕ → List Lot) (s : Held) (now : List (Option HartNo)) (went : Went) → Everyone ram n h f fixed lots s → Shape ram f s now went → MayBeMoved ram f s now went.moves
+shape_moves : (laws : OwnerLaws) (ram n h : ℕ) (f : DriverConfig) (fixed : ℕ → DriverConfig) (lots : ℕ → List Lot) (s : Held) (now : List (Option HartNo)) (went : Went) → Everyone ram n h f fixed lots s → Shape ram f s now went → MayBeMoved ram f s now went.moves
 shape_moves laws ram n h f fixed lots s now went all (Plainly m begins ends e) =
     same_moves ram f s m now went.moves begins e (ends_move laws ram n h f fixed lots m went (begun_stays laws ram n h f fixed lots s m all begins) ends)
 shape_moves laws ram n h f fixed lots s now went all (ByArea k e) = subst (λ (ws : List (Option HartNo)). MayBeMoved ram f s ws went.moves) e (area_moves laws ram n h f fixed lots s went all k)
 
-pub call_moves : (laws : OwnerLaws) (ram n h : ℕ) (f : Fixed) (fixed : ℕ → Fixed) (lots : ℕ → List Lot) (s : Held) (now : List (Option HartNo)) (went : Went) → Everyone ram n h f fixed lots s → IsCall ram f s now went → MayBeMoved ram f s now went.moves
+pub call_moves : (laws : OwnerLaws) (ram n h : ℕ) (f : DriverConfig) (fixed : ℕ → DriverConfig) (lots : ℕ → List Lot) (s : Held) (now : List (Option HartNo)) (went : Went) → Everyone ram n h f fixed lots s → IsCall ram f s now went → MayBeMoved ram f s now went.moves
 call_moves laws ram n h f fixed lots s now went all call = shape_moves laws ram n h f fixed lots s now went all call.shape

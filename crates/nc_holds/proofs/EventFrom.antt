@@ -9,7 +9,7 @@ use Rattle.nc_plan.specs.Plans.{In}
 use Rattle.nc_model.specs.declared.owners.Grant.{Grant}
 use Rattle.nc_coherent.specs.Pages.{PageMap}
 use Rattle.nc_rules.specs.declared.lots.Lot.{Lot}
-use Rattle.nc_rules.specs.Lots.{Fixed}
+use Rattle.nc_rules.specs.Lots.{DriverConfig}
 use Rattle.nc_rules.specs.Machine.{MachineState}
 use Rattle.nc_rules.specs.Driver.{DriverState, Went}
 use Rattle.nc_rules.specs.World.{WorldState, no_driver, driver_of, with_moves}
@@ -29,7 +29,7 @@ use Rattle.nc_holds.proofs.EventCalls.{after_call, call_stays}
 
 -- ---- from a world
 
-abbrev pub fixed_in : WorldState → ℕ → Fixed
+abbrev pub fixed_in : WorldState → ℕ → DriverConfig
 fixed_in w g = (driver_of w g).fixed
 
 abbrev pub lots_in : WorldState → ℕ → List Lot
@@ -128,7 +128,7 @@ gone_on w h machine now went = with_moves (record w { machine = machine; drivers
 driver_away : (w : WorldState) (h g : ℕ) (d : DriverState) → g ≢ h → driver_of (record w { drivers = slice_set w.drivers h d }) g ≡ driver_of w g
 driver_away w h g d ne = get_or-set_other w.drivers h g d no_driver ne
 
-alike_pages : (f g : Fixed) (pool : PageMap) → KnowsAlike f g → ArePagesOf f pool → ArePagesOf g pool
+alike_pages : (f g : DriverConfig) (pool : PageMap) → KnowsAlike f g → ArePagesOf f pool → ArePagesOf g pool
 alike_pages f g pool a h = record { at = h.at ∙ ap (λ (s : Span). s.at) a.pool; len = h.len ∙ ap (λ (s : Span). s.len) a.pool }
 
 -- the setting of a driver in the world behind
@@ -151,12 +151,12 @@ own_behind w h machine now went all go every =
     let s = setting_behind w h h machine now went all go every go.there in
     record {
       driver = rw (go.shape.ram, go.shape.harts) go.driver;
-      me = ap (λ (f : Fixed). f.me.0) go.fixed ∙ every.me;
-      setting = subst (λ (f : Fixed). IsSetting f (gone_on w h machine now went)) (sym go.fixed) s;
-      regions = subst (λ (f : Fixed). AreRegions f) (sym go.fixed) every.knows.regions;
+      me = ap (λ (f : DriverConfig). f.me.0) go.fixed ∙ every.me;
+      setting = subst (λ (f : DriverConfig). IsSetting f (gone_on w h machine now went)) (sym go.fixed) s;
+      regions = subst (λ (f : DriverConfig). AreRegions f) (sym go.fixed) every.knows.regions;
       turns = go.call.plan;
       waits = every.waits;
-      agrees = subst (λ (f : Fixed). HartAgrees f (after_call (held_of w h) now went)) (sym go.fixed) (agrees_mine (fixed_in w h) (after_call (held_of w h) now went) every.mine every.words);
+      agrees = subst (λ (f : DriverConfig). HartAgrees f (after_call (held_of w h) now went)) (sym go.fixed) (agrees_mine (fixed_in w h) (after_call (held_of w h) now went) every.mine every.words);
     }
 
 other_behind : (w : WorldState) (h g : ℕ) (machine : MachineState) (now : List (Option HartNo)) (went : Went) → Holds w → GoesOn w h machine now went → EveryoneIn w h (after_call (held_of w h) now went) → g < length w.machine.harts → g ≢ h
@@ -199,7 +199,7 @@ grant_behind w h machine now went x all go every here_x = elim (cases_eq x.id.ha
   | inl same ↦
       let at : h < length w.drivers = subst (λ n. h < n) (sym all.drivers) go.there in
       let is = every.mine.held x here_x (same ∙ sym every.me) in
-      let mine = subst (λ (d : DriverState). IsGrantOf d.fixed d.lots x) (sym (get_or-set_same w.drivers h went.driver no_driver at)) (subst (λ (f : Fixed). IsGrantOf f went.driver.lots x) (sym go.fixed) is) in
+      let mine = subst (λ (d : DriverState). IsGrantOf d.fixed d.lots x) (sym (get_or-set_same w.drivers h went.driver no_driver at)) (subst (λ (f : DriverConfig). IsGrantOf f went.driver.lots x) (sym go.fixed) is) in
       record {
         hart = rw go.shape.harts (subst (λ (k : ℕ). k < length w.machine.harts) (sym same) go.there);
         is = subst (λ (k : ℕ). IsGrantOf (driver_of (gone_on w h machine now went) k).fixed (driver_of (gone_on w h machine now went) k).lots x) (sym same) mine;
@@ -227,5 +227,5 @@ goes_stays laws w h machine now went all go =
   where
     alike_by : (a b : ℕ) → KnowsAlike (fixed_in w a) (fixed_in w b) → KnowsAlike (driver_of (gone_on w h machine now went) a).fixed (driver_of (gone_on w h machine now went) b).fixed
     alike_by a b k =
-        subst (λ (f : Fixed). KnowsAlike f (driver_of (gone_on w h machine now went) b).fixed) (sym (fixed_behind w h a machine now went all go))
-        (subst (λ (f : Fixed). KnowsAlike (fixed_in w a) f) (sym (fixed_behind w h b machine now went all go)) k)
+        subst (λ (f : DriverConfig). KnowsAlike f (driver_of (gone_on w h machine now went) b).fixed) (sym (fixed_behind w h a machine now went all go))
+        (subst (λ (f : DriverConfig). KnowsAlike (fixed_in w a) f) (sym (fixed_behind w h b machine now went all go)) k)

@@ -7,7 +7,7 @@ use Rattle.nc_plan.specs.Plans.{In}
 use Rattle.nc_model.specs.declared.owners.Grant.{Grant}
 use Rattle.nc_rules.specs.declared.lots.Lot.{Lot}
 use Rattle.nc_rules.specs.declared.steps.Turn.TheVariants as turns
-use Rattle.nc_rules.specs.Lots.{Fixed, slots_held}
+use Rattle.nc_rules.specs.Lots.{DriverConfig, slots_held}
 use Rattle.nc_rules.specs.Turns.{is_area, backs_of, slots_wanted}
 use Rattle.nc_scripts.specs.Drivers.{AreApart}
 use Rattle.nc_holds.specs.Held.{Held, EntriesAreApart, WordsAgree, IsGrantOf, HartAgrees}
@@ -22,7 +22,7 @@ use Rattle.nc_holds.proofs.EventGiven.{OwnerLaws, area_made}
 -- ---- all harts
 
 -- another hart's lots agree too
-pub record HasTheirs (ram : ℕ) (f other : Fixed) (lots : List Lot) (g : ℕ) (s : Held) : Type 0 where
+pub record HasTheirs (ram : ℕ) (f other : DriverConfig) (lots : List Lot) (g : ℕ) (s : Held) : Type 0 where
   pub theirs : Theirs ram f other s lots
   pub me : other.me.0 ≡ g
   pub names : AreApart lots
@@ -30,12 +30,12 @@ pub record HasTheirs (ram : ℕ) (f other : Fixed) (lots : List Lot) (g : ℕ) (
   pub words : WordsAgree other.me s.slots lots
   pub waits : WaitsUnlent lots
 
-pub record IsTheirGrant (n : ℕ) (fixed : ℕ → Fixed) (lots : ℕ → List Lot) (x : Grant) : Type 0 where
+pub record IsTheirGrant (n : ℕ) (fixed : ℕ → DriverConfig) (lots : ℕ → List Lot) (x : Grant) : Type 0 where
   pub hart : x.id.hart.0 < n
   pub is : IsGrantOf (fixed x.id.hart.0) (lots x.id.hart.0) x
 
 -- hart h, which knows f, and whose lots are those of s; what the n harts know, and the lots of the others
-pub record Everyone (ram n h : ℕ) (f : Fixed) (fixed : ℕ → Fixed) (lots : ℕ → List Lot) (s : Held) : Type 0 where
+pub record Everyone (ram n h : ℕ) (f : DriverConfig) (fixed : ℕ → DriverConfig) (lots : ℕ → List Lot) (s : Held) : Type 0 where
   pub knows : Knows ram n f s
   pub me : f.me.0 ≡ h
   pub mine : Mine f s
@@ -47,13 +47,13 @@ pub record Everyone (ram n h : ℕ) (f : Fixed) (fixed : ℕ → Fixed) (lots : 
 
 -- ---- each grant is held
 
-alike_self : (f : Fixed) → KnowsAlike f f
+alike_self : (f : DriverConfig) → KnowsAlike f f
 alike_self f = record { buffers = refl; slots_at = refl; slots = refl; pool = refl; size = refl }
 
-pub agrees_mine : (f : Fixed) (s : Held) → Mine f s → WordsAgree f.me s.slots s.lots → HartAgrees f s
+pub agrees_mine : (f : DriverConfig) (s : Held) → Mine f s → WordsAgree f.me s.slots s.lots → HartAgrees f s
 agrees_mine f s m words = record { sides = m.sides; apart = m.apart; owners = m.owners; granted = m.granted; words = words; pages = m.pages }
 
-pub agrees_theirs : (ram : ℕ) (f other : Fixed) (lots : List Lot) (g : ℕ) (s : Held) → HasTheirs ram f other lots g s → HartAgrees other (here s lots)
+pub agrees_theirs : (ram : ℕ) (f other : DriverConfig) (lots : List Lot) (g : ℕ) (s : Held) → HasTheirs ram f other lots g s → HartAgrees other (here s lots)
 agrees_theirs ram f other lots g s h = record {
   sides = h.theirs.sides;
   apart = h.apart;
@@ -63,7 +63,7 @@ agrees_theirs ram f other lots g s h = record {
   pages = h.theirs.pages;
 }
 
-held_other : (ram n h : ℕ) (f : Fixed) (fixed : ℕ → Fixed) (lots : ℕ → List Lot) (s : Held) (x : Grant) → Everyone ram n h f fixed lots s → In x s.grants → x.id.hart.0 ≢ h → IsHeldBy ram f s x
+held_other : (ram n h : ℕ) (f : DriverConfig) (fixed : ℕ → DriverConfig) (lots : ℕ → List Lot) (s : Held) (x : Grant) → Everyone ram n h f fixed lots s → In x s.grants → x.id.hart.0 ≢ h → IsHeldBy ram f s x
 held_other ram n h f fixed lots s x all here_x ne =
     let is = all.grants x here_x ne in
     let g = x.id.hart.0 in
@@ -80,7 +80,7 @@ held_other ram n h f fixed lots s x all here_x ne =
       is = is.is;
     }
 
-pub each_held : (ram n h : ℕ) (f : Fixed) (fixed : ℕ → Fixed) (lots : ℕ → List Lot) (s : Held) → Everyone ram n h f fixed lots s → EachIsHeld ram f s
+pub each_held : (ram n h : ℕ) (f : DriverConfig) (fixed : ℕ → DriverConfig) (lots : ℕ → List Lot) (s : Held) → Everyone ram n h f fixed lots s → EachIsHeld ram f s
 each_held ram n h f fixed lots s all x here_x = elim (cases_eq x.id.hart.0 h) [
   | inl same ↦ record {
     other = f;
@@ -98,19 +98,19 @@ each_held ram n h f fixed lots s all x here_x = elim (cases_eq x.id.hart.0 h) [
 
 -- ---- a change
 
-abbrev pub IsOneChange : ℕ → Fixed → Held → Change → Type 0
+abbrev pub IsOneChange : ℕ → DriverConfig → Held → Change → Type 0
 IsOneChange ram f s c = Fits ram f s c × MayChange f s c × MakesUnplaced c
 
-length-changed : (f : Fixed) (s : Held) (c : Change) → length (changed f s c).slots ≡ length s.slots
+length-changed : (f : DriverConfig) (s : Held) (c : Change) → length (changed f s c).slots ≡ length s.slots
 length-changed f s (Made new) = refl
 length-changed f s (Got k) = length-set s.slots k (Some f.me)
 length-changed f s (Turned t) = length-back s.slots (backs_of s.lots t)
 length-changed f s Dropped = length-back s.slots (slots_wanted s.lots)
 
-other_me : (ram : ℕ) (f other : Fixed) (lots : List Lot) (g h : ℕ) (s : Held) → HasTheirs ram f other lots g s → f.me.0 ≡ h → g ≢ h → other.me.0 ≢ f.me.0
+other_me : (ram : ℕ) (f other : DriverConfig) (lots : List Lot) (g h : ℕ) (s : Held) → HasTheirs ram f other lots g s → f.me.0 ≡ h → g ≢ h → other.me.0 ≢ f.me.0
 other_me ram f other lots g h s t me ne e = ne (sym t.me ∙ e ∙ me)
 
-pub change_stays : (laws : OwnerLaws) (ram n h : ℕ) (f : Fixed) (fixed : ℕ → Fixed) (lots : ℕ → List Lot) (s : Held) (c : Change) → Everyone ram n h f fixed lots s → IsOneChange ram f s c → Everyone ram n h f fixed lots (changed f s c)
+pub change_stays : (laws : OwnerLaws) (ram n h : ℕ) (f : DriverConfig) (fixed : ℕ → DriverConfig) (lots : ℕ → List Lot) (s : Held) (c : Change) → Everyone ram n h f fixed lots s → IsOneChange ram f s c → Everyone ram n h f fixed lots (changed f s c)
 change_stays laws ram n h f fixed lots s c all is = record {
   knows = laws.knows_stay ram n f s c all.knows is.0;
   me = all.me;
@@ -133,10 +133,10 @@ change_stays laws ram n h f fixed lots s c all is = record {
     }
 
 -- an area
-area_words : (f : Fixed) (s : Held) (lot : Lot) → flat_map slots_held (lot ∷ []) ≡ [] → length s.slots ≡ f.slots → WordsAgree f.me s.slots s.lots → MayChange f s (Made (lot ∷ [])) → WordsAgree f.me s.slots (s.lots ++ lot ∷ [])
+area_words : (f : DriverConfig) (s : Held) (lot : Lot) → flat_map slots_held (lot ∷ []) ≡ [] → length s.slots ≡ f.slots → WordsAgree f.me s.slots s.lots → MayChange f s (Made (lot ∷ [])) → WordsAgree f.me s.slots (s.lots ++ lot ∷ [])
 area_words f s lot none long words may = words_own f s (Made (lot ∷ [])) long may none words
 
-pub area_stays : (laws : OwnerLaws) (ram n h : ℕ) (f : Fixed) (fixed : ℕ → Fixed) (lots : ℕ → List Lot) (s : Held) (lot : Lot) → Everyone ram n h f fixed lots s → IsMaking ram f s (lot ∷ []) → is_area lot.kind ≡ true → flat_map slots_held (lot ∷ []) ≡ []
+pub area_stays : (laws : OwnerLaws) (ram n h : ℕ) (f : DriverConfig) (fixed : ℕ → DriverConfig) (lots : ℕ → List Lot) (s : Held) (lot : Lot) → Everyone ram n h f fixed lots s → IsMaking ram f s (lot ∷ []) → is_area lot.kind ≡ true → flat_map slots_held (lot ∷ []) ≡ []
     → Everyone ram n h f fixed lots (area_made f s lot)
 area_stays laws ram n h f fixed lots s lot all making area none = record {
   knows = laws.area_knows_stay ram n f s lot all.knows all.mine making area;

@@ -16,7 +16,7 @@ use Rattle.nc_rules.specs.declared.steps.PageMove.TheVariants as pages
 use Rattle.nc_rules.specs.declared.steps.Turn.{Turn}
 use Rattle.nc_rules.specs.declared.steps.Turn.TheVariants as turns
 use Rattle.std.specs.Prelude.{slice_set}
-use Rattle.nc_rules.specs.Lots.{Fixed}
+use Rattle.nc_rules.specs.Lots.{DriverConfig}
 use Rattle.nc_rules.specs.Turns.{Moved, moved, lots_after, lots_after_both, transfers_of, grants_of, ended_of, backs_of, pages_of, page_move, turned, turned_by, given_up, without_wanted}
 use Rattle.nc_rules.specs.World.{owners_moved, grants_added, grants_ended, slots_back, pages_moved}
 use Rattle.nc_holds.specs.Held.{Held}
@@ -62,12 +62,12 @@ pub stayed : (m : Held) → moved_by m m.lots (moved [] None) ≡ m
 unfolding moved_by
 stayed m = refl
 
-pub dropped : (f : Fixed) (m : Held) (a : Answer) → moved_by m (without_wanted m.lots) (given_up m.lots a) ≡ changed f m Dropped
+pub dropped : (f : DriverConfig) (m : Held) (a : Answer) → moved_by m (without_wanted m.lots) (given_up m.lots a) ≡ changed f m Dropped
 unfolding moved_by
 dropped f m a = refl
 
 -- the second turn is none
-first_alone : (f : Fixed) (m : Held) (t : Turn) (a : Option Answer) → moved_by m (lots_after_both t turns.Stay m.lots) (turned f m.lots t turns.Stay a) ≡ changed f (changed f m (Turned t)) (Turned turns.Stay)
+first_alone : (f : DriverConfig) (m : Held) (t : Turn) (a : Option Answer) → moved_by m (lots_after_both t turns.Stay m.lots) (turned f m.lots t turns.Stay a) ≡ changed f (changed f m (Turned t)) (Turned turns.Stay)
 unfolding moved_by turned_by
 first_alone f m t a = λ i. record {
   lots = lots_after t m.lots;
@@ -87,7 +87,7 @@ pages_both : (pool : PageMap) (p q : PageMove) → p ≡ pages.Stay → pages_mo
 pages_both pool p q e = ap (λ (r : PageMove). pages_moved pool (page_move r q)) e ∙ ap (λ (r : PageMove). pages_moved (pages_moved pool r) q) (sym e)
 
 -- the first one is quiet
-one_by_one : (f : Fixed) (m : Held) (t u : Turn) (a : Option Answer) → IsQuietTurn f m.lots t → moved_by m (lots_after_both t u m.lots) (turned f m.lots t u a) ≡ changed f (changed f m (Turned t)) (Turned u)
+one_by_one : (f : DriverConfig) (m : Held) (t u : Turn) (a : Option Answer) → IsQuietTurn f m.lots t → moved_by m (lots_after_both t u m.lots) (turned f m.lots t u a) ≡ changed f (changed f m (Turned t)) (Turned u)
 unfolding moved_by turned_by
 one_by_one f m t u a h =
     let lots = lots_after t m.lots in
@@ -99,13 +99,13 @@ one_by_one f m t u a h =
       pages = pages_both m.pages (pages_of m.lots t) (pages_of (lots_after t m.lots) u) h.pages i;
     }
 
-pub both_turned : (f : Fixed) (m : Held) (t u : Turn) (a : Option Answer) → (u ≡ turns.Stay) ⊎ IsQuietTurn f m.lots t → moved_by m (lots_after_both t u m.lots) (turned f m.lots t u a) ≡ changed f (changed f m (Turned t)) (Turned u)
+pub both_turned : (f : DriverConfig) (m : Held) (t u : Turn) (a : Option Answer) → (u ≡ turns.Stay) ⊎ IsQuietTurn f m.lots t → moved_by m (lots_after_both t u m.lots) (turned f m.lots t u a) ≡ changed f (changed f m (Turned t)) (Turned u)
 both_turned f m t u a (inl e) = subst (λ (v : Turn). moved_by m (lots_after_both t v m.lots) (turned f m.lots t v a) ≡ changed f (changed f m (Turned t)) (Turned v)) (sym e) (first_alone f m t a)
 both_turned f m t u a (inr h) = one_by_one f m t u a h
 
 -- ---- what two turns may move
 
-pub grants_of_both : (ram : ℕ) (f : Fixed) (m : Held) (t u : Turn) (a : Option Answer) → (u ≡ turns.Stay) ⊎ IsQuietTurn f m.lots t → CanAddAll ram m.grants (grants_of f.me f.slots_at m.lots t) → CanAddAll ram (changed f m (Turned t)).grants (grants_of f.me f.slots_at (lots_after t m.lots) u)
+pub grants_of_both : (ram : ℕ) (f : DriverConfig) (m : Held) (t u : Turn) (a : Option Answer) → (u ≡ turns.Stay) ⊎ IsQuietTurn f m.lots t → CanAddAll ram m.grants (grants_of f.me f.slots_at m.lots t) → CanAddAll ram (changed f m (Turned t)).grants (grants_of f.me f.slots_at (lots_after t m.lots) u)
     → CanAddAll ram m.grants (turned f m.lots t u a).grants
 unfolding turned_by
 grants_of_both ram f m t u a (inl e) h k =
@@ -118,7 +118,7 @@ grants_of_both ram f m t u a (inr q) h k =
 pages_by : (pool : PageMap) (p : PageMove) → MayMovePages pool p → MayMovePages pool (page_move p pages.Stay)
 pages_by pool p h = subst (λ (q : PageMove). MayMovePages pool q) (sym (no_second p)) h
 
-pub pages_of_both : (f : Fixed) (m : Held) (t u : Turn) (a : Option Answer) → (u ≡ turns.Stay) ⊎ IsQuietTurn f m.lots t → MayMovePages m.pages (pages_of m.lots t) → MayMovePages (changed f m (Turned t)).pages (pages_of (lots_after t m.lots) u)
+pub pages_of_both : (f : DriverConfig) (m : Held) (t u : Turn) (a : Option Answer) → (u ≡ turns.Stay) ⊎ IsQuietTurn f m.lots t → MayMovePages m.pages (pages_of m.lots t) → MayMovePages (changed f m (Turned t)).pages (pages_of (lots_after t m.lots) u)
     → MayMovePages m.pages (turned f m.lots t u a).pages
 unfolding turned_by
 pages_of_both f m t u a (inl e) h k =
@@ -127,6 +127,6 @@ pages_of_both f m t u a (inr q) h k =
     let there = subst (λ (p : PageMove). MayMovePages (pages_moved m.pages p) (pages_of (lots_after t m.lots) u)) q.pages k in
     subst (λ (p : PageMove). MayMovePages m.pages (page_move p (pages_of (lots_after t m.lots) u))) (sym q.pages) there
 
-pub backs_both : (f : Fixed) (lots : List Lot) (t u : Turn) (a : Option Answer) → (turned f lots t u a).backs ≡ backs_of lots t ++ backs_of (lots_after t lots) u
+pub backs_both : (f : DriverConfig) (lots : List Lot) (t u : Turn) (a : Option Answer) → (turned f lots t u a).backs ≡ backs_of lots t ++ backs_of (lots_after t lots) u
 unfolding turned_by
 backs_both f lots t u a = refl

@@ -27,7 +27,7 @@ use Rattle.nc_rules.specs.Events.{enabled, may_go_on, is_out}
 use Rattle.nc_rules.specs.Outcomes.{Outcome, goes, runs, nothing, seen_of, claim_seen, start_outcome, op_outcome, claim_outcome, poll_outcome, take_outcome, step_outcome, try_outcome, got_word, told_outcome, at_word, leaves, drain_outcome, outcome}
 use Rattle.nc_rules.specs.Records.{op_records, drain_records, try_records, told_records}
 use Rattle.nc_rules.specs.Sound.{IsMachine}
-use Rattle.nc_rules.specs.Watched.{issue_touch, poll_touch, drain_touch}
+use Rattle.nc_rules.specs.EventTouches.{issue_touch, poll_touch, drain_touch}
 use Rattle.nc_rules.specs.World.{WorldState, driver_of}
 use Rattle.nc_calls.specs.MachineLaws.{SameShape}
 use Rattle.nc_calls.proofs.SoundLaws.{calls_keep_shape}

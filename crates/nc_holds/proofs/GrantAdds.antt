@@ -15,7 +15,7 @@ use Rattle.nc_own.specs.Books.{owner_in}
 use Rattle.nc_sg.specs.declared.list.Entry.{Entry}
 use Rattle.nc_sg.specs.Lists.{waits, device}
 use Rattle.nc_rules.specs.declared.lots.Lot.{Lot}
-use Rattle.nc_rules.specs.Lots.{Fixed, is_wanted, lot_waits, map_id, owner_of_side}
+use Rattle.nc_rules.specs.Lots.{DriverConfig, is_wanted, lot_waits, map_id, owner_of_side}
 use Rattle.nc_rules.specs.Refusals.{buffer_of}
 use Rattle.nc_rules.specs.Turns.{is_area}
 use Rattle.nc_scripts.specs.Drivers.{IsEntryIn, IsLotIn}
@@ -48,7 +48,7 @@ device_by ram slots_at slots e x true (Some w) eb eo whole h off on =
 pub device_at : (ram slots_at slots : ℕ) (e : Entry) (x : ℕ) → slots_at % 2048 ≡ 0 → IsEntryIn ram slots e → waits e ≡ false → covers (device slots_at e) x ≡ true → DeviceAt slots_at slots e x
 device_at ram slots_at slots e x whole h off on = device_by ram slots_at slots e x e.bounced e.slot refl refl whole h off on
 
-pub slot_covers : (f : Fixed) (w x : ℕ) → w < f.slots → f.slots_at + 2048 * w ≤ x → x < f.slots_at + 2048 * w + 2048 → covers (slots_span f) x ≡ true
+pub slot_covers : (f : DriverConfig) (w x : ℕ) → w < f.slots → f.slots_at + 2048 * w ≤ x → x < f.slots_at + 2048 * w + 2048 → covers (slots_span f) x ≡ true
 slot_covers f w x few low high = covers-from (slots_span f) x (omega (arith, low)) (omega (arith, high, few))
 
 -- one byte is in one slot
@@ -57,17 +57,17 @@ one_slot at w v x a b c d = omega arith
 
 -- ---- an entry that is to be granted
 
-pub record ToGrant (f : Fixed) (s : Held) (lot : Lot) (i : ℕ) (e : Entry) : Type 0 where
+pub record ToGrant (f : DriverConfig) (s : Held) (lot : Lot) (i : ℕ) (e : Entry) : Type 0 where
   pub here : IsEntryOf s.lots lot i e
   pub wanted : is_wanted lot.side ≡ true
   pub lies : LiesInBuffer f e.span
   pub placed : waits e ≡ false
 
-wanted_thread : (f : Fixed) (s : Held) (lot : Lot) (i : ℕ) (e : Entry) (x : ℕ) → Mine f s → IsEntryOf s.lots lot i e → (side_thread : is_thread f.me (owner_of_side (map_id f.me lot.id i) lot.side) ≡ true) → covers e.span x ≡ true → is_thread f.me (owner_in s.owners x) ≡ true
+wanted_thread : (f : DriverConfig) (s : Held) (lot : Lot) (i : ℕ) (e : Entry) (x : ℕ) → Mine f s → IsEntryOf s.lots lot i e → (side_thread : is_thread f.me (owner_of_side (map_id f.me lot.id i) lot.side) ≡ true) → covers e.span x ≡ true → is_thread f.me (owner_in s.owners x) ≡ true
 wanted_thread f s lot i e x mine h side on = subst (λ (o : Owner). is_thread f.me o ≡ true) (sym (mine.owners lot i e x h on)) side
 
 -- two of one hart
-pub two_apart : (ram harts : ℕ) (f : Fixed) (s : Held) (a b : Lot) (i j : ℕ) (d e : Entry) (x : ℕ) → Knows ram harts f s → Mine f s → WordsAgree f.me s.slots s.lots → ToGrant f s a i d → ToGrant f s b j e
+pub two_apart : (ram harts : ℕ) (f : DriverConfig) (s : Held) (a b : Lot) (i j : ℕ) (d e : Entry) (x : ℕ) → Knows ram harts f s → Mine f s → WordsAgree f.me s.slots s.lots → ToGrant f s a i d → ToGrant f s b j e
     → covers (device f.slots_at d) x ≡ true → covers (device f.slots_at e) x ≡ true → IsSameEntry a i b j
 two_apart ram harts f s a b i j d e x knows mine words ha hb on_d on_e =
     by (device_at ram f.slots_at f.slots d x knows.fixed.slots_whole (entry_in ram f a i d (all_at (IsLotIn ram f) s.lots a knows.lots ha.here.lot_in) ha.here.entry) ha.placed on_d)
@@ -83,7 +83,7 @@ two_apart ram harts f s a b i j d e x knows mine words ha hb on_d on_e =
 
 -- ---- an entry whose grant is held
 
-pub held_placed : (ram : ℕ) (f : Fixed) (s : Held) (g : Grant) → (h : IsHeldBy ram f s g) → waits h.is.entry ≡ false
+pub held_placed : (ram : ℕ) (f : DriverConfig) (s : Held) (g : Grant) → (h : IsHeldBy ram f s g) → waits h.is.entry ≡ false
 held_placed ram f s g h =
     all_at (λ (e : Entry). waits e ≡ false) h.is.lot.list.entries h.is.entry (placed_entries h.is.lot (no_wait (lot_waits h.is.lot) refl)) (at_get h.is.lot.list.entries h.is.i h.is.entry h.is.here.entry)
   where
@@ -91,7 +91,7 @@ held_placed ram f s g h =
     no_wait false w = refl
     no_wait true w = absurd (false≢true (sym h.is.lent ∙ all_at (λ (l : Lot). lot_waits l ≡ true → is_wanted l.side ≡ true) h.lots h.is.lot h.waits h.is.here.lot_in w))
 
-pub held_device : (ram : ℕ) (f : Fixed) (s : Held) (g : Grant) (x : ℕ) → f.slots_at % 2048 ≡ 0 → (h : IsHeldBy ram f s g) → covers g.device x ≡ true → DeviceAt f.slots_at f.slots h.is.entry x
+pub held_device : (ram : ℕ) (f : DriverConfig) (s : Held) (g : Grant) (x : ℕ) → f.slots_at % 2048 ≡ 0 → (h : IsHeldBy ram f s g) → covers g.device x ≡ true → DeviceAt f.slots_at f.slots h.is.entry x
 held_device ram f s g x whole h on =
     let in_k : IsEntryIn ram h.other.slots h.is.entry = entry_in ram h.other h.is.lot h.is.i h.is.entry (all_at (IsLotIn ram h.other) h.lots h.is.lot h.each h.is.here.lot_in) h.is.here.entry in
     let in_f : IsEntryIn ram f.slots h.is.entry = subst (λ (n : ℕ). IsEntryIn ram n h.is.entry) (sym h.alike.slots) in_k in
@@ -99,11 +99,11 @@ held_device ram f s g x whole h on =
     device_at ram f.slots_at f.slots h.is.entry x whole in_f (held_placed ram f s g h) (subst (λ (n : ℕ). covers (device n h.is.entry) x ≡ true) (sym h.alike.slots_at) on_k)
 
 -- its own bytes are in the pool or in a buffer
-pub data LiesAt (f : Fixed) (x : ℕ) : Type 0 where
+pub data LiesAt (f : DriverConfig) (x : ℕ) : Type 0 where
   in_pool : covers f.pool x ≡ true → LiesAt f x
   in_buffer : (b : ℕ) → covers (buffer_of f b) x ≡ true → LiesAt f x
 
-held_lies : (ram : ℕ) (f : Fixed) (s : Held) (g : Grant) (x : ℕ) → (h : IsHeldBy ram f s g) → covers h.is.entry.span x ≡ true → LiesAt f x
+held_lies : (ram : ℕ) (f : DriverConfig) (s : Held) (g : Grant) (x : ℕ) → (h : IsHeldBy ram f s g) → covers h.is.entry.span x ≡ true → LiesAt f x
 held_lies ram f s g x h on = elim (cases_Bool (is_area h.is.lot.kind)) [
   | inl a ↦ in_pool (subst (λ (p : Span). covers p x ≡ true) (sym h.alike.pool) (area_covers ram h.other h.is.lot h.is.i h.is.entry x (all_at (IsLotIn ram h.other) h.lots h.is.lot h.each h.is.here.lot_in) a h.is.here.entry on))
   | inr off ↦
@@ -112,12 +112,12 @@ held_lies ram f s g x h on = elim (cases_Bool (is_area h.is.lot.kind)) [
       in_buffer lies.0 (subst (λ (p : Span). covers p x ≡ true) same (lies.1 x on))
 ]
 
-off_slots : (f : Fixed) (x : ℕ) → AreRegions f → LiesAt f x → covers (slots_span f) x ≡ true → ⊥
+off_slots : (f : DriverConfig) (x : ℕ) → AreRegions f → LiesAt f x → covers (slots_span f) x ≡ true → ⊥
 off_slots f x h (in_pool on) slots = h.slots_off_pool x slots on
 off_slots f x h (in_buffer b on) slots = h.buffers_off_slots b x on slots
 
 -- the hart's own bytes of a buffer are of no grant
-direct_off : (ram : ℕ) (f : Fixed) (s : Held) (g : Grant) (x b : ℕ) → AreRegions f → (h : IsHeldBy ram f s g) → covers h.is.entry.span x ≡ true → covers (buffer_of f b) x ≡ true → is_thread f.me (owner_in s.owners x) ≡ true → ⊥
+direct_off : (ram : ℕ) (f : DriverConfig) (s : Held) (g : Grant) (x b : ℕ) → AreRegions f → (h : IsHeldBy ram f s g) → covers h.is.entry.span x ≡ true → covers (buffer_of f b) x ≡ true → is_thread f.me (owner_in s.owners x) ≡ true → ⊥
 direct_off ram f s g x b regions h on on_b own =
     let m = map_id h.other.me h.is.lot.id h.is.i in
     let side : is_thread f.me (owner_of_side m h.is.lot.side) ≡ true = subst (λ (o : Owner). is_thread f.me o ≡ true) (h.agrees.owners h.is.lot h.is.i h.is.entry x h.is.here on) own in
@@ -129,7 +129,7 @@ direct_off ram f s g x b regions h on on_b own =
 pub not_lent : (lots : List Lot) (lot : Lot) (held : Lot) → lot ≡ held → is_wanted lot.side ≡ true → is_wanted held.side ≡ false → ⊥
 not_lent lots lot held same w l = false≢true (sym l ∙ subst (λ (k : Lot). is_wanted k.side ≡ true) same w)
 
-pub apart_held : (ram harts : ℕ) (f : Fixed) (s : Held) (lot : Lot) (i : ℕ) (e : Entry) (g : Grant) (x : ℕ) → Knows ram harts f s → Mine f s → WordsAgree f.me s.slots s.lots → ToGrant f s lot i e
+pub apart_held : (ram harts : ℕ) (f : DriverConfig) (s : Held) (lot : Lot) (i : ℕ) (e : Entry) (g : Grant) (x : ℕ) → Knows ram harts f s → Mine f s → WordsAgree f.me s.slots s.lots → ToGrant f s lot i e
     → is_thread f.me (owner_of_side (map_id f.me lot.id i) lot.side) ≡ true → IsHeldBy ram f s g → covers (device f.slots_at e) x ≡ true → covers g.device x ≡ true → ⊥
 apart_held ram harts f s lot i e g x knows mine words to own h on on_g =
     by (device_at ram f.slots_at f.slots e x knows.fixed.slots_whole (entry_in ram f lot i e (all_at (IsLotIn ram f) s.lots lot knows.lots to.here.lot_in) to.here.entry) to.placed on)
@@ -148,7 +148,7 @@ apart_held ram harts f s lot i e g x knows mine words to own h on on_g =
         let one = slot_once f.me s.slots s.lots w lot h.is.lot i h.is.i e h.is.entry words to.here here sw sw_g in
         not_lent s.lots lot h.is.lot (same_lot s.lots lot h.is.lot knows.names to.here.lot_in here.lot_in one.lot) to.wanted h.is.lent
 
-pub name_held : (ram harts : ℕ) (f : Fixed) (s : Held) (lot : Lot) (i : ℕ) (e : Entry) (g : Grant) → Knows ram harts f s → IsEntryOf s.lots lot i e → is_wanted lot.side ≡ true → IsHeldBy ram f s g → same_map g.id (map_id f.me lot.id i) ≡ false
+pub name_held : (ram harts : ℕ) (f : DriverConfig) (s : Held) (lot : Lot) (i : ℕ) (e : Entry) (g : Grant) → Knows ram harts f s → IsEntryOf s.lots lot i e → is_wanted lot.side ≡ true → IsHeldBy ram f s g → same_map g.id (map_id f.me lot.id i) ≡ false
 name_held ram harts f s lot i e g knows to wanted h =
     subst (λ (d : Grant). same_map d.id (map_id f.me lot.id i) ≡ false) (sym h.is.is) (not_same (map_id h.other.me h.is.lot.id h.is.i) (map_id f.me lot.id i) none)
   where

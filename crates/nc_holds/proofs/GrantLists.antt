@@ -20,7 +20,7 @@ use Rattle.nc_rules.specs.declared.lots.Side.{Side}
 use Rattle.nc_rules.specs.declared.lots.Side.TheVariants as sides
 use Rattle.nc_rules.specs.declared.steps.Turn.{Turn}
 use Rattle.nc_rules.specs.declared.steps.Turn.TheVariants as turns
-use Rattle.nc_rules.specs.Lots.{Fixed, is_lot, is_wanted, lot_waits, map_id, grant_of, each_from, each_entry, owner_of_side, only_entry}
+use Rattle.nc_rules.specs.Lots.{DriverConfig, is_lot, is_wanted, lot_waits, map_id, grant_of, each_from, each_entry, owner_of_side, only_entry}
 use Rattle.nc_rules.specs.Turns.{is_area, those, of_those, granted, grants_of}
 use Rattle.nc_scripts.specs.Drivers.{IsFixed, IsEntryIn, IsLotIn}
 use Rattle.nc_scripts.proofs.Lists.{all_in}
@@ -136,7 +136,7 @@ wanted_own me m sides.Returning e w = absurd (false≢true w)
 wanted_own me m sides.Synced e w = absurd (false≢true w)
 wanted_own me m sides.Own e w = absurd (false≢true w)
 
-to_grant : (f : Fixed) (s : Held) (id : LotId) (lot : Lot) (i : ℕ) (e : Entry) → Mine f s → ArePlaced s.lots id → is_lot id lot ≡ true → is_wanted lot.side ≡ true → IsEntryOf s.lots lot i e → ToGrant f s lot i e
+to_grant : (f : DriverConfig) (s : Held) (id : LotId) (lot : Lot) (i : ℕ) (e : Entry) → Mine f s → ArePlaced s.lots id → is_lot id lot ≡ true → is_wanted lot.side ≡ true → IsEntryOf s.lots lot i e → ToGrant f s lot i e
 to_grant f s id lot i e mine placed name wanted h =
     let fits = all_at (FitsSide f) s.lots lot mine.sides h.lot_in in
     let off : is_area lot.kind ≡ false = elim (cases_Bool (is_area lot.kind)) [ inl a ↦ absurd (false≢true (sym (fits.area a) ∙ wanted)) | inr clear ↦ clear ] in
@@ -147,10 +147,10 @@ to_grant f s id lot i e mine placed name wanted h =
       placed = all_at (λ (d : Entry). waits d ≡ false) lot.list.entries e (placed_entries lot (all_at (λ (l : Lot). is_lot id l ≡ true → lot_waits l ≡ false) s.lots lot placed h.lot_in name)) (at_get lot.list.entries i e h.entry);
     }
 
-grant_fits : (ram harts : ℕ) (f : Fixed) (lot : Lot) (i : ℕ) (e : Entry) → IsFixed ram harts f → IsEntryIn ram f.slots e → waits e ≡ false → FitsIn ram (grant_of f.slots_at lot (map_id f.me lot.id i) e)
+grant_fits : (ram harts : ℕ) (f : DriverConfig) (lot : Lot) (i : ℕ) (e : Entry) → IsFixed ram harts f → IsEntryIn ram f.slots e → waits e ≡ false → FitsIn ram (grant_of f.slots_at lot (map_id f.me lot.id i) e)
 grant_fits ram harts f lot i e fixed is off = let p = entry_part ram harts f lot.list.dir e fixed is off in record { lengths = p.lengths; buffer = p.buffer.ends; device = p.device.ends }
 
-lent_can : (ram harts : ℕ) (f : Fixed) (s : Held) (lot : Lot) (i : ℕ) (e : Entry) → Knows ram harts f s → Mine f s → WordsAgree f.me s.slots s.lots → EachIsHeld ram f s → ToGrant f s lot i e → CanAdd ram s.grants (grant_of f.slots_at lot (map_id f.me lot.id i) e)
+lent_can : (ram harts : ℕ) (f : DriverConfig) (s : Held) (lot : Lot) (i : ℕ) (e : Entry) → Knows ram harts f s → Mine f s → WordsAgree f.me s.slots s.lots → EachIsHeld ram f s → ToGrant f s lot i e → CanAdd ram s.grants (grant_of f.slots_at lot (map_id f.me lot.id i) e)
 lent_can ram harts f s lot i e knows mine words held to = record {
   fits = grant_fits ram harts f lot i e knows.fixed (entry_in ram f lot i e (all_at (IsLotIn ram f) s.lots lot knows.lots to.here.lot_in) to.here.entry) to.placed;
   apart = λ x on. none_of (has_device x) s.grants
@@ -161,7 +161,7 @@ lent_can ram harts f s lot i e knows mine words held to = record {
   id = none_of (is_of (map_id f.me lot.id i)) s.grants (λ g k. name_held ram harts f s lot i e g knows to.here to.wanted (held g k));
 }
 
-pub can_add_all : (ram harts : ℕ) (f : Fixed) (s : Held) (id : LotId) → Knows ram harts f s → Mine f s → WordsAgree f.me s.slots s.lots → EachIsHeld ram f s → ArePlaced s.lots id → CanAddAll ram s.grants (of_those (granted f.me f.slots_at) id s.lots)
+pub can_add_all : (ram harts : ℕ) (f : DriverConfig) (s : Held) (id : LotId) → Knows ram harts f s → Mine f s → WordsAgree f.me s.slots s.lots → EachIsHeld ram f s → ArePlaced s.lots id → CanAddAll ram s.grants (of_those (granted f.me f.slots_at) id s.lots)
 can_add_all ram harts f s id knows mine words held placed =
     all_added ram s.grants (of_those (granted f.me f.slots_at) id s.lots)
     (λ g k.
@@ -173,7 +173,7 @@ can_add_all ram harts f s id knows mine words held placed =
     let to_e = to_grant f s id lot j e mine placed name wanted (record { lot_in = k; entry = at_j }) in
     record { device = λ x on_e on_d. ne (two_apart ram harts f s lot lot i j d e x knows mine words to_d to_e on_d on_e).entry; name = entry_name f.me lot.id i j ne }))
 
-pub can_add_turned : (ram harts : ℕ) (f : Fixed) (s : Held) (t : Turn) → Knows ram harts f s → Mine f s → WordsAgree f.me s.slots s.lots → EachIsHeld ram f s → MayTurn f s t → CanAddAll ram s.grants (grants_of f.me f.slots_at s.lots t)
+pub can_add_turned : (ram harts : ℕ) (f : DriverConfig) (s : Held) (t : Turn) → Knows ram harts f s → Mine f s → WordsAgree f.me s.slots s.lots → EachIsHeld ram f s → MayTurn f s t → CanAddAll ram s.grants (grants_of f.me f.slots_at s.lots t)
 can_add_turned ram harts f s turns.Stay knows mine words held may = tt
 can_add_turned ram harts f s (turns.Pass range to) knows mine words held may = tt
 can_add_turned ram harts f s (turns.Own range) knows mine words held may = tt
@@ -186,14 +186,14 @@ can_add_turned ram harts f s (turns.End id) knows mine words held may = tt
 
 -- ---- an area that is made and lent at once
 
-area_direct_at : (ram : ℕ) (f : Fixed) (lot : Lot) (i : ℕ) (e : Entry) → IsLotIn ram f lot → is_area lot.kind ≡ true → slice_get lot.list.entries i ≡ Some e → waits e ≡ false
+area_direct_at : (ram : ℕ) (f : DriverConfig) (lot : Lot) (i : ℕ) (e : Entry) → IsLotIn ram f lot → is_area lot.kind ≡ true → slice_get lot.list.entries i ≡ Some e → waits e ≡ false
 area_direct_at ram f lot i e is a k = (rw (area_direct ram f lot i e is a k) refl)
 
-area_byte : (ram : ℕ) (f : Fixed) (lot : Lot) (i : ℕ) (e : Entry) (x : ℕ) → IsLotIn ram f lot → is_area lot.kind ≡ true → slice_get lot.list.entries i ≡ Some e → DeviceAt f.slots_at f.slots e x → covers (only_entry lot).span x ≡ true
+area_byte : (ram : ℕ) (f : DriverConfig) (lot : Lot) (i : ℕ) (e : Entry) (x : ℕ) → IsLotIn ram f lot → is_area lot.kind ≡ true → slice_get lot.list.entries i ≡ Some e → DeviceAt f.slots_at f.slots e x → covers (only_entry lot).span x ≡ true
 area_byte ram f lot i e x is a k (direct on) = subst (λ (d : Entry). covers d.span x ≡ true) (sym (area_only ram f lot i e is a k).1) on
 area_byte ram f lot i e x is a k (slotted w sw few low high) = absurd (false≢true (sym (area_direct ram f lot i e is a k) ∙ ((entry_in ram f lot i e is k).slot w sw).bounced))
 
-area_can : (ram harts : ℕ) (f : Fixed) (s : Held) (lot : Lot) (i : ℕ) (e : Entry) → Knows ram harts f s → EachIsHeld ram f s → IsNewArea ram harts f s lot → slice_get lot.list.entries i ≡ Some e → CanAdd ram s.grants (grant_of f.slots_at lot (map_id f.me lot.id i) e)
+area_can : (ram harts : ℕ) (f : DriverConfig) (s : Held) (lot : Lot) (i : ℕ) (e : Entry) → Knows ram harts f s → EachIsHeld ram f s → IsNewArea ram harts f s lot → slice_get lot.list.entries i ≡ Some e → CanAdd ram s.grants (grant_of f.slots_at lot (map_id f.me lot.id i) e)
 area_can ram harts f s lot i e knows held h k = record {
   fits = grant_fits ram harts f lot i e knows.fixed (entry_in ram f lot i e h.is k) (area_direct_at ram f lot i e h.is h.area k);
   apart = λ x on. none_of (has_device x) s.grants (λ g l. elim (cases_Bool (covers g.device x)) [
@@ -218,15 +218,15 @@ area_can ram harts f s lot i e knows held h k = record {
     name : (g : Grant) → IsHeldBy ram f s g → same_map g.id (map_id f.me lot.id i) ≡ false
     name g is = subst (λ (d : Grant). same_map d.id (map_id f.me lot.id i) ≡ false) (sym is.is.is) (not_same (map_id is.other.me is.is.lot.id is.is.i) (map_id f.me lot.id i) (none g is))
 
-area_named : (ram harts : ℕ) (f : Fixed) (s : Held) (lot l : Lot) (i : ℕ) (e : Entry) → Knows ram harts f s → EachIsHeld ram f s → IsNewArea ram harts f s lot → lot ≡ l → slice_get l.list.entries i ≡ Some e
+area_named : (ram harts : ℕ) (f : DriverConfig) (s : Held) (lot l : Lot) (i : ℕ) (e : Entry) → Knows ram harts f s → EachIsHeld ram f s → IsNewArea ram harts f s lot → lot ≡ l → slice_get l.list.entries i ≡ Some e
     → CanAdd ram s.grants (grant_of f.slots_at l (map_id f.me l.id i) e)
 area_named ram harts f s lot l i e knows held h same k =
     subst (λ (m : Lot). slice_get m.list.entries i ≡ Some e → CanAdd ram s.grants (grant_of f.slots_at m (map_id f.me m.id i) e)) same (λ at. area_can ram harts f s lot i e knows held h at) k
 
-area_index : (ram harts : ℕ) (f : Fixed) (s : Held) (lot l : Lot) (i : ℕ) (e : Entry) → IsNewArea ram harts f s lot → lot ≡ l → slice_get l.list.entries i ≡ Some e → i ≡ 0
+area_index : (ram harts : ℕ) (f : DriverConfig) (s : Held) (lot l : Lot) (i : ℕ) (e : Entry) → IsNewArea ram harts f s lot → lot ≡ l → slice_get l.list.entries i ≡ Some e → i ≡ 0
 area_index ram harts f s lot l i e h same k = (area_only ram f lot i e h.is h.area (subst (λ (m : Lot). slice_get m.list.entries i ≡ Some e) (sym same) k)).0
 
-pub area_can_add_all : (ram harts : ℕ) (f : Fixed) (s : Held) (lot : Lot) → Knows ram harts f s → EachIsHeld ram f s → IsMaking ram f s (lot ∷ []) → is_area lot.kind ≡ true
+pub area_can_add_all : (ram harts : ℕ) (f : DriverConfig) (s : Held) (lot : Lot) → Knows ram harts f s → EachIsHeld ram f s → IsMaking ram f s (lot ∷ []) → is_area lot.kind ≡ true
     → CanAddAll ram s.grants (of_those (granted f.me f.slots_at) lot.id (s.lots ++ lot ∷ []))
 area_can_add_all ram harts f s lot knows held making area =
     let h = new_area ram harts f s lot knows making area in

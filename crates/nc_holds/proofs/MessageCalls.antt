@@ -23,7 +23,7 @@ use Rattle.nc_rules.specs.declared.lots.LotId.{LotId}
 use Rattle.nc_rules.specs.declared.steps.Next.TheVariants as nexts
 use Rattle.nc_rules.specs.declared.steps.Step.{Step}
 use Rattle.nc_rules.specs.declared.steps.Turn.TheVariants as turns
-use Rattle.nc_rules.specs.Lots.{Fixed, some_lot_waits}
+use Rattle.nc_rules.specs.Lots.{DriverConfig, some_lot_waits}
 use Rattle.nc_rules.specs.Refusals.{buffer_of}
 use Rattle.nc_rules.specs.Turns.{is_area}
 use Rattle.nc_rules.specs.Operations.{step_at, has_start, begin, opening}
@@ -42,7 +42,7 @@ use Rattle.nc_holds.proofs.TokenCalls.{HandsNone, start_at}
 use Rattle.nc_holds.proofs.TokenCopies.{opens_so}
 
 -- a byte of a buffer that is passed
-pub record IsPassing (f : Fixed) (ws : List Owner) (x : ℕ) : Type 0 where
+pub record IsPassing (f : DriverConfig) (ws : List Owner) (x : ℕ) : Type 0 where
   pub b : ℕ
   pub inside : covers (buffer_of f b) x ≡ true
   pub from : HartNo
@@ -64,7 +64,7 @@ in_pool pool span x h e =
     grind (arith, nat_tests)
 
 -- the bytes of an area lie in the pool, and no buffer's do
-area_off : (f : Fixed) (ws : List Owner) (x : ℕ) (k : Kind) (id : LotId) (es : List Entry) → AreRegions f → IsPassing f ws x → is_area k ≡ true → FitsKind f.pool k id es → All (IsOff x) es
+area_off : (f : DriverConfig) (ws : List Owner) (x : ℕ) (k : Kind) (id : LotId) (es : List Entry) → AreRegions f → IsPassing f ws x → is_area k ≡ true → FitsKind f.pool k id es → All (IsOff x) es
 area_off f ws x kinds.Single id es r p e h = absurd (false≢true e)
 area_off f ws x kinds.List id es r p e h = absurd (false≢true e)
 area_off f ws x kinds.Copy id es r p e h = absurd (false≢true e)
@@ -80,12 +80,12 @@ spans_off me ws x from to (e ∷ es) rs is own =
     let more = spans_off me ws x from to es rs is own.2 in
     (All-cons (IsOff x) e es (owned_off me ws x from to e.span is own.0) more.0, more.1)
 
-lot_off : (f : Fixed) (ws : List Owner) (x : ℕ) (ram : ℕ) (lot : Lot) (rs : List Span) (t : Bool) → is_area lot.kind ≡ t → AreRegions f → IsPassing f ws x → IsLotIn ram f lot
+lot_off : (f : DriverConfig) (ws : List Owner) (x : ℕ) (ram : ℕ) (lot : Lot) (rs : List Span) (t : Bool) → is_area lot.kind ≡ t → AreRegions f → IsPassing f ws x → IsLotIn ram f lot
     → AreOwned f.me ws ((if t then [] else map (λ (e : Entry). e.span) lot.list.entries) ++ rs) → IsFreeLot x lot × AreOwned f.me ws rs
 lot_off f ws x ram lot rs true e r p h own = (area_off f ws x lot.kind lot.id lot.list.entries r p e h.kind, own)
 lot_off f ws x ram lot rs false e r p h own = spans_off f.me ws x p.from p.to lot.list.entries rs p.is own
 
-all_off : (f : Fixed) (ws : List Owner) (x : ℕ) (ram : ℕ) (new : List Lot) → AreRegions f → IsPassing f ws x → All (IsLotIn ram f) new → AreOwned f.me ws (flat_map own_ranges new) → AreOff x new
+all_off : (f : DriverConfig) (ws : List Owner) (x : ℕ) (ram : ℕ) (new : List Lot) → AreRegions f → IsPassing f ws x → All (IsLotIn ram f) new → AreOwned f.me ws (flat_map own_ranges new) → AreOff x new
 all_off f ws x ram [] r p all own = All-nil (IsFreeLot x)
 all_off f ws x ram (lot ∷ new) r p all own =
     let here = lot_off f ws x ram lot (flat_map own_ranges new) (is_area lot.kind) refl r p (All-head (IsLotIn ram f) lot new all) own in

@@ -13,7 +13,7 @@ use Rattle.nc_rules.specs.declared.lots.Lot.{Lot}
 use Rattle.nc_rules.specs.declared.steps.Step.{Step}
 use Rattle.nc_rules.specs.declared.steps.Turn.{Turn}
 use Rattle.nc_rules.specs.declared.steps.Turn.TheVariants as turns
-use Rattle.nc_rules.specs.Lots.{Fixed}
+use Rattle.nc_rules.specs.Lots.{DriverConfig}
 use Rattle.nc_rules.specs.Machine.{MachineState}
 use Rattle.nc_rules.specs.Refusals.{buffer_of}
 use Rattle.nc_rules.specs.Driver.{DriverState, Went}
@@ -82,7 +82,7 @@ pub owners_stay : (w n : WorldState) (h : HartNo) (m : MachineState) (went : Wen
     → ((x : ℕ) → covers (buffer_of (driver_of w h.0).fixed b) x ≡ true → IsPassing (driver_of w h.0).fixed w.owners x → Spares x went.moves.transfers)
     → (k to : HartNo) → IsOwnedBy w.owners (buffer_of (driver_of w 0).fixed b) (owners.Passing k to) → IsOwnedBy n.owners (buffer_of (driver_of n 0).fixed b) (owners.Passing k to)
 owners_stay w n h m went b a g spares k to own x on =
-    let there : covers (buffer_of (driver_of w 0).fixed b) x ≡ true = subst (λ (f : Fixed). covers (buffer_of f b) x ≡ true) (fixed_stays w n h m went 0 a g) on in
+    let there : covers (buffer_of (driver_of w 0).fixed b) x ≡ true = subst (λ (f : DriverConfig). covers (buffer_of f b) x ≡ true) (fixed_stays w n h m went 0 a g) on in
     let inside : covers (buffer_of (driver_of w h.0).fixed b) x ≡ true = subst (λ (s : Span). covers s x ≡ true) (buffer_alike w h b a) there in
     let is = own x there in
     ap (λ (ws : List Owner). owner_in ws x) g.owners

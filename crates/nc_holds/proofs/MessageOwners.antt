@@ -19,7 +19,7 @@ use Rattle.nc_rules.specs.declared.lots.Side.{Side}
 use Rattle.nc_rules.specs.declared.lots.Side.TheVariants as sides
 use Rattle.nc_rules.specs.declared.steps.Turn.{Turn}
 use Rattle.nc_rules.specs.declared.steps.Turn.TheVariants as turns
-use Rattle.nc_rules.specs.Lots.{Fixed, is_lot, map_id, each_from, owner_of_side, lot_waits, with_slot, slot_given}
+use Rattle.nc_rules.specs.Lots.{DriverConfig, is_lot, map_id, each_from, owner_of_side, lot_waits, with_slot, slot_given}
 use Rattle.nc_rules.specs.Turns.{last_owner, to_side, to_end, of_those, those, lots_after, transfers_of, turned, turned_by}
 use Rattle.nc_rules.specs.World.{owners_moved}
 use Rattle.nc_scripts.proofs.Lists.{all_filtered, all_joined, all_in}
@@ -93,7 +93,7 @@ turn_off x me lots (turns.End id) of all = end_off x me id lots all
 pub off_after : (x : ℕ) (t : Turn) (lots : List Lot) → AreOff x lots → AreOff x (lots_after t lots)
 off_after x t lots all = thins_all (Becomes t) (IsFreeLot x) (IsFreeLot x) (thinned t lots) all (λ lot now b h. rw b.list h)
 
-pub turned_off : (x : ℕ) (f : Fixed) (lots : List Lot) (t u : Turn) (a : Option Answer) → OfLots t → OfLots u → AreOff x lots → Spares x (turned f lots t u a).transfers
+pub turned_off : (x : ℕ) (f : DriverConfig) (lots : List Lot) (t u : Turn) (a : Option Answer) → OfLots t → OfLots u → AreOff x lots → Spares x (turned f lots t u a).transfers
 unfolding turned_by
 turned_off x f lots t u a ot ou all =
     All-append (λ (v : Span × Owner). covers v.0 x ≡ false) (transfers_of f.me lots t) (transfers_of f.me (lots_after t lots) u) (turn_off x f.me lots t ot all) (turn_off x f.me (lots_after t lots) u ou (off_after x t lots all))

@@ -25,7 +25,7 @@ use Rattle.nc_rules.specs.declared.steps.Phase.TheVariants.{Steps, Search, Work}
 use Rattle.nc_rules.specs.declared.steps.Seen.{Seen}
 use Rattle.nc_rules.specs.declared.steps.Seen.TheVariants as seen
 use Rattle.nc_rules.specs.declared.steps.Step.{Step}
-use Rattle.nc_rules.specs.Lots.{Fixed, lot_waits, some_lot_waits}
+use Rattle.nc_rules.specs.Lots.{DriverConfig, lot_waits, some_lot_waits}
 use Rattle.nc_rules.specs.Refusals.{◌>>=◌, buffer_of, owned, owned_but}
 use Rattle.nc_rules.specs.Turns.{turned_by}
 use Rattle.nc_rules.specs.Handing as handing
@@ -82,7 +82,7 @@ pub went_rest : (d : DriverState) (lots : List Lot) (saw : Seen) (rest : List St
 went_rest d lots saw [] = refl
 went_rest d lots saw (s ∷ rest) = refl
 
-numbered_mail : (f : Fixed) (s : Step) (b : ℕ) → Numbered f s → is_mail_act b s.act ≡ false
+numbered_mail : (f : DriverConfig) (s : Step) (b : ℕ) → Numbered f s → is_mail_act b s.act ≡ false
 numbered_mail f s b (Quietly h) = h.act.mail b
 numbered_mail f s b (Takes buf e) = subst (λ (u : Step). is_mail_act b u.act ≡ false) e refl
 

@@ -18,7 +18,7 @@ use Rattle.nc_ops.specs.declared.ops.Op.TheVariants as ops
 use Rattle.nc_rules.specs.declared.lots.LotId.{LotId}
 use Rattle.nc_rules.specs.declared.steps.Next.TheVariants as nexts
 use Rattle.nc_rules.specs.declared.steps.Step.{Step}
-use Rattle.nc_rules.specs.Lots.{Fixed}
+use Rattle.nc_rules.specs.Lots.{DriverConfig}
 use Rattle.nc_rules.specs.Machine.{MachineState, queue_of, box_of}
 use Rattle.nc_rules.specs.Plans.{hart_step}
 use Rattle.nc_rules.specs.Refusals.{buffer_of}
@@ -123,7 +123,7 @@ begun_here w n h went buf to a k lt own rest moves =
     let is = passing (buffer_of (driver_of w h.0).fixed buf).at (subst (λ (s : Span). covers s (buffer_of (driver_of w h.0).fixed buf).at ≡ true) (sym alike) first) in
     false≢true (sym (owned_off (driver_of w h.0).fixed.me w.owners (buffer_of (driver_of w h.0).fixed buf).at j for (buffer_of (driver_of w h.0).fixed buf) is own) ∙ first))
     (λ x on.
-    let there : covers (buffer_of (driver_of w h.0).fixed buf) x ≡ true = subst (λ (s : Span). covers s x ≡ true) alike (subst (λ (f : Fixed). covers (buffer_of f buf) x ≡ true) (fixed_stays w n h w.machine went 0 a k) on) in
+    let there : covers (buffer_of (driver_of w h.0).fixed buf) x ≡ true = subst (λ (s : Span). covers s x ≡ true) alike (subst (λ (f : DriverConfig). covers (buffer_of f buf) x ≡ true) (fixed_stays w n h w.machine went 0 a k) on) in
     ap (λ (ws : List Owner). owner_in ws x) (k.owners ∙ ap (owners_moved w.owners) moves)
     ∙ owner_moved_on w.owners (buffer_of (driver_of w h.0).fixed buf) (owners.Passing (driver_of w h.0).fixed.me to) x (omega (arith, a.holds.owners, range.ends, covers-high (buffer_of (driver_of w h.0).fixed buf) x there)) there
     ∙ ap (λ (me : HartNo). owners.Passing me to) (me_is w h a))

@@ -20,7 +20,7 @@ use Rattle.nc_rules.specs.declared.answers.Refusal.{Refusal}
 use Rattle.nc_rules.specs.declared.lots.Lot.{Lot}
 use Rattle.nc_rules.specs.declared.steps.Act.TheVariants as acts
 use Rattle.nc_rules.specs.declared.steps.Step.{Step}
-use Rattle.nc_rules.specs.Lots.{Fixed}
+use Rattle.nc_rules.specs.Lots.{DriverConfig}
 use Rattle.nc_rules.specs.Refusals.{◌>>=◌, buffer_of, part_of, legal}
 use Rattle.nc_rules.specs.Plans.{step, hart_step, single, control_step}
 use Rattle.nc_rules.specs.Accesses as accesses
@@ -40,7 +40,7 @@ use Rattle.nc_scripts.proofs.DriverSteps.{passed}
 use Rattle.nc_holds.proofs.QuietSteps.{IsQuiet, IsQuietOp, op_quiet}
 use Rattle.nc_holds.proofs.TokenRests.{IsStay}
 
-pub data Numbered (f : Fixed) (s : Step) : Type 0 where
+pub data Numbered (f : DriverConfig) (s : Step) : Type 0 where
   Quietly : IsQuiet IsStay s → Numbered f s
   Takes : (buf : ℕ) → take_step f buf ≡ s → Numbered f s
 
@@ -53,7 +53,7 @@ one_step : (s t : Step) (n : ℕ) → ◌≡◌ {A = Result (Option Step) Refusa
 one_step s t zero e = cc
 one_step s t (suc n) e = absurd cc
 
-single_quiet : (f : Fixed) (s t : Step) (n : ℕ) → IsQuiet IsStay s → ◌≡◌ {A = Result (Option Step) Refusal} (Ok (single s n)) (Ok (Some t)) → Numbered f t
+single_quiet : (f : DriverConfig) (s t : Step) (n : ℕ) → IsQuiet IsStay s → ◌≡◌ {A = Result (Option Step) Refusal} (Ok (single s n)) (Ok (Some t)) → Numbered f t
 single_quiet f s t n h e = Quietly (same_quiet s t h (one_step s t n e))
 
 op_stays : (op : HartOp) → IsQuietOp op → IsQuiet IsStay (hart_step op)
@@ -71,18 +71,18 @@ piece_quiet : (op : Span → Span → MemType → HartOp) (to : At) (pbmte : Boo
 piece_quiet op to pbmte table None s h e = absurd cc
 piece_quiet op to pbmte table (Some piece) s h e = place_quiet (op piece) piece.len (found to pbmte table piece.at) s (h piece) e
 
-load_quiet : (f : Fixed) (to : At) (len n : ℕ) (s : Step) → piece_step (load_step to f.pbmte f.table len n) ≡ Ok (Some s) → IsQuiet IsStay s
+load_quiet : (f : DriverConfig) (to : At) (len n : ℕ) (s : Step) → piece_step (load_step to f.pbmte f.table len n) ≡ Ok (Some s) → IsQuiet IsStay s
 unfolding load_step
 load_quiet f to len n s e = piece_quiet load_op to f.pbmte f.table (slice_get (pieces (range to len)) n) s (λ p t k. record { mail = λ b. refl; token = refl }) e
 
-store_quiet : (f : Fixed) (to : At) (bytes : List ℕ) (n : ℕ) (s : Step) → piece_step (store_step to f.pbmte f.table bytes n) ≡ Ok (Some s) → IsQuiet IsStay s
+store_quiet : (f : DriverConfig) (to : At) (bytes : List ℕ) (n : ℕ) (s : Step) → piece_step (store_step to f.pbmte f.table bytes n) ≡ Ok (Some s) → IsQuiet IsStay s
 unfolding store_step
 store_quiet f to bytes n s e =
     piece_quiet (store_op (range to (length bytes)).at bytes) to f.pbmte f.table (slice_get (pieces (range to (length bytes))) n) s (λ p t k. record { mail = λ b. refl; token = refl }) e
 
 -- ---- cache operations and registers
 
-cbo_quiet : (f : Fixed) (effect : CboOp) (o : Option ℕ) (s : Step) → ◌≡◌ {A = Result (Option Step) Refusal} (Ok (option_map (cbo_step effect) o)) (Ok (Some s)) → IsQuiet IsStay s
+cbo_quiet : (f : DriverConfig) (effect : CboOp) (o : Option ℕ) (s : Step) → ◌≡◌ {A = Result (Option Step) Refusal} (Ok (option_map (cbo_step effect) o)) (Ok (Some s)) → IsQuiet IsStay s
 cbo_quiet f effect None s e = absurd cc
 cbo_quiet f effect (Some b) s e =
     let same : cbo_step effect b ≡ s = cc in
@@ -103,7 +103,7 @@ none s e = absurd (cc)
 
 -- ---- every operation
 
-pub numbered : (f : Fixed) (lots : List Lot) (o : Op) (n : ℕ) (s : Step) → step_at f lots o n ≡ Ok (Some s) → Numbered f s
+pub numbered : (f : DriverConfig) (lots : List Lot) (o : Op) (n : ℕ) (s : Step) → step_at f lots o n ≡ Ok (Some s) → Numbered f s
 unfolding step_at meaning accesses.load accesses.store cache_ops.cache_operation cache_ops.fence handing.take handing.hand channels.claim channels.free channels.set_up channels.run channels.poll channels.read_register channels.write_register mappings.map_single mappings.unmap_single mappings.sync_for_cpu mappings.sync_for_device lists.map_sg lists.unmap_sg areas.calloc areas.give_area areas.take_area areas.free_area copies.copy
 numbered f lots (ops.Ld spot off len) n s e =
     let p = passed (spot_at f lots spot off len) (λ to. piece_step (load_step to f.pbmte f.table len n)) (Some s) e in

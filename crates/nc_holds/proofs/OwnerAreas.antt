@@ -15,7 +15,7 @@ use Rattle.nc_rules.specs.declared.lots.Side.TheVariants as sides
 use Rattle.nc_rules.specs.declared.steps.PageMove.{PageMove}
 use Rattle.nc_rules.specs.declared.steps.PageMove.TheVariants as moves
 use Rattle.nc_rules.specs.declared.steps.Turn.TheVariants as turns
-use Rattle.nc_rules.specs.Lots.{Fixed, is_lot, is_wanted, only_entry}
+use Rattle.nc_rules.specs.Lots.{DriverConfig, is_lot, is_wanted, only_entry}
 use Rattle.nc_rules.specs.Refusals.{buffer_of}
 use Rattle.nc_rules.specs.Turns.{is_area, those, to_side, of_those, granted, set_side, pages_taken, page_move, page_moves}
 use Rattle.nc_rules.specs.World.{grants_added, pages_moved}
@@ -39,15 +39,15 @@ use Rattle.nc_holds.proofs.OwnerLaws.{alike_pool, knows_made, knows_turned}
 use Rattle.nc_holds.proofs.GrantMoves.{added_left, others_stay, others_kept}
 use Rattle.nc_holds.proofs.GrantSides.{granted_sided, lends_them}
 
-abbrev pub made_area : Fixed → Held → Lot → Held
+abbrev pub made_area : DriverConfig → Held → Lot → Held
 made_area f s lot = changed f s (Made (lot ∷ []))
 
-abbrev pub lent_area : Fixed → Held → Lot → Held
+abbrev pub lent_area : DriverConfig → Held → Lot → Held
 lent_area f s lot = changed_by f s (Made (lot ∷ []) ∷ Turned (turns.Lend lot.id) ∷ [])
 
 -- ---- what is known of the area
 
-pub record IsNewArea (ram harts : ℕ) (f : Fixed) (s : Held) (lot : Lot) : Type 0 where
+pub record IsNewArea (ram harts : ℕ) (f : DriverConfig) (s : Held) (lot : Lot) : Type 0 where
   pub knows : Knows ram harts f (made_area f s lot)
   pub area : is_area lot.kind ≡ true
   pub wanted : is_wanted lot.side ≡ true
@@ -56,7 +56,7 @@ pub record IsNewArea (ram harts : ℕ) (f : Fixed) (s : Held) (lot : Lot) : Type
   pub free : pages_of s.pages (only_entry lot).span ≡ replicate (page_count (only_entry lot).span) true
   pub lent : AllLent s.lots
 
-pub new_area : (ram harts : ℕ) (f : Fixed) (s : Held) (lot : Lot) → Knows ram harts f s → IsMaking ram f s (lot ∷ []) → is_area lot.kind ≡ true → IsNewArea ram harts f s lot
+pub new_area : (ram harts : ℕ) (f : DriverConfig) (s : Held) (lot : Lot) → Knows ram harts f s → IsMaking ram f s (lot ∷ []) → is_area lot.kind ≡ true → IsNewArea ram harts f s lot
 new_area ram harts f s lot h making area =
     let is = all_at (IsLotIn ram f) (lot ∷ []) lot making.each.each (inl refl) in
     record {
@@ -84,12 +84,12 @@ old_or s lot l k = elim (of_append l s.lots (lot ∷ []) k) [ inl a ↦ inl a | 
 old_if : (s : Held) (lot l : Lot) → In l (s.lots ++ lot ∷ []) → is_lot lot.id l ≡ false → In l s.lots
 old_if s lot l k off = elim (old_or s lot l k) [ inl a ↦ a | inr same ↦ absurd (false≢true (sym off ∙ its_name l lot.id (ap (λ (m : Lot). m.id) (sym same)))) ]
 
-pub named_is : (ram harts : ℕ) (f : Fixed) (s : Held) (lot l : Lot) → IsNewArea ram harts f s lot → In l (s.lots ++ lot ∷ []) → is_lot lot.id l ≡ true → lot ≡ l
+pub named_is : (ram harts : ℕ) (f : DriverConfig) (s : Held) (lot l : Lot) → IsNewArea ram harts f s lot → In l (s.lots ++ lot ∷ []) → is_lot lot.id l ≡ true → lot ≡ l
 named_is ram harts f s lot l h k name = same_named (s.lots ++ lot ∷ []) lot.id lot l h.knows.names (at_end s lot) k (its_name lot lot.id refl) name
 
 -- ---- its bytes are of no other entry
 
-pub alike_regions : (f g : Fixed) → KnowsAlike f g → AreRegions f → AreRegions g
+pub alike_regions : (f g : DriverConfig) → KnowsAlike f g → AreRegions f → AreRegions g
 alike_regions f g a h =
     let same : (b : ℕ) → buffer_of f b ≡ buffer_of g b = λ b. (rw a.buffers refl) in
     record {
@@ -99,7 +99,7 @@ alike_regions f g a h =
       slots_off_pool = λ x on_s on_p. h.slots_off_pool x (rw (a.slots_at, a.slots) on_s) (rw a.pool on_p);
     }
 
-pub area_off : (ram harts : ℕ) (f g : Fixed) (s : Held) (lot l : Lot) (i : ℕ) (e : Entry) (x : ℕ) → IsNewArea ram harts f s lot → AreRegions g → ArePagesOf g s.pages → f.pool ≡ g.pool → IsLotIn ram g l → FitsSide g l → IsTaken s.pages l
+pub area_off : (ram harts : ℕ) (f g : DriverConfig) (s : Held) (lot l : Lot) (i : ℕ) (e : Entry) (x : ℕ) → IsNewArea ram harts f s lot → AreRegions g → ArePagesOf g s.pages → f.pool ≡ g.pool → IsLotIn ram g l → FitsSide g l → IsTaken s.pages l
     → slice_get l.list.entries i ≡ Some e → covers e.span x ≡ true → covers (only_entry lot).span x ≡ true → ⊥
 area_off ram harts f g s lot l i e x h regions of pool is fits taken k on on_area = elim (cases_Bool (is_area l.kind)) [
   | inl a ↦
@@ -111,13 +111,13 @@ area_off ram harts f g s lot l i e x h regions of pool is fits taken k on on_are
       regions.buffers_off_pool lies.0 x (lies.1 x on) (subst (λ (p : Span). covers p x ≡ true) pool in_pool)
 ]
 
-off_mine : (ram harts : ℕ) (f : Fixed) (s : Held) (lot l : Lot) (i j : ℕ) (e d : Entry) (x : ℕ) → Knows ram harts f s → Mine f s → IsNewArea ram harts f s lot → IsEntryOf s.lots l i e → slice_get lot.list.entries j ≡ Some d
+off_mine : (ram harts : ℕ) (f : DriverConfig) (s : Held) (lot l : Lot) (i j : ℕ) (e d : Entry) (x : ℕ) → Knows ram harts f s → Mine f s → IsNewArea ram harts f s lot → IsEntryOf s.lots l i e → slice_get lot.list.entries j ≡ Some d
     → covers e.span x ≡ true → covers d.span x ≡ true → ⊥
 off_mine ram harts f s lot l i j e d x knows mine h here k on on_d =
     area_off ram harts f f s lot l i e x h knows.regions knows.pool refl (all_at (IsLotIn ram f) s.lots l knows.lots here.lot_in) (all_at (FitsSide f) s.lots l mine.sides here.lot_in) (all_at (IsTaken s.pages) s.lots l mine.pages here.lot_in) here.entry on
     (subst (λ (c : Entry). covers c.span x ≡ true) (sym (area_only ram f lot j d h.is h.area k).1) on_d)
 
-area_apart : (ram harts : ℕ) (f : Fixed) (s : Held) (lot : Lot) → Knows ram harts f s → Mine f s → IsNewArea ram harts f s lot → EntriesAreApart (s.lots ++ lot ∷ [])
+area_apart : (ram harts : ℕ) (f : DriverConfig) (s : Held) (lot : Lot) → Knows ram harts f s → Mine f s → IsNewArea ram harts f s lot → EntriesAreApart (s.lots ++ lot ∷ [])
 area_apart ram harts f s lot knows mine h a b i j d e x ha hb on_d on_e = elim (old_or s lot a ha.lot_in) [
   | inl ka ↦ elim (old_or s lot b hb.lot_in) [
     | inl kb ↦ mine.apart a b i j d e x (record { lot_in = ka; entry = ha.entry }) (record { lot_in = kb; entry = hb.entry }) on_d on_e
@@ -145,19 +145,19 @@ takes_it lot true true ea ew a w = refl
 takes_it lot true false ea ew a w = absurd (false≢true w)
 takes_it lot false wanted ea ew a w = absurd (false≢true a)
 
-pub area_take : (ram harts : ℕ) (f : Fixed) (s : Held) (lot : Lot) → IsNewArea ram harts f s lot → page_moves pages_taken (those lot.id (s.lots ++ lot ∷ [])) ≡ moves.Take (only_entry lot).span
+pub area_take : (ram harts : ℕ) (f : DriverConfig) (s : Held) (lot : Lot) → IsNewArea ram harts f s lot → page_moves pages_taken (those lot.id (s.lots ++ lot ∷ [])) ≡ moves.Take (only_entry lot).span
 area_take ram harts f s lot h =
     let one = one_list lot (those lot.id (s.lots ++ lot ∷ [])) (in_filter (is_lot lot.id) lot (s.lots ++ lot ∷ []) (at_end s lot) (its_name lot lot.id refl)) (h.knows.names lot.id) in
     ap (page_moves pages_taken) one ∙ takes_it lot (is_area lot.kind) (is_wanted lot.side) refl refl h.area h.wanted
 
-pub area_pages_may_move : (ram harts : ℕ) (f : Fixed) (s : Held) (lot : Lot) → Knows ram harts f s → IsMaking ram f s (lot ∷ []) → is_area lot.kind ≡ true → MayMovePages s.pages (page_moves pages_taken (those lot.id (s.lots ++ lot ∷ [])))
+pub area_pages_may_move : (ram harts : ℕ) (f : DriverConfig) (s : Held) (lot : Lot) → Knows ram harts f s → IsMaking ram f s (lot ∷ []) → is_area lot.kind ≡ true → MayMovePages s.pages (page_moves pages_taken (those lot.id (s.lots ++ lot ∷ [])))
 area_pages_may_move ram harts f s lot knows making area =
     let h = new_area ram harts f s lot knows making area in
     subst (MayMovePages s.pages) (sym (area_take ram harts f s lot h)) (h.pages, h.free)
 
 -- ---- the hart
 
-fits_lent : (ram harts : ℕ) (f : Fixed) (s : Held) (lot now : Lot) → Mine f s → IsNewArea ram harts f s lot → In now (set_side sides.Lending lot.id (s.lots ++ lot ∷ [])) → FitsSide f now
+fits_lent : (ram harts : ℕ) (f : DriverConfig) (s : Held) (lot now : Lot) → Mine f s → IsNewArea ram harts f s lot → In now (set_side sides.Lending lot.id (s.lots ++ lot ∷ [])) → FitsSide f now
 fits_lent ram harts f s lot now mine h k =
     let r = of_sided sides.Lending lot.id (s.lots ++ lot ∷ []) now k in
     elim (old_or s lot r.lot r.here) [
@@ -169,7 +169,7 @@ fits_lent ram harts f s lot now mine h k =
     area_fits l now same (named name e) = subst (FitsSide f) e (record { area = λ a. refl; own = λ o. absurd (false≢true o); in_buffer = λ off. absurd (false≢true (sym off ∙ subst (λ (m : Lot). is_area m.kind ≡ true) same h.area)) })
     area_fits l now same (other off e) = absurd (false≢true (sym off ∙ its_name l lot.id (ap (λ (m : Lot). m.id) (sym same))))
 
-taken_lent : (ram harts : ℕ) (f : Fixed) (s : Held) (lot now : Lot) → Knows ram harts f s → Mine f s → IsNewArea ram harts f s lot → In now (set_side sides.Lending lot.id (s.lots ++ lot ∷ [])) → IsTaken (with_pages s.pages (only_entry lot).span false) now
+taken_lent : (ram harts : ℕ) (f : DriverConfig) (s : Held) (lot now : Lot) → Knows ram harts f s → Mine f s → IsNewArea ram harts f s lot → In now (set_side sides.Lending lot.id (s.lots ++ lot ∷ [])) → IsTaken (with_pages s.pages (only_entry lot).span false) now
 taken_lent ram harts f s lot now knows mine h k =
     let r = of_sided sides.Lending lot.id (s.lots ++ lot ∷ []) now k in
     taken_by (with_pages s.pages (only_entry lot).span false) sides.Lending lot.id r.lot now r.how (elim (old_or s lot r.lot r.here) [
@@ -181,7 +181,7 @@ taken_lent ram harts f s lot now knows mine h k =
       | inr same ↦ subst (IsTaken (with_pages s.pages (only_entry lot).span false)) same (λ a. now_taken s.pages (only_entry lot).span h.pages)
     ])
 
-lent_mine : (ram harts : ℕ) (f : Fixed) (s : Held) (lot : Lot) → Knows ram harts f s → Mine f s → IsNewArea ram harts f s lot → Mine f (lent_area f s lot)
+lent_mine : (ram harts : ℕ) (f : DriverConfig) (s : Held) (lot : Lot) → Knows ram harts f s → Mine f s → IsNewArea ram harts f s lot → Mine f (lent_area f s lot)
 lent_mine ram harts f s lot knows mine h =
     let all = s.lots ++ lot ∷ [] in
     let apart = area_apart ram harts f s lot knows mine h in
@@ -198,16 +198,16 @@ lent_mine ram harts f s lot knows mine h =
       held = lent_held f (made_area f s lot) lot.id (λ g k hart. held_more f s.lots (lot ∷ []) g (mine.held g k hart));
     }
 
-pub area_knows : (ram harts : ℕ) (f : Fixed) (s : Held) (lot : Lot) → Knows ram harts f s → IsMaking ram f s (lot ∷ []) → Knows ram harts f (lent_area f s lot)
+pub area_knows : (ram harts : ℕ) (f : DriverConfig) (s : Held) (lot : Lot) → Knows ram harts f s → IsMaking ram f s (lot ∷ []) → Knows ram harts f (lent_area f s lot)
 area_knows ram harts f s lot knows making = knows_turned ram harts f (made_area f s lot) (turns.Lend lot.id) (knows_made ram harts f s (lot ∷ []) knows making)
 
-pub area_mine : (ram harts : ℕ) (f : Fixed) (s : Held) (lot : Lot) → Knows ram harts f s → Mine f s → IsMaking ram f s (lot ∷ []) → is_area lot.kind ≡ true → Mine f (lent_area f s lot)
+pub area_mine : (ram harts : ℕ) (f : DriverConfig) (s : Held) (lot : Lot) → Knows ram harts f s → Mine f s → IsMaking ram f s (lot ∷ []) → is_area lot.kind ≡ true → Mine f (lent_area f s lot)
 area_mine ram harts f s lot knows mine making area = lent_mine ram harts f s lot knows mine (new_area ram harts f s lot knows making area)
 
 -- ---- the others
 
 -- no byte but the area's has another owner
-pub area_frame : (ram harts : ℕ) (f : Fixed) (s : Held) (lot : Lot) (x : ℕ) → IsNewArea ram harts f s lot → (covers (only_entry lot).span x ≡ true → ⊥) → owner_in (lent_area f s lot).owners x ≡ owner_in s.owners x
+pub area_frame : (ram harts : ℕ) (f : DriverConfig) (s : Held) (lot : Lot) (x : ℕ) → IsNewArea ram harts f s lot → (covers (only_entry lot).span x ≡ true → ⊥) → owner_in (lent_area f s lot).owners x ≡ owner_in s.owners x
 area_frame ram harts f s lot x h off =
     moved_off s.owners (of_those (to_side f.me sides.Lending) lot.id (s.lots ++ lot ∷ [])) x
     (λ t k on.
@@ -216,13 +216,13 @@ area_frame ram harts f s lot x h off =
     let entry = subst (λ (l : Lot). slice_get l.list.entries r.i ≡ Some r.entry) (sym same) r.here.entry in
     off (subst (λ (d : Entry). covers d.span x ≡ true) (sym (area_only ram f lot r.i r.entry h.is h.area entry).1) (move_covers f.me sides.Lending lot.id (s.lots ++ lot ∷ []) t x r on)))
 
-off_theirs : (ram harts : ℕ) (f g : Fixed) (s : Held) (lots : List Lot) (lot l : Lot) (i : ℕ) (e : Entry) (x : ℕ) → Knows ram harts f s → Theirs ram f g s lots → IsNewArea ram harts f s lot → IsEntryOf lots l i e → covers e.span x ≡ true
+off_theirs : (ram harts : ℕ) (f g : DriverConfig) (s : Held) (lots : List Lot) (lot l : Lot) (i : ℕ) (e : Entry) (x : ℕ) → Knows ram harts f s → Theirs ram f g s lots → IsNewArea ram harts f s lot → IsEntryOf lots l i e → covers e.span x ≡ true
     → covers (only_entry lot).span x ≡ true → ⊥
 off_theirs ram harts f g s lots lot l i e x knows theirs h here on on_area =
     area_off ram harts f g s lot l i e x h (alike_regions f g theirs.alike knows.regions) (alike_pool f g s.pages theirs.alike knows.pool) theirs.alike.pool (all_at (IsLotIn ram g) lots l theirs.each here.lot_in)
     (all_at (FitsSide g) lots l theirs.sides here.lot_in) (all_at (IsTaken s.pages) lots l theirs.pages here.lot_in) here.entry on on_area
 
-lent_theirs : (ram harts : ℕ) (f g : Fixed) (s : Held) (lots : List Lot) (lot : Lot) → Knows ram harts f s → Theirs ram f g s lots → IsNewArea ram harts f s lot → Theirs ram f g (lent_area f s lot) lots
+lent_theirs : (ram harts : ℕ) (f g : DriverConfig) (s : Held) (lots : List Lot) (lot : Lot) → Knows ram harts f s → Theirs ram f g s lots → IsNewArea ram harts f s lot → Theirs ram f g (lent_area f s lot) lots
 lent_theirs ram harts f g s lots lot knows theirs h = record {
   alike = theirs.alike;
   other = theirs.other;
@@ -238,8 +238,8 @@ lent_theirs ram harts f g s lots lot knows theirs h = record {
       (λ a x on on_l. off_theirs ram harts f g s lots lot l 0 (only_entry l) x knows theirs h (record { lot_in = k; entry = area_entry ram g l is a }) on_l on) (all_at (IsTaken s.pages) lots l theirs.pages k)));
 }
 
-pub area_theirs : (ram harts : ℕ) (f g : Fixed) (s : Held) (lots : List Lot) (lot : Lot) → Knows ram harts f s → Theirs ram f g s lots → IsMaking ram f s (lot ∷ []) → is_area lot.kind ≡ true → Theirs ram f g (lent_area f s lot) lots
+pub area_theirs : (ram harts : ℕ) (f g : DriverConfig) (s : Held) (lots : List Lot) (lot : Lot) → Knows ram harts f s → Theirs ram f g s lots → IsMaking ram f s (lot ∷ []) → is_area lot.kind ≡ true → Theirs ram f g (lent_area f s lot) lots
 area_theirs ram harts f g s lots lot knows theirs making area = lent_theirs ram harts f g s lots lot knows theirs (new_area ram harts f s lot knows making area)
 
-pub area_grants_of_others : (f : Fixed) (s : Held) (lot : Lot) (g : Grant) → g.id.hart.0 ≢ f.me.0 → In g (lent_area f s lot).grants → In g s.grants
+pub area_grants_of_others : (f : DriverConfig) (s : Held) (lot : Lot) (g : Grant) → g.id.hart.0 ≢ f.me.0 → In g (lent_area f s lot).grants → In g s.grants
 area_grants_of_others f s lot g away k = others_stay f.me f.slots_at (s.lots ++ lot ∷ []) (turns.Lend lot.id) s.grants g away k

@@ -11,7 +11,7 @@ use Rattle.nc_model.specs.declared.owners.Owner.{Owner}
 use Rattle.nc_sg.specs.declared.list.Entry.{Entry}
 use Rattle.nc_rules.specs.declared.lots.Lot.{Lot}
 use Rattle.nc_rules.specs.declared.lots.LotId.{LotId}
-use Rattle.nc_rules.specs.Lots.{Fixed, is_lot, is_wanted}
+use Rattle.nc_rules.specs.Lots.{DriverConfig, is_lot, is_wanted}
 use Rattle.nc_rules.specs.Turns.{to_end, last_owner, of_those, without_wanted}
 use Rattle.nc_rules.specs.World.{owners_moved}
 use Rattle.nc_scripts.proofs.LotLaws.{named_so, its_name}
@@ -38,11 +38,11 @@ left_apart p lots apart = apart_from lots (filter p lots) (λ now k. record { lo
 pub left_owners : (me : HartNo) (ws : List Owner) (p : Lot → Bool) (lots : List Lot) → OwnersAgree me ws lots → OwnersAgree me ws (filter p lots)
 left_owners me ws p lots agree lot i e x h on = agree lot i e x (left_entry p lots lot i e h) on
 
-pub left_granted : (f : Fixed) (grants : List Grant) (p : Lot → Bool) (lots : List Lot) → AreGranted f grants lots → AreGranted f grants (filter p lots)
+pub left_granted : (f : DriverConfig) (grants : List Grant) (p : Lot → Bool) (lots : List Lot) → AreGranted f grants lots → AreGranted f grants (filter p lots)
 left_granted f grants p lots agree lot i e h lent = agree lot i e (left_entry p lots lot i e h) lent
 
 -- what is lent is not left out with what is not
-pub left_held : (f : Fixed) (lots : List Lot) (g : Grant) → IsGrantOf f lots g → IsGrantOf f (without_wanted lots) g
+pub left_held : (f : DriverConfig) (lots : List Lot) (g : Grant) → IsGrantOf f lots g → IsGrantOf f (without_wanted lots) g
 left_held f lots g h = record {
   lot = h.lot;
   i = h.i;

@@ -11,7 +11,7 @@ use Rattle.nc_ops.specs.declared.ops.Op.{Op}
 use Rattle.nc_rules.specs.declared.lots.Lot.{Lot}
 use Rattle.nc_rules.specs.declared.steps.Turn.{Turn}
 use Rattle.nc_rules.specs.declared.steps.Turn.TheVariants as turns
-use Rattle.nc_rules.specs.Lots.{Fixed, is_wanted}
+use Rattle.nc_rules.specs.Lots.{DriverConfig, is_wanted}
 use Rattle.nc_rules.specs.Turns.{is_area}
 use Rattle.nc_scripts.specs.Drivers.{IsFixed, ArePagesOf, IsLotIn, AreApart}
 use Rattle.nc_scripts.proofs.NewLots.{AreNew}
@@ -21,7 +21,7 @@ use Rattle.nc_holds.specs.Holds.{KnowsAlike}
 
 -- ---- the hart whose driver changes what is held
 
-pub record Knows (ram harts : ℕ) (f : Fixed) (s : Held) : Type 0 where
+pub record Knows (ram harts : ℕ) (f : DriverConfig) (s : Held) : Type 0 where
   pub fixed : IsFixed ram harts f
   pub regions : AreRegions f
   pub lots : All (IsLotIn ram f) s.lots
@@ -29,7 +29,7 @@ pub record Knows (ram harts : ℕ) (f : Fixed) (s : Held) : Type 0 where
   pub long : length s.owners ≡ ram
   pub pool : ArePagesOf f s.pages
 
-pub record Mine (f : Fixed) (s : Held) : Type 0 where
+pub record Mine (f : DriverConfig) (s : Held) : Type 0 where
   pub sides : All (FitsSide f) s.lots
   pub apart : EntriesAreApart s.lots
   pub owners : OwnersAgree f.me s.owners s.lots
@@ -56,12 +56,12 @@ TurnFits lots (turns.Sync id) = Unit {0}
 TurnFits lots (turns.Settle id) = Unit {0}
 TurnFits lots (turns.End id) = Unit {0}
 
-pub record IsMaking (ram : ℕ) (f : Fixed) (s : Held) (new : List Lot) : Type 0 where
+pub record IsMaking (ram : ℕ) (f : DriverConfig) (s : Held) (new : List Lot) : Type 0 where
   pub may : MayMake f s new
   pub op : Op
   pub each : AreNew ram f op s.lots new
 
-abbrev pub Fits : ℕ → Fixed → Held → Change → Type 0
+abbrev pub Fits : ℕ → DriverConfig → Held → Change → Type 0
 Fits ram f s (Made new) = IsMaking ram f s new × NoAreas new
 Fits ram f s (Got word) = WaitsUnlent s.lots × (word < f.slots)
 Fits ram f s (Turned t) = MayTurn f s t × TurnFits s.lots t
@@ -69,7 +69,7 @@ Fits ram f s Dropped = Unit {0}
 
 -- ---- another hart
 
-pub record Theirs (ram : ℕ) (f g : Fixed) (s : Held) (lots : List Lot) : Type 0 where
+pub record Theirs (ram : ℕ) (f g : DriverConfig) (s : Held) (lots : List Lot) : Type 0 where
   pub alike : KnowsAlike f g
   pub other : g.me.0 ≢ f.me.0
   pub each : All (IsLotIn ram g) lots
@@ -80,8 +80,8 @@ pub record Theirs (ram : ℕ) (f g : Fixed) (s : Held) (lots : List Lot) : Type 
 
 -- ---- a grant that some hart holds, this one or another
 
-pub record IsHeldBy (ram : ℕ) (f : Fixed) (s : Held) (g : Grant) : Type 0 where
-  pub other : Fixed
+pub record IsHeldBy (ram : ℕ) (f : DriverConfig) (s : Held) (g : Grant) : Type 0 where
+  pub other : DriverConfig
   pub lots : List Lot
   pub alike : KnowsAlike f other
   pub each : All (IsLotIn ram other) lots
@@ -91,7 +91,7 @@ pub record IsHeldBy (ram : ℕ) (f : Fixed) (s : Held) (g : Grant) : Type 0 wher
   pub mine : other.me.0 ≡ f.me.0 → lots ≡ s.lots
   pub is : IsGrantOf other lots g
 
-abbrev pub EachIsHeld : ℕ → Fixed → Held → Type 0
+abbrev pub EachIsHeld : ℕ → DriverConfig → Held → Type 0
 EachIsHeld ram f s = (g : Grant) → In g s.grants → IsHeldBy ram f s g
 
 -- ---- what becomes of the owner of a byte

@@ -18,7 +18,7 @@ use Rattle.nc_rules.specs.declared.lots.Lot.{Lot}
 use Rattle.nc_rules.specs.declared.lots.LotId.{LotId}
 use Rattle.nc_rules.specs.declared.lots.Side.{Side}
 use Rattle.nc_rules.specs.declared.lots.Side.TheVariants as sides
-use Rattle.nc_rules.specs.Lots.{Fixed, is_lot, only_entry, no_entry, owner_of_side}
+use Rattle.nc_rules.specs.Lots.{DriverConfig, is_lot, only_entry, no_entry, owner_of_side}
 use Rattle.nc_rules.specs.Turns.{is_area, set_side, with_side}
 use Rattle.nc_scripts.specs.Drivers.{IsEntryIn, IsInPool, FitsKind, IsLotIn, AreApart, BouncesSo}
 use Rattle.nc_scripts.proofs.LotLaws.{its_name}
@@ -36,13 +36,13 @@ same_named lots id a b apart ka kb ea eb = only_one (is_lot id) lots a b (apart 
 
 -- ---- places
 
-pub entry_in : (ram : ℕ) (f : Fixed) (lot : Lot) (i : ℕ) (e : Entry) → IsLotIn ram f lot → slice_get lot.list.entries i ≡ Some e → IsEntryIn ram f.slots e
+pub entry_in : (ram : ℕ) (f : DriverConfig) (lot : Lot) (i : ℕ) (e : Entry) → IsLotIn ram f lot → slice_get lot.list.entries i ≡ Some e → IsEntryIn ram f.slots e
 entry_in ram f lot i e h k = all_at (IsEntryIn ram f.slots) lot.list.entries e h.entries (at_get lot.list.entries i e k)
 
-pub below : (ram : ℕ) (f : Fixed) (lot : Lot) (i : ℕ) (e : Entry) (x : ℕ) → IsLotIn ram f lot → slice_get lot.list.entries i ≡ Some e → covers e.span x ≡ true → x < ram
+pub below : (ram : ℕ) (f : DriverConfig) (lot : Lot) (i : ℕ) (e : Entry) (x : ℕ) → IsLotIn ram f lot → slice_get lot.list.entries i ≡ Some e → covers e.span x ≡ true → x < ram
 below ram f lot i e x h k on = omega (arith, covers-high e.span x on, (entry_in ram f lot i e h k).range.ends)
 
-pub of_lots : (ram : ℕ) (f : Fixed) (lots : List Lot) (lot : Lot) (i : ℕ) (e : Entry) (x : ℕ) → All (IsLotIn ram f) lots → IsEntryOf lots lot i e → covers e.span x ≡ true → x < ram
+pub of_lots : (ram : ℕ) (f : DriverConfig) (lots : List Lot) (lot : Lot) (i : ℕ) (e : Entry) (x : ℕ) → All (IsLotIn ram f) lots → IsEntryOf lots lot i e → covers e.span x ≡ true → x < ram
 of_lots ram f lots lot i e x all h on = below ram f lot i e x (all_at (IsLotIn ram f) lots lot all h.lot_in) h.entry on
 
 -- ---- areas
@@ -53,23 +53,23 @@ only_by pool lot kinds.List fits e = absurd (false≢true e)
 only_by pool lot kinds.Area fits e = (fits.1, fits.2)
 only_by pool lot kinds.Copy fits e = absurd (false≢true e)
 
-pub area_in : (ram : ℕ) (f : Fixed) (lot : Lot) (i : ℕ) (e : Entry) → IsLotIn ram f lot → is_area lot.kind ≡ true → slice_get lot.list.entries i ≡ Some e → IsInPool f.pool e.span
+pub area_in : (ram : ℕ) (f : DriverConfig) (lot : Lot) (i : ℕ) (e : Entry) → IsLotIn ram f lot → is_area lot.kind ≡ true → slice_get lot.list.entries i ≡ Some e → IsInPool f.pool e.span
 area_in ram f lot i e h a k = all_at (λ (d : Entry). IsInPool f.pool d.span) lot.list.entries e (only_by f.pool lot lot.kind h.kind a).1 (at_get lot.list.entries i e k)
 
-pub area_covers : (ram : ℕ) (f : Fixed) (lot : Lot) (i : ℕ) (e : Entry) (x : ℕ) → IsLotIn ram f lot → is_area lot.kind ≡ true → slice_get lot.list.entries i ≡ Some e → covers e.span x ≡ true → covers f.pool x ≡ true
+pub area_covers : (ram : ℕ) (f : DriverConfig) (lot : Lot) (i : ℕ) (e : Entry) (x : ℕ) → IsLotIn ram f lot → is_area lot.kind ≡ true → slice_get lot.list.entries i ≡ Some e → covers e.span x ≡ true → covers f.pool x ≡ true
 area_covers ram f lot i e x h a k on =
     let p = area_in ram f lot i e h a k in
     covers-from f.pool x (omega (arith, p.starts, covers-low e.span x on)) (omega (arith, p.ends, covers-high e.span x on))
 
 -- its one entry
-pub area_only : (ram : ℕ) (f : Fixed) (lot : Lot) (i : ℕ) (e : Entry) → IsLotIn ram f lot → is_area lot.kind ≡ true → slice_get lot.list.entries i ≡ Some e → (i ≡ 0) × (only_entry lot ≡ e)
+pub area_only : (ram : ℕ) (f : DriverConfig) (lot : Lot) (i : ℕ) (e : Entry) → IsLotIn ram f lot → is_area lot.kind ≡ true → slice_get lot.list.entries i ≡ Some e → (i ≡ 0) × (only_entry lot ≡ e)
 area_only ram f lot i e h a k =
     let one = (only_by f.pool lot lot.kind h.kind a).0 in
     let lt = slice_get_within lot.list.entries i e k in
     let zero_is : i ≡ 0 = omega (arith, one, lt) in
     (zero_is, ap (λ n. slice_index_or lot.list.entries n no_entry) (sym zero_is) ∙ get_or_from_slice_get lot.list.entries i e no_entry k)
 
-pub area_direct : (ram : ℕ) (f : Fixed) (lot : Lot) (i : ℕ) (e : Entry) → IsLotIn ram f lot → is_area lot.kind ≡ true → slice_get lot.list.entries i ≡ Some e → e.bounced ≡ false
+pub area_direct : (ram : ℕ) (f : DriverConfig) (lot : Lot) (i : ℕ) (e : Entry) → IsLotIn ram f lot → is_area lot.kind ≡ true → slice_get lot.list.entries i ≡ Some e → e.bounced ≡ false
 area_direct ram f lot i e h a k =
     let so = all_at (BouncesSo f lot.kind lot.list.dir lot.chan) lot.list.entries e h.bounce (at_get lot.list.entries i e k) in
     so ∙ (rw a refl)
@@ -96,7 +96,7 @@ apart_by a b i j li lj e d (inr p) (inl q) = absurd (omega (arith, p.0, q.1, e))
 apart_by a b i j li lj e d (inr p) (inr q) = record { lot = id_is a.id b.id e (omega (arith, p.1, q.1, d, li, lj)); entry = omega (arith, p.1, q.1, d, li, lj) }
 
 -- two entries that are one mapping are one
-pub names_apart : (ram : ℕ) (f : Fixed) (a b : Lot) (i j : ℕ) (d e : Entry) → IsLotIn ram f a → IsLotIn ram f b → slice_get a.list.entries i ≡ Some d → slice_get b.list.entries j ≡ Some e
+pub names_apart : (ram : ℕ) (f : DriverConfig) (a b : Lot) (i j : ℕ) (d e : Entry) → IsLotIn ram f a → IsLotIn ram f b → slice_get a.list.entries i ≡ Some d → slice_get b.list.entries j ≡ Some e
     → a.id.label.0 ≡ b.id.label.0 → a.id.first + i ≡ b.id.first + j → IsSameEntry a i b j
 names_apart ram f a b i j d e ha hb ka kb label entry =
     apart_by a b i j (slice_get_within a.list.entries i d ka) (slice_get_within b.list.entries j e kb) label entry (name_by f.pool a a.kind ha.kind) (name_by f.pool b b.kind hb.kind)

@@ -18,7 +18,7 @@ use Rattle.nc_sg.specs.declared.list.Entry.{Entry}
 use Rattle.nc_rules.specs.declared.lots.Lot.{Lot}
 use Rattle.nc_rules.specs.declared.lots.Side.{Side}
 use Rattle.nc_rules.specs.declared.lots.Side.TheVariants as sides
-use Rattle.nc_rules.specs.Lots.{Fixed, is_wanted, is_own, map_id, owner_of_side}
+use Rattle.nc_rules.specs.Lots.{DriverConfig, is_wanted, is_own, map_id, owner_of_side}
 use Rattle.nc_rules.specs.Refusals.{buffer_of}
 use Rattle.nc_rules.specs.Turns.{is_area}
 use Rattle.nc_scripts.specs.Drivers.{IsLotIn, IsSettled}
@@ -102,7 +102,7 @@ new_apart me ws (lot ∷ new) off h a b i j d e x (inr ka) (inr kb) ha hb on_d o
 -- ---- new lots and old ones
 
 -- a byte of a lot that is lent is the hart's own only in an area
-pub lent_not_own : (f : Fixed) (m : MapId) (side : Side) → is_wanted side ≡ false → is_thread f.me (owner_of_side m side) ≡ true → is_own side ≡ true
+pub lent_not_own : (f : DriverConfig) (m : MapId) (side : Side) → is_wanted side ≡ false → is_thread f.me (owner_of_side m side) ≡ true → is_own side ≡ true
 lent_not_own f m sides.Wanted lent e = absurd (false≢true (sym lent))
 lent_not_own f m sides.Lending lent e = absurd (false≢true e)
 lent_not_own f m sides.Device lent e = absurd (false≢true e)
@@ -111,7 +111,7 @@ lent_not_own f m sides.Synced lent e = absurd (false≢true e)
 lent_not_own f m sides.Own lent e = refl
 
 -- a byte of a buffer that is the hart's own is of no lot that is lent
-pub own_off_lent : (ram harts : ℕ) (f : Fixed) (s : Held) (lot : Lot) (i : ℕ) (e : Entry) (x b : ℕ) → Knows ram harts f s → Mine f s → IsEntryOf s.lots lot i e → is_wanted lot.side ≡ false → covers e.span x ≡ true
+pub own_off_lent : (ram harts : ℕ) (f : DriverConfig) (s : Held) (lot : Lot) (i : ℕ) (e : Entry) (x b : ℕ) → Knows ram harts f s → Mine f s → IsEntryOf s.lots lot i e → is_wanted lot.side ≡ false → covers e.span x ≡ true
     → covers (buffer_of f b) x ≡ true → is_thread f.me (owner_in s.owners x) ≡ true → ⊥
 own_off_lent ram harts f s lot i e x b knows mine h lent on on_b own =
     let side : is_thread f.me (owner_of_side (map_id f.me lot.id i) lot.side) ≡ true = subst (λ (o : Owner). is_thread f.me o ≡ true) (mine.owners lot i e x h on) own in
@@ -138,13 +138,13 @@ thread_is me owners.Pool e = absurd (false≢true e)
 -- ---- all of them
 
 -- the new lots lie in buffers, are the hart's own, and are apart
-pub record AreFresh (f : Fixed) (ws : List Owner) (new : List Lot) : Type 0 where
+pub record AreFresh (f : DriverConfig) (ws : List Owner) (new : List Lot) : Type 0 where
   pub off : NoAreas new
   pub lie : All (LiesSo f) new
   pub owned : AreOwned f.me ws (flat_map own_ranges new)
   pub wanted : All (λ lot. is_wanted lot.side ≡ true) new
 
-fresh : (ram : ℕ) (f : Fixed) (s : Held) (new : List Lot) → IsMaking ram f s new → NoAreas new → AreFresh f s.owners new
+fresh : (ram : ℕ) (f : DriverConfig) (s : Held) (new : List Lot) → IsMaking ram f s new → NoAreas new → AreFresh f s.owners new
 fresh ram f s new h off = record {
   off = off;
   lie = new_in_buffers f s.lots new s.owners s.pages h.may.op h.may.begins;
@@ -152,11 +152,11 @@ fresh ram f s new h off = record {
   wanted = h.each.wanted;
 }
 
-is_own_byte : (f : Fixed) (ws : List Owner) (new : List Lot) (lot : Lot) (i : ℕ) (e : Entry) (x : ℕ) → AreFresh f ws new → In lot new → slice_get lot.list.entries i ≡ Some e → covers e.span x ≡ true → is_thread f.me (owner_in ws x) ≡ true
+is_own_byte : (f : DriverConfig) (ws : List Owner) (new : List Lot) (lot : Lot) (i : ℕ) (e : Entry) (x : ℕ) → AreFresh f ws new → In lot new → slice_get lot.list.entries i ≡ Some e → covers e.span x ≡ true → is_thread f.me (owner_in ws x) ≡ true
 is_own_byte f ws new lot i e x h k entry on =
     owned_at f.me ws (flat_map own_ranges new) e.span h.owned (in_own new lot i e k (all_at (λ (l : Lot). is_area l.kind ≡ false) new lot h.off k) entry) x on
 
-off_old : (ram harts : ℕ) (f : Fixed) (s : Held) (new : List Lot) (old lot : Lot) (i j : ℕ) (d e : Entry) (x : ℕ) → Knows ram harts f s → Mine f s → AllLent s.lots → AreFresh f s.owners new → IsEntryOf s.lots old i d → In lot new
+off_old : (ram harts : ℕ) (f : DriverConfig) (s : Held) (new : List Lot) (old lot : Lot) (i j : ℕ) (d e : Entry) (x : ℕ) → Knows ram harts f s → Mine f s → AllLent s.lots → AreFresh f s.owners new → IsEntryOf s.lots old i d → In lot new
     → slice_get lot.list.entries j ≡ Some e → covers d.span x ≡ true → covers e.span x ≡ true → ⊥
 off_old ram harts f s new old lot i j d e x knows mine lent h here k entry on_d on_e =
     let lies = all_at (λ (c : Entry). LiesInBuffer f c.span) lot.list.entries e (all_at (LiesSo f) new lot h.lie k (all_at (λ (l : Lot). is_area l.kind ≡ false) new lot h.off k)) (at_get lot.list.entries j e entry) in
@@ -165,7 +165,7 @@ off_old ram harts f s new old lot i j d e x knows mine lent h here k entry on_d 
 same_back : (a : Lot) (i : ℕ) (b : Lot) (j : ℕ) → IsSameEntry a i b j → IsSameEntry b j a i
 same_back a i b j h = record { lot = sym h.lot; entry = sym h.entry }
 
-made_apart : (ram harts : ℕ) (f : Fixed) (s : Held) (new : List Lot) → Knows ram harts f s → Mine f s → AllLent s.lots → AreFresh f s.owners new → EntriesAreApart (s.lots ++ new)
+made_apart : (ram harts : ℕ) (f : DriverConfig) (s : Held) (new : List Lot) → Knows ram harts f s → Mine f s → AllLent s.lots → AreFresh f s.owners new → EntriesAreApart (s.lots ++ new)
 made_apart ram harts f s new knows mine lent h a b i j d e x ha hb on_d on_e = elim (of_append a s.lots new ha.lot_in) [
   | inl ka ↦ elim (of_append b s.lots new hb.lot_in) [
     | inl kb ↦ mine.apart a b i j d e x (record { lot_in = ka; entry = ha.entry }) (record { lot_in = kb; entry = hb.entry }) on_d on_e
@@ -177,7 +177,7 @@ made_apart ram harts f s new knows mine lent h a b i j d e x ha hb on_d on_e = e
   ]
 ]
 
-made_owners : (f : Fixed) (s : Held) (new : List Lot) → Mine f s → AreFresh f s.owners new → OwnersAgree f.me s.owners (s.lots ++ new)
+made_owners : (f : DriverConfig) (s : Held) (new : List Lot) → Mine f s → AreFresh f s.owners new → OwnersAgree f.me s.owners (s.lots ++ new)
 made_owners f s new mine h lot i e x here on = elim (of_append lot s.lots new here.lot_in) [
   | inl k ↦ mine.owners lot i e x (record { lot_in = k; entry = here.entry }) on
   | inr k ↦
@@ -193,30 +193,30 @@ not_both sides.Returning w o = false≢true w
 not_both sides.Synced w o = false≢true w
 not_both sides.Own w o = false≢true w
 
-fits_new : (f : Fixed) (ws : List Owner) (new : List Lot) (lot : Lot) → AreFresh f ws new → In lot new → FitsSide f lot
+fits_new : (f : DriverConfig) (ws : List Owner) (new : List Lot) (lot : Lot) → AreFresh f ws new → In lot new → FitsSide f lot
 fits_new f ws new lot h k = record {
   area = λ a. absurd (false≢true (sym (all_at (λ (l : Lot). is_area l.kind ≡ false) new lot h.off k) ∙ a));
   own = λ o. absurd (not_both lot.side (all_at (λ (l : Lot). is_wanted l.side ≡ true) new lot h.wanted k) o);
   in_buffer = all_at (LiesSo f) new lot h.lie k;
 }
 
-taken_new : (f : Fixed) (s : Held) (new : List Lot) (lot : Lot) → AreFresh f s.owners new → In lot new → IsTaken s.pages lot
+taken_new : (f : DriverConfig) (s : Held) (new : List Lot) (lot : Lot) → AreFresh f s.owners new → In lot new → IsTaken s.pages lot
 taken_new f s new lot h k a = absurd (false≢true (sym (all_at (λ (l : Lot). is_area l.kind ≡ false) new lot h.off k) ∙ a))
 
 -- what is granted stays, since the new lots are not lent
-pub granted_more : (f : Fixed) (grants : List Grant) (lots new : List Lot) → AreGranted f grants lots → All (λ lot. is_wanted lot.side ≡ true) new → AreGranted f grants (lots ++ new)
+pub granted_more : (f : DriverConfig) (grants : List Grant) (lots new : List Lot) → AreGranted f grants lots → All (λ lot. is_wanted lot.side ≡ true) new → AreGranted f grants (lots ++ new)
 granted_more f grants lots new agree wanted lot i e here lent = elim (of_append lot lots new here.lot_in) [
   | inl k ↦ agree lot i e (record { lot_in = k; entry = here.entry }) lent
   | inr k ↦ absurd (false≢true (sym lent ∙ all_at (λ (l : Lot). is_wanted l.side ≡ true) new lot wanted k))
 ]
 
-pub held_more : (f : Fixed) (lots new : List Lot) (g : Grant) → IsGrantOf f lots g → IsGrantOf f (lots ++ new) g
+pub held_more : (f : DriverConfig) (lots new : List Lot) (g : Grant) → IsGrantOf f lots g → IsGrantOf f (lots ++ new) g
 held_more f lots new g h = record { lot = h.lot; i = h.i; entry = h.entry; here = record { lot_in = in_left h.lot lots new h.here.lot_in; entry = h.here.entry }; lent = h.lent; is = h.is }
 
 pub settled_lent : (lots : List Lot) → All IsSettled lots → AllLent lots
 settled_lent lots all = all_to IsSettled (λ lot. is_wanted lot.side ≡ false) lots all (λ lot h. h.lent)
 
-pub mine_made : (ram harts : ℕ) (f : Fixed) (s : Held) (new : List Lot) → Knows ram harts f s → Mine f s → IsMaking ram f s new → NoAreas new → Mine f (changed f s (Made new))
+pub mine_made : (ram harts : ℕ) (f : DriverConfig) (s : Held) (new : List Lot) → Knows ram harts f s → Mine f s → IsMaking ram f s new → NoAreas new → Mine f (changed f s (Made new))
 mine_made ram harts f s new knows mine making off =
     let h = fresh ram f s new making off in
     let lent = settled_lent s.lots making.may.settled in

@@ -13,7 +13,7 @@ use Rattle.nc_rules.specs.declared.lots.Kind.TheVariants as kinds
 use Rattle.nc_rules.specs.declared.lots.Lot.{Lot}
 use Rattle.nc_rules.specs.declared.steps.PageMove.{PageMove}
 use Rattle.nc_rules.specs.declared.steps.PageMove.TheVariants as moves
-use Rattle.nc_rules.specs.Lots.{Fixed, only_entry, no_entry}
+use Rattle.nc_rules.specs.Lots.{DriverConfig, only_entry, no_entry}
 use Rattle.nc_rules.specs.Turns.{is_area, page_move, page_moves}
 use Rattle.nc_scripts.specs.Drivers.{FitsKind, IsLotIn, ArePagesOf}
 use Rattle.nc_holds.specs.Held.{IsTaken}
@@ -28,10 +28,10 @@ one_by pool lot kinds.List fits e = absurd (false≢true e)
 one_by pool lot kinds.Area fits e = fits.1
 one_by pool lot kinds.Copy fits e = absurd (false≢true e)
 
-pub area_entry : (ram : ℕ) (f : Fixed) (lot : Lot) → IsLotIn ram f lot → is_area lot.kind ≡ true → slice_get lot.list.entries 0 ≡ Some (only_entry lot)
+pub area_entry : (ram : ℕ) (f : DriverConfig) (lot : Lot) → IsLotIn ram f lot → is_area lot.kind ≡ true → slice_get lot.list.entries 0 ≡ Some (only_entry lot)
 area_entry ram f lot h a = slice_get-get_or lot.list.entries 0 no_entry (omega (arith, one_by f.pool lot lot.kind h.kind a))
 
-pub area_pages : (ram : ℕ) (f : Fixed) (pool : PageMap) (lot : Lot) → IsLotIn ram f lot → ArePagesOf f pool → is_area lot.kind ≡ true → IsPages pool (only_entry lot).span
+pub area_pages : (ram : ℕ) (f : DriverConfig) (pool : PageMap) (lot : Lot) → IsLotIn ram f lot → ArePagesOf f pool → is_area lot.kind ≡ true → IsPages pool (only_entry lot).span
 area_pages ram f pool lot h of a =
     let k = area_entry ram f lot h a in
     let p = area_in ram f lot 0 (only_entry lot) h a k in
@@ -78,7 +78,7 @@ span_taken pool a b to ha hb off taken =
     so_list (marked pool.free (first_page pool a) (page_count a) to) (first_page pool b) (page_count b) false
     (omega (arith, length-marked pool.free (first_page pool a) (page_count a) to (pages_end pool a ha), pages_end pool b hb)) now
 
-pub taken_kept : (ram : ℕ) (f : Fixed) (pool : PageMap) (a : Span) (to : Bool) (lot : Lot) → IsPages pool a → ArePagesOf f pool → IsLotIn ram f lot → (is_area lot.kind ≡ true → Apart a (only_entry lot).span) → IsTaken pool lot → IsTaken (with_pages pool a to) lot
+pub taken_kept : (ram : ℕ) (f : DriverConfig) (pool : PageMap) (a : Span) (to : Bool) (lot : Lot) → IsPages pool a → ArePagesOf f pool → IsLotIn ram f lot → (is_area lot.kind ≡ true → Apart a (only_entry lot).span) → IsTaken pool lot → IsTaken (with_pages pool a to) lot
 taken_kept ram f pool a to lot ha of h off taken e = span_taken pool a (only_entry lot).span to ha (area_pages ram f pool lot h of e) (off e) (taken e)
 
 -- those that are taken
@@ -88,7 +88,7 @@ now_taken pool a ha =
     (omega (arith, length-marked pool.free (first_page pool a) (page_count a) false (pages_end pool a ha), pages_end pool a ha))
     (so_marked pool.free (first_page pool a) (page_count a) false (pages_end pool a ha))
 
-pub pages_of_kept : (f : Fixed) (pool : PageMap) (a : Span) (to : Bool) → IsPages pool a → ArePagesOf f pool → ArePagesOf f (with_pages pool a to)
+pub pages_of_kept : (f : DriverConfig) (pool : PageMap) (a : Span) (to : Bool) → IsPages pool a → ArePagesOf f pool → ArePagesOf f (with_pages pool a to)
 pages_of_kept f pool a to ha of = record { at = of.at; len = ap (λ n. 4096 * n) (length-marked pool.free (first_page pool a) (page_count a) to (pages_end pool a ha)) ∙ of.len }
 
 -- ---- the move of several lots

@@ -13,7 +13,7 @@ use Rattle.nc_sg.specs.declared.list.Entry.{Entry}
 use Rattle.nc_rules.specs.declared.lots.Lot.{Lot}
 use Rattle.nc_rules.specs.declared.lots.LotId.{LotId}
 use Rattle.nc_rules.specs.declared.lots.Side.{Side}
-use Rattle.nc_rules.specs.Lots.{Fixed, is_lot, is_wanted, is_own, map_id, owner_of_side}
+use Rattle.nc_rules.specs.Lots.{DriverConfig, is_lot, is_wanted, is_own, map_id, owner_of_side}
 use Rattle.nc_rules.specs.Turns.{is_area, to_side, of_those, set_side}
 use Rattle.nc_rules.specs.World.{owners_moved}
 use Rattle.nc_scripts.specs.Drivers.{IsLotIn}
@@ -98,18 +98,18 @@ sided_owner me side id lots ws lot now i e x apart lt agree k (other name same) 
     subst (λ (l : Lot). slice_get l.list.entries i ≡ Some e → owner_in (sided_owners me side id lots ws) x ≡ owner_of_side (map_id me l.id i) l.side) same
     (λ g. other_owner me side id lots ws lot i e x apart name (record { lot_in = k; entry = g }) on ∙ agree lot i e x name (record { lot_in = k; entry = g }) on) h
 
-still_below : (ram : ℕ) (f : Fixed) (side : Side) (id : LotId) (lots : List Lot) (lot now : Lot) (i : ℕ) (e : Entry) (x : ℕ) → All (IsLotIn ram f) lots → In lot lots → SidedBy side id lot now → slice_get now.list.entries i ≡ Some e → covers e.span x ≡ true → x < ram
+still_below : (ram : ℕ) (f : DriverConfig) (side : Side) (id : LotId) (lots : List Lot) (lot now : Lot) (i : ℕ) (e : Entry) (x : ℕ) → All (IsLotIn ram f) lots → In lot lots → SidedBy side id lot now → slice_get now.list.entries i ≡ Some e → covers e.span x ≡ true → x < ram
 still_below ram f side id lots lot now i e x all k (named name same) h on = of_lots ram f lots lot i e x all (record { lot_in = k; entry = subst (λ (l : Lot). slice_get l.list.entries i ≡ Some e) (sym same) h }) on
 still_below ram f side id lots lot now i e x all k (other name same) h on = of_lots ram f lots lot i e x all (record { lot_in = k; entry = subst (λ (l : Lot). slice_get l.list.entries i ≡ Some e) (sym same) h }) on
 
-pub owners_set : (ram : ℕ) (f : Fixed) (side : Side) (id : LotId) (lots : List Lot) (ws : List Owner) → All (IsLotIn ram f) lots → length ws ≡ ram → EntriesAreApart lots → OthersOwn f.me ws id lots
+pub owners_set : (ram : ℕ) (f : DriverConfig) (side : Side) (id : LotId) (lots : List Lot) (ws : List Owner) → All (IsLotIn ram f) lots → length ws ≡ ram → EntriesAreApart lots → OthersOwn f.me ws id lots
     → OwnersAgree f.me (sided_owners f.me side id lots ws) (set_side side id lots)
 owners_set ram f side id lots ws all long apart agree now i e x h on =
     let r = of_sided side id lots now h.lot_in in
     let lt = still_below ram f side id lots r.lot now i e x all r.here r.how h.entry on in
     sided_owner f.me side id lots ws r.lot now i e x apart (omega (arith, long, lt)) agree r.here r.how h.entry on
 
-pub owners_sided : (ram : ℕ) (f : Fixed) (side : Side) (id : LotId) (lots : List Lot) (ws : List Owner) → All (IsLotIn ram f) lots → length ws ≡ ram → EntriesAreApart lots → OwnersAgree f.me ws lots
+pub owners_sided : (ram : ℕ) (f : DriverConfig) (side : Side) (id : LotId) (lots : List Lot) (ws : List Owner) → All (IsLotIn ram f) lots → length ws ≡ ram → EntriesAreApart lots → OwnersAgree f.me ws lots
     → OwnersAgree f.me (sided_owners f.me side id lots ws) (set_side side id lots)
 owners_sided ram f side id lots ws all long apart agree = owners_set ram f side id lots ws all long apart (λ lot i e x off h on. agree lot i e x h on)
 
@@ -130,7 +130,7 @@ frame_sided me side id lots ws x agree =
 abbrev pub OwnOfAreas : Side → List Lot → LotId → Type 0
 OwnOfAreas side lots id = is_own side ≡ true → AreAreas lots id
 
-pub sides_by : (f : Fixed) (side : Side) (id : LotId) (lots : List Lot) (lot now : Lot) → is_wanted side ≡ false → OwnOfAreas side lots id → In lot lots → SidedBy side id lot now → FitsSide f lot → FitsSide f now
+pub sides_by : (f : DriverConfig) (side : Side) (id : LotId) (lots : List Lot) (lot now : Lot) → is_wanted side ≡ false → OwnOfAreas side lots id → In lot lots → SidedBy side id lot now → FitsSide f lot → FitsSide f now
 sides_by f side id lots lot now off own k (named name same) h =
     subst (FitsSide f) same (record {
       area = λ a. off;
@@ -139,7 +139,7 @@ sides_by f side id lots lot now off own k (named name same) h =
     })
 sides_by f side id lots lot now off own k (other name same) h = subst (FitsSide f) same h
 
-pub sides_sided : (f : Fixed) (side : Side) (id : LotId) (lots : List Lot) → is_wanted side ≡ false → OwnOfAreas side lots id → All (FitsSide f) lots → All (FitsSide f) (set_side side id lots)
+pub sides_sided : (f : DriverConfig) (side : Side) (id : LotId) (lots : List Lot) → is_wanted side ≡ false → OwnOfAreas side lots id → All (FitsSide f) lots → All (FitsSide f) (set_side side id lots)
 sides_sided f side id lots off own all =
     all_in (FitsSide f) (set_side side id lots)
     (λ now k. let r = of_sided side id lots now k in sides_by f side id lots r.lot now off own r.here r.how (all_at (FitsSide f) lots r.lot all r.here))

@@ -10,7 +10,7 @@ use Rattle.nc_coherent.specs.Pages.{PageMap}
 use Rattle.nc_sg.specs.declared.list.Entry.{Entry}
 use Rattle.nc_sg.specs.Lists.{waits, give_slot}
 use Rattle.nc_rules.specs.declared.lots.Lot.{Lot}
-use Rattle.nc_rules.specs.Lots.{Fixed, is_wanted, lot_waits, with_slot, slot_given, map_id, only_entry, owner_of_side}
+use Rattle.nc_rules.specs.Lots.{DriverConfig, is_wanted, lot_waits, with_slot, slot_given, map_id, only_entry, owner_of_side}
 use Rattle.nc_scripts.proofs.Lists.{all_in}
 use Rattle.nc_holds.specs.Held.{Held, LiesInBuffer, FitsSide, OwnersAgree, AreGranted, IsTaken}
 use Rattle.nc_holds.specs.Changes.{WaitsUnlent, Got, Dropped, changed}
@@ -91,7 +91,7 @@ given_from k lots now h = let r = of_given k lots now h in record { lot = r.lot;
 
 -- ---- what stays
 
-lies_given : (f : Fixed) (k : ℕ) (lot : Lot) → All (λ e. LiesInBuffer f e.span) lot.list.entries → All (λ e. LiesInBuffer f e.span) (with_slot k lot).list.entries
+lies_given : (f : DriverConfig) (k : ℕ) (lot : Lot) → All (λ e. LiesInBuffer f e.span) lot.list.entries → All (λ e. LiesInBuffer f e.span) (with_slot k lot).list.entries
 lies_given f k lot all =
     all_in (λ (e : Entry). LiesInBuffer f e.span) (give_slot k lot.list.entries)
     (λ e h.
@@ -99,7 +99,7 @@ lies_given f k lot all =
     let d = spans_given k lot.list.entries at.0 e at.1 in
     subst (LiesInBuffer f) d.2 (all_at (λ (c : Entry). LiesInBuffer f c.span) lot.list.entries d.0 all (at_get lot.list.entries at.0 d.0 d.1)))
 
-sides_given : (f : Fixed) (k : ℕ) (lot now : Lot) → GivenBy k lot now → FitsSide f lot → FitsSide f now
+sides_given : (f : DriverConfig) (k : ℕ) (lot now : Lot) → GivenBy k lot now → FitsSide f lot → FitsSide f now
 sides_given f k lot now (kept e) h = subst (FitsSide f) e h
 sides_given f k lot now (slotted w e) h = subst (FitsSide f) e (record { area = h.area; own = h.own; in_buffer = λ off. lies_given f k lot (h.in_buffer off) })
 
@@ -107,7 +107,7 @@ taken_given : (pool : PageMap) (k : ℕ) (lot now : Lot) → GivenBy k lot now �
 taken_given pool k lot now (kept e) h = subst (IsTaken pool) e h
 taken_given pool k lot now (slotted w e) h = subst (IsTaken pool) e (λ a. rw (only_given k lot) (h a))
 
-owner_given : (f : Fixed) (s : Held) (k : ℕ) (lot now : Lot) (i : ℕ) (e : Entry) (x : ℕ) → OwnersAgree f.me s.owners s.lots → In lot s.lots → GivenBy k lot now → slice_get now.list.entries i ≡ Some e → covers e.span x ≡ true
+owner_given : (f : DriverConfig) (s : Held) (k : ℕ) (lot now : Lot) (i : ℕ) (e : Entry) (x : ℕ) → OwnersAgree f.me s.owners s.lots → In lot s.lots → GivenBy k lot now → slice_get now.list.entries i ≡ Some e → covers e.span x ≡ true
     → owner_in s.owners x ≡ owner_of_side (map_id f.me now.id i) now.side
 owner_given f s k lot now i e x agree here (kept same) h on =
     agree now i e x (record { lot_in = subst (λ (l : Lot). In l s.lots) same here; entry = h }) on
@@ -116,7 +116,7 @@ owner_given f s k lot now i e x agree here (slotted w same) h on =
     subst (λ (l : Lot). owner_in s.owners x ≡ owner_of_side (map_id f.me l.id i) l.side) same
     (agree lot i d.0 x (record { lot_in = here; entry = d.1 }) (subst (λ (r : Span). covers r x ≡ true) (sym d.2) on))
 
-granted_given : (f : Fixed) (s : Held) (k : ℕ) (lot now : Lot) → AreGranted f s.grants s.lots → WaitsUnlent s.lots → In lot s.lots → GivenBy k lot now → is_wanted now.side ≡ false → In now s.lots
+granted_given : (f : DriverConfig) (s : Held) (k : ℕ) (lot now : Lot) → AreGranted f s.grants s.lots → WaitsUnlent s.lots → In lot s.lots → GivenBy k lot now → is_wanted now.side ≡ false → In now s.lots
 granted_given f s k lot now agree wanted here (kept same) lent = subst (λ (l : Lot). In l s.lots) same here
 granted_given f s k lot now agree wanted here (slotted w same) lent =
     absurd (false≢true (sym lent ∙ subst (λ (l : Lot). is_wanted l.side ≡ true) same (all_at (λ (l : Lot). lot_waits l ≡ true → is_wanted l.side ≡ true) s.lots lot wanted here w)))
@@ -125,7 +125,7 @@ no_wait : (lots : List Lot) (lot : Lot) (b : Bool) → lot_waits lot ≡ b → W
 no_wait lots lot false w wanted here lent = refl
 no_wait lots lot true w wanted here lent = absurd (false≢true (sym lent ∙ all_at (λ (l : Lot). lot_waits l ≡ true → is_wanted l.side ≡ true) lots lot wanted here w))
 
-pub mine_got : (f : Fixed) (s : Held) (k : ℕ) → Mine f s → WaitsUnlent s.lots → Mine f (changed f s (Got k))
+pub mine_got : (f : DriverConfig) (s : Held) (k : ℕ) → Mine f s → WaitsUnlent s.lots → Mine f (changed f s (Got k))
 mine_got f s k mine wanted = record {
   sides = all_in (FitsSide f) (slot_given k s.lots) (λ now h. let r = of_given k s.lots now h in sides_given f k r.lot now r.how (all_at (FitsSide f) s.lots r.lot mine.sides r.here));
   apart = apart_from s.lots (slot_given k s.lots) (given_from k s.lots) mine.apart;
@@ -139,7 +139,7 @@ mine_got f s k mine wanted = record {
 
 -- ---- given up
 
-pub mine_dropped : (f : Fixed) (s : Held) → Mine f s → Mine f (changed f s Dropped)
+pub mine_dropped : (f : DriverConfig) (s : Held) → Mine f s → Mine f (changed f s Dropped)
 mine_dropped f s mine = record {
   sides = left_all (FitsSide f) (λ lot. not (is_wanted lot.side)) s.lots mine.sides;
   apart = left_apart (λ lot. not (is_wanted lot.side)) s.lots mine.apart;

@@ -21,7 +21,7 @@ use Rattle.nc_rules.specs.declared.steps.PageMove.{PageMove}
 use Rattle.nc_rules.specs.declared.steps.PageMove.TheVariants as moves
 use Rattle.nc_rules.specs.declared.steps.Turn.{Turn}
 use Rattle.nc_rules.specs.declared.steps.Turn.TheVariants as turns
-use Rattle.nc_rules.specs.Lots.{Fixed, is_lot, is_wanted, is_own, map_id, only_entry, owner_of_side}
+use Rattle.nc_rules.specs.Lots.{DriverConfig, is_lot, is_wanted, is_own, map_id, only_entry, owner_of_side}
 use Rattle.nc_rules.specs.Refusals.{buffer_of}
 use Rattle.nc_rules.specs.Turns.{is_area, those, to_side, of_those, granted, ids, set_side, pages_taken, pages_given, page_moves}
 use Rattle.nc_rules.specs.World.{owners_moved, grants_added, pages_moved}
@@ -44,7 +44,7 @@ use Rattle.nc_holds.proofs.GrantMoves as grants
 -- ---- a range that is passed, or taken
 
 -- the bytes of a buffer that are the hart's own are of no entry that is lent
-own_by : (f : Fixed) (b : ℕ) (x : ℕ) (m : MapId) (side : Side) → is_wanted side ≡ false → (is_own side ≡ true → covers f.pool x ≡ true) → AreRegions f → covers (buffer_of f b) x ≡ true → owner_of_side m side ≡ owners.Thread f.me → ⊥
+own_by : (f : DriverConfig) (b : ℕ) (x : ℕ) (m : MapId) (side : Side) → is_wanted side ≡ false → (is_own side ≡ true → covers f.pool x ≡ true) → AreRegions f → covers (buffer_of f b) x ≡ true → owner_of_side m side ≡ owners.Thread f.me → ⊥
 own_by f b x m sides.Wanted lent pool h on e = false≢true (sym lent)
 own_by f b x m sides.Lending lent pool h on e = cc
 own_by f b x m sides.Device lent pool h on e = cc
@@ -60,14 +60,14 @@ passing_by m sides.Returning g to e = cc
 passing_by m sides.Synced g to e = cc
 passing_by m sides.Own g to e = cc
 
-pub off_passed : (ram harts : ℕ) (f : Fixed) (s : Held) (range : Span) (to : HartNo) (lot : Lot) (i : ℕ) (e : Entry) (x : ℕ) → Knows ram harts f s → Mine f s → MayTurn f s (turns.Pass range to) → AllLent s.lots → IsEntryOf s.lots lot i e
+pub off_passed : (ram harts : ℕ) (f : DriverConfig) (s : Held) (range : Span) (to : HartNo) (lot : Lot) (i : ℕ) (e : Entry) (x : ℕ) → Knows ram harts f s → Mine f s → MayTurn f s (turns.Pass range to) → AllLent s.lots → IsEntryOf s.lots lot i e
     → covers e.span x ≡ true → covers range x ≡ true → ⊥
 off_passed ram harts f s range to lot i e x knows mine may lent h on on_r =
     own_by f may.0 x (map_id f.me lot.id i) lot.side (all_at (λ (l : Lot). is_wanted l.side ≡ false) s.lots lot lent h.lot_in)
     (λ own. area_covers ram f lot i e x (all_at (IsLotIn ram f) s.lots lot knows.lots h.lot_in) ((all_at (FitsSide f) s.lots lot mine.sides h.lot_in).own own) h.entry on)
     knows.regions (subst (λ (r : Span). covers r x ≡ true) may.1 on_r) (sym (mine.owners lot i e x h on) ∙ may.2 x on_r)
 
-passed_owners : (ram harts : ℕ) (f : Fixed) (s : Held) (range : Span) (to : HartNo) → Knows ram harts f s → Mine f s → MayTurn f s (turns.Pass range to) → AllLent s.lots
+passed_owners : (ram harts : ℕ) (f : DriverConfig) (s : Held) (range : Span) (to : HartNo) → Knows ram harts f s → Mine f s → MayTurn f s (turns.Pass range to) → AllLent s.lots
     → OwnersAgree f.me (owners_moved s.owners ((range, owners.Passing f.me to) ∷ [])) s.lots
 passed_owners ram harts f s range to knows mine may lent lot i e x h on =
     moved_off s.owners ((range, owners.Passing f.me to) ∷ []) x (λ t k on_t. one t k on_t) ∙ mine.owners lot i e x h on
@@ -76,7 +76,7 @@ passed_owners ram harts f s range to knows mine may lent lot i e x h on =
     one t (inl same) on_t = off_passed ram harts f s range to lot i e x knows mine may lent h on (subst (λ (u : Span × Owner). covers u.0 x ≡ true) (sym same) on_t)
     one t (inr k) on_t = elim k [ ]
 
-taken_owners : (f : Fixed) (s : Held) (range : Span) → Mine f s → MayTurn f s (turns.Own range) → OwnersAgree f.me (owners_moved s.owners ((range, owners.Thread f.me) ∷ [])) s.lots
+taken_owners : (f : DriverConfig) (s : Held) (range : Span) → Mine f s → MayTurn f s (turns.Own range) → OwnersAgree f.me (owners_moved s.owners ((range, owners.Thread f.me) ∷ [])) s.lots
 taken_owners f s range mine may lot i e x h on =
     moved_off s.owners ((range, owners.Thread f.me) ∷ []) x (λ t k on_t. one t k on_t) ∙ mine.owners lot i e x h on
   where
@@ -87,10 +87,10 @@ taken_owners f s range mine may lot i e x h on =
 
 -- ---- a side that is set
 
-abbrev sided : Fixed → Held → Side → LotId → List Grant → Held
+abbrev sided : DriverConfig → Held → Side → LotId → List Grant → Held
 sided f s side id after = record s { lots = set_side side id s.lots; owners = owners_moved s.owners (of_those (to_side f.me side) id s.lots); grants = after }
 
-mine_sided : (ram harts : ℕ) (f : Fixed) (s : Held) (side : Side) (id : LotId) → Knows ram harts f s → Mine f s → is_wanted side ≡ false → (is_own side ≡ true → AreAreas s.lots id) → AreLent s.lots id → Mine f (sided f s side id s.grants)
+mine_sided : (ram harts : ℕ) (f : DriverConfig) (s : Held) (side : Side) (id : LotId) → Knows ram harts f s → Mine f s → is_wanted side ≡ false → (is_own side ≡ true → AreAreas s.lots id) → AreLent s.lots id → Mine f (sided f s side id s.grants)
 mine_sided ram harts f s side id knows mine off own lent = record {
   sides = sides_sided f side id s.lots off own mine.sides;
   apart = apart_from s.lots (set_side side id s.lots) (sided_from side id s.lots) mine.apart;
@@ -100,10 +100,10 @@ mine_sided ram harts f s side id knows mine off own lent = record {
   held = λ g k hart. held_sided f side id s.lots g off (mine.held g k hart);
 }
 
-abbrev lent_grants : Fixed → Held → LotId → List Grant
+abbrev lent_grants : DriverConfig → Held → LotId → List Grant
 lent_grants f s id = grants_added s.grants (of_those (granted f.me f.slots_at) id s.lots)
 
-pub lent_held : (f : Fixed) (s : Held) (id : LotId) → ((g : Grant) → In g s.grants → g.id.hart.0 ≡ f.me.0 → IsGrantOf f s.lots g) → (g : Grant) → In g (lent_grants f s id) → g.id.hart.0 ≡ f.me.0 → IsGrantOf f (set_side sides.Lending id s.lots) g
+pub lent_held : (f : DriverConfig) (s : Held) (id : LotId) → ((g : Grant) → In g s.grants → g.id.hart.0 ≡ f.me.0 → IsGrantOf f s.lots g) → (g : Grant) → In g (lent_grants f s id) → g.id.hart.0 ≡ f.me.0 → IsGrantOf f (set_side sides.Lending id s.lots) g
 lent_held f s id held g k hart = elim (of_added g s.grants (of_those (granted f.me f.slots_at) id s.lots) k) [
   | inl old ↦ held_sided f sides.Lending id s.lots g refl (held g old hart)
   | inr new ↦ new_held f sides.Lending id s.lots g refl (new_grant f.me f.slots_at id s.lots g new)
@@ -115,13 +115,13 @@ stays_by lot false w h = refl
 stays_by lot true false h = refl
 stays_by lot true true h = absurd (false≢true (sym (h refl)))
 
-pub no_take : (f : Fixed) (id : LotId) (lots : List Lot) → All (FitsSide f) lots → page_moves pages_taken (those id lots) ≡ moves.Stay
+pub no_take : (f : DriverConfig) (id : LotId) (lots : List Lot) → All (FitsSide f) lots → page_moves pages_taken (those id lots) ≡ moves.Stay
 no_take f id lots all = elim (moves_is pages_taken (those id lots)) [
   | inl stay ↦ stay
   | inr r ↦ let fits = all_at (FitsSide f) lots r.0 all (of_filter (is_lot id) r.0 lots r.1).0 in r.2 ∙ stays_by r.0 (is_area r.0.kind) (is_wanted r.0.side) fits.area
 ]
 
-mine_lent : (ram harts : ℕ) (f : Fixed) (s : Held) (id : LotId) → Knows ram harts f s → Mine f s → Mine f (changed f s (Turned (turns.Lend id)))
+mine_lent : (ram harts : ℕ) (f : DriverConfig) (s : Held) (id : LotId) → Knows ram harts f s → Mine f s → Mine f (changed f s (Turned (turns.Lend id)))
 mine_lent ram harts f s id knows mine = record {
   sides = sides_sided f sides.Lending id s.lots refl (λ o. absurd (false≢true o)) mine.sides;
   apart = apart_from s.lots (set_side sides.Lending id s.lots) (sided_from sides.Lending id s.lots) mine.apart;
@@ -151,7 +151,7 @@ ends_is id lots = elim (moves_is pages_given (those id lots)) [
   | inr r ↦ let p = of_filter (is_lot id) r.0 lots r.1 in ends_by id lots (end_pages id lots) r.0 (is_area r.0.kind) refl p.0 p.1 r.2
 ]
 
-pub other_areas : (ram harts : ℕ) (f : Fixed) (s : Held) (id : LotId) (lot now : Lot) (x : ℕ) → Knows ram harts f s → Mine f s → In lot s.lots → is_lot id lot ≡ true → is_area lot.kind ≡ true → In now s.lots → is_lot id now ≡ false → is_area now.kind ≡ true
+pub other_areas : (ram harts : ℕ) (f : DriverConfig) (s : Held) (id : LotId) (lot now : Lot) (x : ℕ) → Knows ram harts f s → Mine f s → In lot s.lots → is_lot id lot ≡ true → is_area lot.kind ≡ true → In now s.lots → is_lot id now ≡ false → is_area now.kind ≡ true
     → covers (only_entry lot).span x ≡ true → covers (only_entry now).span x ≡ true → ⊥
 other_areas ram harts f s id lot now x knows mine k name a l other b on on_now =
     let ka = area_entry ram f lot (all_at (IsLotIn ram f) s.lots lot knows.lots k) a in
@@ -159,7 +159,7 @@ other_areas ram harts f s id lot now x knows mine k name a l other b on on_now =
     let same = mine.apart lot now 0 0 (only_entry lot) (only_entry now) x (record { lot_in = k; entry = ka }) (record { lot_in = l; entry = kb }) on on_now in
     false≢true (sym other ∙ subst (λ (d : LotId). is_lot id (record now { id = d }) ≡ true) same.lot name)
 
-ended_pages : (ram harts : ℕ) (f : Fixed) (s : Held) (id : LotId) (m : PageMove) → Knows ram harts f s → Mine f s → Ends id s.lots m → PagesAgree (pages_moved s.pages m) (without_lot id s.lots)
+ended_pages : (ram harts : ℕ) (f : DriverConfig) (s : Held) (id : LotId) (m : PageMove) → Knows ram harts f s → Mine f s → Ends id s.lots m → PagesAgree (pages_moved s.pages m) (without_lot id s.lots)
 ended_pages ram harts f s id m knows mine (none stay) =
     subst (λ (p : PageMove). PagesAgree (pages_moved s.pages p) (without_lot id s.lots)) (sym stay) (left_all (IsTaken s.pages) (λ lot. not (is_lot id lot)) s.lots mine.pages)
 ended_pages ram harts f s id m knows mine (area lot k name a give) =
@@ -170,7 +170,7 @@ ended_pages ram harts f s id m knows mine (area lot k name a give) =
     taken_kept ram f s.pages (only_entry lot).span true now (area_pages ram f s.pages lot (all_at (IsLotIn ram f) s.lots lot knows.lots k) knows.pool a) knows.pool (all_at (IsLotIn ram f) s.lots now knows.lots p.0)
     (λ b x on on_now. other_areas ram harts f s id lot now x knows mine k name a p.0 (not_false (is_lot id now) p.1) b on on_now) (all_at (IsTaken s.pages) s.lots now mine.pages p.0)))
 
-mine_ended : (ram harts : ℕ) (f : Fixed) (s : Held) (id : LotId) → Knows ram harts f s → Mine f s → Mine f (changed f s (Turned (turns.End id)))
+mine_ended : (ram harts : ℕ) (f : DriverConfig) (s : Held) (id : LotId) → Knows ram harts f s → Mine f s → Mine f (changed f s (Turned (turns.End id)))
 mine_ended ram harts f s id knows mine = record {
   sides = left_all (FitsSide f) (λ lot. not (is_lot id lot)) s.lots mine.sides;
   apart = left_apart (λ lot. not (is_lot id lot)) s.lots mine.apart;
@@ -182,10 +182,10 @@ mine_ended ram harts f s id knows mine = record {
 
 -- ---- each turn
 
-with_owners : (f : Fixed) (s : Held) (ws : List Owner) → Mine f s → OwnersAgree f.me ws s.lots → Mine f (record s { owners = ws })
+with_owners : (f : DriverConfig) (s : Held) (ws : List Owner) → Mine f s → OwnersAgree f.me ws s.lots → Mine f (record s { owners = ws })
 with_owners f s ws mine agree = record { sides = mine.sides; apart = mine.apart; owners = agree; granted = mine.granted; pages = mine.pages; held = mine.held }
 
-pub mine_turned : (ram harts : ℕ) (f : Fixed) (s : Held) (t : Turn) → Knows ram harts f s → Mine f s → Fits ram f s (Turned t) → Mine f (changed f s (Turned t))
+pub mine_turned : (ram harts : ℕ) (f : DriverConfig) (s : Held) (t : Turn) → Knows ram harts f s → Mine f s → Fits ram f s (Turned t) → Mine f (changed f s (Turned t))
 mine_turned ram harts f s turns.Stay knows mine fits = with_owners f s s.owners mine mine.owners
 mine_turned ram harts f s (turns.Pass range to) knows mine fits = with_owners f s (owners_moved s.owners ((range, owners.Passing f.me to) ∷ [])) mine (passed_owners ram harts f s range to knows mine fits.0 fits.1)
 mine_turned ram harts f s (turns.Own range) knows mine fits = with_owners f s (owners_moved s.owners ((range, owners.Thread f.me) ∷ [])) mine (taken_owners f s range mine fits.0)

@@ -10,7 +10,7 @@ use Rattle.nc_rules.specs.declared.lots.Side.{Side}
 use Rattle.nc_rules.specs.declared.lots.Side.TheVariants as sides
 use Rattle.nc_rules.specs.declared.steps.Turn.{Turn}
 use Rattle.nc_rules.specs.declared.steps.Turn.TheVariants as turns
-use Rattle.nc_rules.specs.Lots.{Fixed, is_lot, is_wanted, lot_waits, slot_given}
+use Rattle.nc_rules.specs.Lots.{DriverConfig, is_lot, is_wanted, lot_waits, slot_given}
 use Rattle.nc_rules.specs.Turns.{is_area, set_side, lots_after}
 use Rattle.nc_scripts.specs.Drivers.{IsLotIn}
 use Rattle.nc_scripts.proofs.LotLaws.{its_name}
@@ -48,7 +48,7 @@ lent_placed lots id all lent =
     all_in (λ (lot : Lot). is_lot id lot ≡ true → lot_waits lot ≡ false) lots
     (λ lot k name. no_wait lot (lot_waits lot) refl (all_at WaitsSo lots lot all k) (all_at (λ (l : Lot). is_lot id l ≡ true → is_wanted l.side ≡ false) lots lot lent k name))
 
-waits_turned : (f : Fixed) (s : Held) (t : Turn) → MayTurn f s t → WaitsUnlent s.lots → WaitsUnlent (lots_after t s.lots)
+waits_turned : (f : DriverConfig) (s : Held) (t : Turn) → MayTurn f s t → WaitsUnlent s.lots → WaitsUnlent (lots_after t s.lots)
 waits_turned f s turns.Stay may all = all
 waits_turned f s (turns.Pass range to) may all = all
 waits_turned f s (turns.Own range) may all = all
@@ -66,7 +66,7 @@ waits_given k lot now (slotted w same) h = subst WaitsSo same (λ again. h w)
 new_wait : (new : List Lot) → All (λ lot. is_wanted lot.side ≡ true) new → WaitsUnlent new
 new_wait new wanted = all_to (λ (lot : Lot). is_wanted lot.side ≡ true) WaitsSo new wanted (λ lot h w. h)
 
-pub waits_stay : (ram : ℕ) (f : Fixed) (s : Held) (c : Change) → Fits ram f s c → WaitsUnlent s.lots → WaitsUnlent (changed f s c).lots
+pub waits_stay : (ram : ℕ) (f : DriverConfig) (s : Held) (c : Change) → Fits ram f s c → WaitsUnlent s.lots → WaitsUnlent (changed f s c).lots
 waits_stay ram f s (Made new) fits all = All-append WaitsSo s.lots new all (new_wait new fits.0.each.wanted)
 waits_stay ram f s (Got word) fits all = all_in WaitsSo (slot_given word s.lots) (λ now k. let r = of_given word s.lots now k in waits_given word r.lot now r.how (all_at WaitsSo s.lots r.lot all r.here))
 waits_stay ram f s (Turned t) fits all = waits_turned f s t fits.0 all
@@ -74,16 +74,16 @@ waits_stay ram f s Dropped fits all = left_all WaitsSo (λ lot. not (is_wanted l
 
 -- ---- an area
 
-area_placed : (ram : ℕ) (f : Fixed) (lot : Lot) → IsLotIn ram f lot → is_area lot.kind ≡ true → lot_waits lot ≡ false
+area_placed : (ram : ℕ) (f : DriverConfig) (lot : Lot) → IsLotIn ram f lot → is_area lot.kind ≡ true → lot_waits lot ≡ false
 area_placed ram f lot is area =
     position_any waits lot.list.entries ∙ none_of waits lot.list.entries (λ e k. let at = get_at lot.list.entries e k in (rw (area_direct ram f lot at.0 e is area at.1) refl))
 
-pub area_are_placed : (ram : ℕ) (f : Fixed) (s : Held) (lot : Lot) → IsMaking ram f s (lot ∷ []) → is_area lot.kind ≡ true → ArePlaced (s.lots ++ lot ∷ []) lot.id
+pub area_are_placed : (ram : ℕ) (f : DriverConfig) (s : Held) (lot : Lot) → IsMaking ram f s (lot ∷ []) → is_area lot.kind ≡ true → ArePlaced (s.lots ++ lot ∷ []) lot.id
 area_are_placed ram f s lot making area =
     let is = all_at (IsLotIn ram f) (lot ∷ []) lot making.each.each (inl refl) in
     all_in (λ (l : Lot). is_lot lot.id l ≡ true → lot_waits l ≡ false) (s.lots ++ lot ∷ [])
     (λ l k name. subst (λ (m : Lot). lot_waits m ≡ false) (same_named (s.lots ++ lot ∷ []) lot.id lot l making.each.apart (at_end s lot) k (its_name lot lot.id refl) name) (area_placed ram f lot is area))
 
-pub area_waits : (ram : ℕ) (f : Fixed) (s : Held) (lot : Lot) → IsMaking ram f s (lot ∷ []) → is_area lot.kind ≡ true → WaitsUnlent s.lots → WaitsUnlent (lent_area f s lot).lots
+pub area_waits : (ram : ℕ) (f : DriverConfig) (s : Held) (lot : Lot) → IsMaking ram f s (lot ∷ []) → is_area lot.kind ≡ true → WaitsUnlent s.lots → WaitsUnlent (lent_area f s lot).lots
 area_waits ram f s lot making area all =
     waits_sided sides.Lending lot.id (s.lots ++ lot ∷ []) (area_are_placed ram f s lot making area) (All-append WaitsSo s.lots (lot ∷ []) all (new_wait (lot ∷ []) making.each.wanted))

@@ -22,7 +22,7 @@ use Rattle.nc_rules.specs.declared.steps.Act.TheVariants as acts
 use Rattle.nc_rules.specs.declared.steps.Step.{Step}
 use Rattle.nc_rules.specs.declared.steps.Turn.{Turn}
 use Rattle.nc_rules.specs.declared.steps.Turn.TheVariants as turns
-use Rattle.nc_rules.specs.Lots.{Fixed, parts}
+use Rattle.nc_rules.specs.Lots.{DriverConfig, parts}
 use Rattle.nc_rules.specs.Plans.{hart_step, op_steps, turning, ending, beginning, carried, return_steps}
 use Rattle.nc_holds.specs.Messages.{is_mail_op, is_mail_act}
 use Rattle.nc_holds.specs.Tokens.{token_op, token_act}
@@ -131,8 +131,8 @@ beginning_quiet P t (s ∷ rest) th all =
     let h = All-head (IsQuiet P) s rest all in
     All-cons (IsQuiet P) (record s { first = t }) rest (record { act = h.act; first = th; last = h.last }) (All-tail (IsQuiet P) s rest all)
 
-pub return_quiet : (P : Turn → Type 0) (f : Fixed) (lot : Lot) → P turns.Stay → All (IsQuiet P) (return_steps f lot)
+pub return_quiet : (P : Turn → Type 0) (f : DriverConfig) (lot : Lot) → P turns.Stay → All (IsQuiet P) (return_steps f lot)
 return_quiet P f lot stay = ops_quiet P (returning f.effects f.size (parts f lot)) stay (returning_quiet f.effects f.size (parts f lot))
 
-pub carried_steps_quiet : (P : Turn → Type 0) (f : Fixed) (lot : Lot) → P turns.Stay → All (IsQuiet P) (op_steps (carried f.effects f.size (parts f lot)))
+pub carried_steps_quiet : (P : Turn → Type 0) (f : DriverConfig) (lot : Lot) → P turns.Stay → All (IsQuiet P) (op_steps (carried f.effects f.size (parts f lot)))
 carried_steps_quiet P f lot stay = ops_quiet P (carried f.effects f.size (parts f lot)) stay (carried_quiet f.effects f.size (parts f lot))

@@ -19,7 +19,7 @@ use Rattle.nc_scen.specs.Accepted.{IsAccepted}
 use Rattle.nc_scen.specs.declared.scenario.BufferSpec.{BufferSpec}
 use Rattle.nc_scen.specs.declared.scenario.Scenario.{Scenario}
 use Rattle.nc_rules.specs.declared.lots.Lot.{Lot}
-use Rattle.nc_rules.specs.Lots.{Fixed, is_wanted, lot_waits}
+use Rattle.nc_rules.specs.Lots.{DriverConfig, is_wanted, lot_waits}
 use Rattle.nc_rules.specs.Machine.{MachineState, queue_of}
 use Rattle.nc_rules.specs.Start.{first_machine, first_driver}
 use Rattle.nc_rules.specs.Driver.{DriverState}
@@ -109,7 +109,7 @@ no_words : (sc : Scenario) (me : HartNo) (k : ℕ) → ◌≡◌ {A = ℕ} 0 (if
 no_words sc me k = rw (free_words sc k) refl
 
 -- a hart with no lots
-nothing_agrees : (f : Fixed) (s : Held) → s.lots ≡ [] → ((me : HartNo) (k : ℕ) → ◌≡◌ {A = ℕ} 0 (if is_holder me (holder_of s.slots k) then 1 else 0)) → HartAgrees f s
+nothing_agrees : (f : DriverConfig) (s : Held) → s.lots ≡ [] → ((me : HartNo) (k : ℕ) → ◌≡◌ {A = ℕ} 0 (if is_holder me (holder_of s.slots k) then 1 else 0)) → HartAgrees f s
 nothing_agrees f s none words = subst (λ (ls : List Lot). HartAgrees f (record s { lots = ls })) (sym none) (record {
   sides = All-nil (FitsSide f);
   apart = λ a b i j d e x h k ca cb. absurd (h.lot_in);

@@ -20,7 +20,7 @@ use Rattle.nc_rules.specs.declared.steps.Step.{Step}
 use Rattle.nc_rules.specs.declared.steps.Turn.{Turn}
 use Rattle.nc_rules.specs.declared.steps.Turn.TheVariants as turns
 use Rattle.nc_rules.specs.declared.lots.Side.TheVariants as sides
-use Rattle.nc_rules.specs.Lots.{Fixed, lot_id, is_lot, is_synced, is_own, lot_named, parts}
+use Rattle.nc_rules.specs.Lots.{DriverConfig, lot_id, is_lot, is_synced, is_own, lot_named, parts}
 use Rattle.nc_rules.specs.Turns.{lots_after, lots_after_both}
 use Rattle.nc_rules.specs.Plans.{step, hart_step, op_steps, turning, ending, carried, token_steps, lending_end, lend_steps, return_steps}
 use Rattle.nc_rules.specs.Mappings as mappings
@@ -53,7 +53,7 @@ any_of P xs all = quiet_to P Any xs (λ t h. tt) all
 
 -- ---- the parts of a copy's plan
 
-abbrev transfer_steps : Fixed → ChanNo → ℕ → Lot → Lot → List Step
+abbrev transfer_steps : DriverConfig → ChanNo → ℕ → Lot → Lot → List Step
 transfer_steps f chan cfg src dst = map (copy_step chan) (transfer chan (end_part f src) (end_part f dst) cfg)
 
 op_any : (chan : ChanNo) (off width value : ℕ) → IsQuiet Any (hart_step (hart.IoStore (io.Reg chan off width value)))
@@ -81,51 +81,51 @@ set_quiet chan from to len cfg =
     (reg chan 24 8 from (reg_step chan 0 4 3 ∷ polling chan)
     (reg chan 0 4 3 (polling chan) (polling_quiet chan)))))
 
-transfer_quiet : (f : Fixed) (chan : ChanNo) (cfg : ℕ) (src dst : Lot) → All (IsQuiet Any) (transfer_steps f chan cfg src dst)
+transfer_quiet : (f : DriverConfig) (chan : ChanNo) (cfg : ℕ) (src dst : Lot) → All (IsQuiet Any) (transfer_steps f chan cfg src dst)
 transfer_quiet f chan cfg src dst = set_quiet chan (bus_of (end_part f src).device) (bus_of (end_part f dst).device) (end_part f src).device.len cfg
 
 -- the poll waits
-transfer_ends : (f : Fixed) (chan : ChanNo) (cfg : ℕ) (src dst : Lot) (i : LotId) (ys : List Step) → NoEnd i (transfer_steps f chan cfg src dst ++ ys)
+transfer_ends : (f : DriverConfig) (chan : ChanNo) (cfg : ℕ) (src dst : Lot) (i : LotId) (ys : List Step) → NoEnd i (transfer_steps f chan cfg src dst ++ ys)
 transfer_ends f chan cfg src dst i ys =
     passes (passes (passes (passes (passes (inl refl)))))
   where
     passes : {A : Type 0} {X : Type 0} → X → A ⊎ ((turns.Stay ≡ turns.End i → ⊥) × (turns.Stay ≡ turns.End i → ⊥) × X)
     passes h = inr ((λ e. absurd cc), (λ e. absurd cc), h)
 
-back_any : (f : Fixed) (lot : Lot) → All (IsQuiet Any) (back_steps f lot)
+back_any : (f : DriverConfig) (lot : Lot) → All (IsQuiet Any) (back_steps f lot)
 back_any f lot = beginning_quiet Any (turns.Return lot.id) (ending (turns.End lot.id) (return_steps f lot)) tt (ending_quiet Any (turns.End lot.id) (return_steps f lot) tt (return_quiet Any f lot tt))
 
-abbrev behind : Fixed → ChanNo → ℕ → Lot → Lot → List Step
+abbrev behind : DriverConfig → ChanNo → ℕ → Lot → Lot → List Step
 behind f chan cfg src dst = transfer_steps f chan cfg src dst ++ (back_steps f dst ++ back_steps f src)
 
-behind_any : (f : Fixed) (chan : ChanNo) (cfg : ℕ) (src dst : Lot) → All (IsQuiet Any) (behind f chan cfg src dst)
+behind_any : (f : DriverConfig) (chan : ChanNo) (cfg : ℕ) (src dst : Lot) → All (IsQuiet Any) (behind f chan cfg src dst)
 behind_any f chan cfg src dst =
     All-append (IsQuiet Any) (transfer_steps f chan cfg src dst) (back_steps f dst ++ back_steps f src) (transfer_quiet f chan cfg src dst)
     (All-append (IsQuiet Any) (back_steps f dst) (back_steps f src) (back_any f dst) (back_any f src))
 
 -- ---- lending an end
 
-abbrev lends_by : Fixed → Lot → Bool → List Step
+abbrev lends_by : DriverConfig → Lot → Bool → List Step
 lends_by f lot light = op_steps (carried f.effects f.size (parts f lot)) ++ (if light then token_steps lot else turning (turns.Give lot.id) (hart_step full) ∷ [])
 
-lend_any : (f : Fixed) (lot : Lot) (light : Bool) → light ≡ false → All (IsQuiet Any) (lends_by f lot light)
+lend_any : (f : DriverConfig) (lot : Lot) (light : Bool) → light ≡ false → All (IsQuiet Any) (lends_by f lot light)
 lend_any f lot true e = absurd (false≢true (sym e))
 lend_any f lot false e =
     All-append (IsQuiet Any) (op_steps (carried f.effects f.size (parts f lot))) (turning (turns.Give lot.id) (hart_step full) ∷ []) (carried_steps_quiet Any f lot tt)
     (All-cons (IsQuiet Any) (turning (turns.Give lot.id) (hart_step full)) [] (give_quiet Any lot.id tt tt) (All-nil (IsQuiet Any)))
 
-lend_mailless : (f : Fixed) (lot : Lot) (light : Bool) → All IsMailless (lends_by f lot light)
+lend_mailless : (f : DriverConfig) (lot : Lot) (light : Bool) → All IsMailless (lends_by f lot light)
 lend_mailless f lot true =
     All-append IsMailless (op_steps (carried f.effects f.size (parts f lot))) (token_steps lot) (quiet_mailless Any (op_steps (carried f.effects f.size (parts f lot))) (carried_steps_quiet Any f lot tt)) (token_mailless lot)
 lend_mailless f lot false = quiet_mailless Any (lends_by f lot false) (lend_any f lot false refl)
 
-lend_ends : (f : Fixed) (lot : Lot) (i : LotId) (ys : List Step) (light : Bool) → light ≡ true → NoEnd i ys → NoEnd i (lends_by f lot light ++ ys)
+lend_ends : (f : DriverConfig) (lot : Lot) (i : LotId) (ys : List Step) (light : Bool) → light ≡ true → NoEnd i ys → NoEnd i (lends_by f lot light ++ ys)
 lend_ends f lot i ys true e h =
     subst (λ (xs : List Step). NoEnd i xs) (sym (append_assoc (op_steps (carried f.effects f.size (parts f lot))) (token_steps lot) ys))
     (end_join i (op_steps (carried f.effects f.size (parts f lot))) (token_steps lot ++ ys) (stay_ends i (op_steps (carried f.effects f.size (parts f lot))) (carried_steps_quiet IsStay f lot refl)) (token_ends i lot ys h))
 lend_ends f lot i ys false e h = absurd (false≢true e)
 
-lend_follow : (f : Fixed) (lots : List Lot) (lot : Lot) (ys : List Step) (light : Bool) → light ≡ true → HasLent lots lot.id → NoEnd lot.id ys → TokensFollow lots ys → TokensFollow lots (lends_by f lot light ++ ys)
+lend_follow : (f : DriverConfig) (lots : List Lot) (lot : Lot) (ys : List Step) (light : Bool) → light ≡ true → HasLent lots lot.id → NoEnd lot.id ys → TokensFollow lots ys → TokensFollow lots (lends_by f lot light ++ ys)
 lend_follow f lots lot ys true e has h more =
     subst (λ (xs : List Step). TokensFollow lots xs) (sym (append_assoc (op_steps (carried f.effects f.size (parts f lot))) (token_steps lot) ys))
     (follow_join lots (op_steps (carried f.effects f.size (parts f lot))) (token_steps lot ++ ys) (carried_steps_quiet IsStay f lot refl) (follow_token lots lot ys has h more))
@@ -133,20 +133,20 @@ lend_follow f lots lot ys false e has h more = absurd (false≢true e)
 
 -- ---- the plan behind the claim
 
-abbrev claimed : Fixed → ChanNo → ℕ → Lot → Lot → List Step
+abbrev claimed : DriverConfig → ChanNo → ℕ → Lot → Lot → List Step
 claimed f chan cfg src dst = lend_steps f src ++ (lend_steps f dst ++ behind f chan cfg src dst)
 
-claimed_any : (f : Fixed) (chan : ChanNo) (cfg : ℕ) (src dst : Lot) → f.light ≡ false → All (IsQuiet Any) (claimed f chan cfg src dst)
+claimed_any : (f : DriverConfig) (chan : ChanNo) (cfg : ℕ) (src dst : Lot) → f.light ≡ false → All (IsQuiet Any) (claimed f chan cfg src dst)
 claimed_any f chan cfg src dst e =
     All-append (IsQuiet Any) (lend_steps f src) (lend_steps f dst ++ behind f chan cfg src dst) (lend_any f src f.light e)
     (All-append (IsQuiet Any) (lend_steps f dst) (behind f chan cfg src dst) (lend_any f dst f.light e) (behind_any f chan cfg src dst))
 
-claimed_mailless : (f : Fixed) (chan : ChanNo) (cfg : ℕ) (src dst : Lot) → All IsMailless (claimed f chan cfg src dst)
+claimed_mailless : (f : DriverConfig) (chan : ChanNo) (cfg : ℕ) (src dst : Lot) → All IsMailless (claimed f chan cfg src dst)
 claimed_mailless f chan cfg src dst =
     All-append IsMailless (lend_steps f src) (lend_steps f dst ++ behind f chan cfg src dst) (lend_mailless f src f.light)
     (All-append IsMailless (lend_steps f dst) (behind f chan cfg src dst) (lend_mailless f dst f.light) (quiet_mailless Any (behind f chan cfg src dst) (behind_any f chan cfg src dst)))
 
-claimed_follow : (f : Fixed) (lots : List Lot) (chan : ChanNo) (cfg : ℕ) (src dst : Lot) (light : Bool) → f.light ≡ light → HasLent lots src.id → HasLent lots dst.id → TokensFollow lots (claimed f chan cfg src dst)
+claimed_follow : (f : DriverConfig) (lots : List Lot) (chan : ChanNo) (cfg : ℕ) (src dst : Lot) (light : Bool) → f.light ≡ light → HasLent lots src.id → HasLent lots dst.id → TokensFollow lots (claimed f chan cfg src dst)
 claimed_follow f lots chan cfg src dst false e s d = follow_quiet Any lots (claimed f chan cfg src dst) (claimed_any f chan cfg src dst e)
 claimed_follow f lots chan cfg src dst true e s d =
     lend_follow f lots src (lend_steps f dst ++ behind f chan cfg src dst) f.light e s
@@ -154,7 +154,7 @@ claimed_follow f lots chan cfg src dst true e s d =
     (lend_follow f lots dst (behind f chan cfg src dst) f.light e d (transfer_ends f chan cfg src dst dst.id (back_steps f dst ++ back_steps f src))
     (follow_quiet Any lots (behind f chan cfg src dst) (behind_any f chan cfg src dst)))
 
-light_of : (f : Fixed) (xs : List Step) (light : Bool) → f.light ≡ light → (f.light ≡ false → All (IsQuiet Any) xs) → All (TokenIsLight f.light) xs
+light_of : (f : DriverConfig) (xs : List Step) (light : Bool) → f.light ≡ light → (f.light ≡ false → All (IsQuiet Any) xs) → All (TokenIsLight f.light) xs
 light_of f xs true e h = all_light f.light xs e
 light_of f xs false e h = quiet_light Any f.light xs (h e)
 
@@ -168,7 +168,7 @@ both_lent lots src dst s d = (
   lend_has (lots_after (turns.Lend src) lots) dst (set_there sides.Lending src lots dst ∙ d),
 )
 
-copy_opens : (f : Fixed) (lots : List Lot) (o : Op) (chan : ChanNo) (cfg : ℕ) (src dst : Lot) → src.id ≡ source → dst.id ≡ target → list_any (is_lot source) lots ≡ true → list_any (is_lot target) lots ≡ true
+copy_opens : (f : DriverConfig) (lots : List Lot) (o : Op) (chan : ChanNo) (cfg : ℕ) (src dst : Lot) → src.id ≡ source → dst.id ≡ target → list_any (is_lot source) lots ≡ true → list_any (is_lot target) lots ≡ true
     → OpensSo f lots o turns.Stay (claim_step chan ∷ claimed f chan cfg src dst)
 copy_opens f lots o chan cfg src dst s d has_s has_d =
     let lent = both_lent lots source target has_s has_d in
@@ -188,7 +188,7 @@ copy_opens f lots o chan cfg src dst s d has_s has_d =
 joined : (a b c d e : List Step) → (((a ++ b) ++ c) ++ d) ++ e ≡ a ++ (b ++ (c ++ (d ++ e)))
 joined a b c d e = append_assoc ((a ++ b) ++ c) d e ∙ append_assoc (a ++ b) c (d ++ e) ∙ append_assoc a b (c ++ (d ++ e))
 
-its_plan : (f : Fixed) (chan : ChanNo) (cfg : ℕ) (src dst : Lot) → claim_step chan ∷ claimed f chan cfg src dst ≡ copies.copy_steps f chan cfg src dst
+its_plan : (f : DriverConfig) (chan : ChanNo) (cfg : ℕ) (src dst : Lot) → claim_step chan ∷ claimed f chan cfg src dst ≡ copies.copy_steps f chan cfg src dst
 its_plan f chan cfg src dst =
     ap (λ (xs : List Step). claim_step chan ∷ xs) (sym (joined (lend_steps f src) (lend_steps f dst) (transfer_steps f chan cfg src dst) (back_steps f dst) (back_steps f src)))
 
@@ -201,7 +201,7 @@ found_passes i [] lot e = absurd cc
 found_passes i (x ∷ xs) lot e = found_by i x lot (find (is_lot i) xs) (is_lot i x) refl e (found_passes i xs lot)
 
 -- the ends that are found
-ends_open : (f : Fixed) (lots : List Lot) (o : Op) (chan : ChanNo) (cfg : ℕ) (s d : Option Lot) → find (is_lot source) lots ≡ s → find (is_lot target) lots ≡ d → OpensSo f lots o turns.Stay (copy_steps_of f chan cfg s d)
+ends_open : (f : DriverConfig) (lots : List Lot) (o : Op) (chan : ChanNo) (cfg : ℕ) (s d : Option Lot) → find (is_lot source) lots ≡ s → find (is_lot target) lots ≡ d → OpensSo f lots o turns.Stay (copy_steps_of f chan cfg s d)
 ends_open f lots o chan cfg None d es ed = none_opens f lots o turns.Stay tt (λ i free e. absurd cc)
 ends_open f lots o chan cfg (Some src) None es ed = none_opens f lots o turns.Stay tt (λ i free e. absurd cc)
 ends_open f lots o chan cfg (Some src) (Some dst) es ed =
@@ -212,7 +212,7 @@ ends_open f lots o chan cfg (Some src) (Some dst) es ed =
 
 -- ---- every operation
 
-pub opens_so : (ram harts : ℕ) (f : Fixed) (lots : List Lot) (o : Op) → FitsOp harts (length f.buffers) o → has_start o ≡ true → All (IsLotIn ram f) lots → OpensSo f lots o (opening f lots o) (plan_of f lots o)
+pub opens_so : (ram harts : ℕ) (f : DriverConfig) (lots : List Lot) (o : Op) → FitsOp harts (length f.buffers) o → has_start o ≡ true → All (IsLotIn ram f) lots → OpensSo f lots o (opening f lots o) (plan_of f lots o)
 unfolding opening plan_of meaning handing.hand mappings.map_single mappings.unmap_single mappings.sync_for_cpu mappings.sync_for_device lists.map_sg lists.unmap_sg areas.calloc areas.give_area areas.take_area areas.free_area copies.copy
 opens_so ram harts f lots (ops.Map label buf off len dir chan) fits start all = opens.map_opens ram f lots (ops.Map label buf off len dir chan) label kinds.Single all fits.0
 opens_so ram harts f lots (ops.MapSg label entries dir chan) fits start all = opens.map_opens ram f lots (ops.MapSg label entries dir chan) label kinds.List all fits.0

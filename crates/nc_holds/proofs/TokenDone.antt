@@ -20,7 +20,7 @@ use Rattle.nc_rules.specs.declared.steps.Seen.TheVariants as seen
 use Rattle.nc_rules.specs.declared.steps.Step.{Step}
 use Rattle.nc_rules.specs.declared.steps.Turn.{Turn}
 use Rattle.nc_rules.specs.declared.steps.Turn.TheVariants as turns
-use Rattle.nc_rules.specs.Lots.{Fixed, lot_id}
+use Rattle.nc_rules.specs.Lots.{DriverConfig, lot_id}
 use Rattle.nc_rules.specs.Turns.{lots_after, lots_after_both}
 use Rattle.nc_rules.specs.Operations.{step_at, has_start}
 use Rattle.nc_rules.specs.Driver.{DriverState, in_hand, next_of, next_of_op, next_in, next_step, next_rest, next_act, kept, busy, stepped_to, stepped, worked, done, done_of, done_unless, done_in, lent}
@@ -75,11 +75,11 @@ none_some i e = absurd cc
 
 -- ---- by number
 
-both_still : (f : Fixed) (s : Step) (lots : List Lot) → Numbered f s → lots_after_both s.first s.last lots ≡ lots
+both_still : (f : DriverConfig) (s : Step) (lots : List Lot) → Numbered f s → lots_after_both s.first s.last lots ≡ lots
 both_still f s lots (Quietly h) = ap (λ (t : Turn). lots_after_both t s.last lots) h.first ∙ ap (λ (t : Turn). lots_after t lots) h.last
 both_still f s lots (Takes buf e) = subst (λ (u : Step). lots_after_both u.first u.last lots ≡ lots) e refl
 
-pub numbered_token : (f : Fixed) (s : Step) → Numbered f s → token_act s.act ≡ None
+pub numbered_token : (f : DriverConfig) (s : Step) → Numbered f s → token_act s.act ≡ None
 numbered_token f s (Quietly h) = h.act.token
 numbered_token f s (Takes buf e) = subst (λ (u : Step). token_act u.act ≡ None) e refl
 

@@ -20,7 +20,7 @@ use Rattle.nc_rules.specs.declared.steps.Phase.{Phase}
 use Rattle.nc_rules.specs.declared.steps.Phase.TheVariants.{Steps, Search, Work}
 use Rattle.nc_rules.specs.declared.steps.Seen.{Seen}
 use Rattle.nc_rules.specs.declared.steps.Step.{Step}
-use Rattle.nc_rules.specs.Lots.{Fixed, lot_id}
+use Rattle.nc_rules.specs.Lots.{DriverConfig, lot_id}
 use Rattle.nc_rules.specs.Operations.{step_at, has_start, waited_label}
 use Rattle.nc_rules.specs.Driver.{DriverState, in_hand, next_of, next_of_op, next_in, next_step, next_rest, waited_in, waits_for, started, told, done, lent}
 use Rattle.nc_scripts.specs.Scripts.{is_act}
@@ -77,7 +77,7 @@ unwaited ram harts d q n h so start out i has o hand label waits l =
     false≢true (sym (in_none (lends_label label.0) has.0 q none has.1) ∙ is_token has.0 i label.0 has.2 l)
 
 light_kept : (d now : DriverState) (q : List Entry) (n : ℕ) → HartSo d q n → now.fixed ≡ d.fixed → (e : Entry) (i : LotId) → In e q → token_of e ≡ Some i → now.fixed.light ≡ true
-light_kept d now q n so same e i here is = ap (λ (f : Fixed). f.light) same ∙ so.light e i here is
+light_kept d now q n so same e i here is = ap (λ (f : DriverConfig). f.light) same ∙ so.light e i here is
 
 pub so_started : (ram harts : ℕ) (d : DriverState) (q : List Entry) (n : ℕ) (ws : List Owner) (pool : PageMap) → IsDriver ram harts d → HartSo d q n → ArePagesOf d.fixed pool → next_of d ≡ nexts.Start → TokensAreOut d q → HartSo (started d ws pool).driver q n
 so_started ram harts d q n ws pool h so of start out =
@@ -139,7 +139,7 @@ queued_by d q u n so behind i has = elim (behind has.0 i has.1 has.2) [
 ]
 
 light_then : (d now : DriverState) (q u : List Entry) (n : ℕ) → HartSo d q n → QueuedThen d q u → now.fixed ≡ d.fixed → (e : Entry) (i : LotId) → In e u → token_of e ≡ Some i → now.fixed.light ≡ true
-light_then d now q u n so behind same e i here is = ap (λ (f : Fixed). f.light) same ∙ elim (behind e i here is) [
+light_then d now q u n so behind same e i here is = ap (λ (f : DriverConfig). f.light) same ∙ elim (behind e i here is) [
   | inl old ↦ so.light e i old.0 is
   | inr new ↦ next_light d i so.rest new
 ]

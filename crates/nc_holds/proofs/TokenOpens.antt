@@ -23,7 +23,7 @@ use Rattle.nc_rules.specs.declared.lots.LotId.{LotId}
 use Rattle.nc_rules.specs.declared.steps.Step.{Step}
 use Rattle.nc_rules.specs.declared.steps.Turn.{Turn}
 use Rattle.nc_rules.specs.declared.steps.Turn.TheVariants as turns
-use Rattle.nc_rules.specs.Lots.{Fixed, lot_id, is_lot, is_named, is_labelled, same_kind, lot_named, only_entry}
+use Rattle.nc_rules.specs.Lots.{DriverConfig, lot_id, is_lot, is_named, is_labelled, same_kind, lot_named, only_entry}
 use Rattle.nc_rules.specs.Refusals.{buffer_of}
 use Rattle.nc_rules.specs.Plans.{hart_step, op_steps, turning, ending, lend_steps, return_steps}
 use Rattle.nc_rules.specs.Mappings.{with_lot}
@@ -70,7 +70,7 @@ pub record IsFoundLot (label : Label) (lots : List Lot) (lot : Lot) : Type 0 whe
   pub there : list_any (is_lot lot.id) lots ≡ true
   pub named : FitsLabel label → lot.id ≡ lot_id label 0
 
-pub found_lot : (ram : ℕ) (f : Fixed) (label : Label) (k : Kind) (lots : List Lot) (lot : Lot) → All (IsLotIn ram f) lots → lot_named lots label k ≡ Some lot → IsFoundLot label lots lot
+pub found_lot : (ram : ℕ) (f : DriverConfig) (label : Label) (k : Kind) (lots : List Lot) (lot : Lot) → All (IsLotIn ram f) lots → lot_named lots label k ≡ Some lot → IsFoundLot label lots lot
 found_lot ram f label k lots lot all e =
     let h = found (IsLotIn ram f) (is_named label k) lots lot all e in
     let l = labelled label k lot h.passes in
@@ -82,15 +82,15 @@ found_lot ram f label k lots lot all e =
 
 -- ---- forms
 
-pub by_lot : (f : Fixed) (lots : List Lot) (o : Op) (gt : Lot → Turn) (gs : Lot → List Step) (r : Option Lot) → ((lot : Lot) → r ≡ Some lot → OpensSo f lots o (gt lot) (gs lot)) → OpensSo f lots o (with_lot turns.Stay gt r) (with_lot [] gs r)
+pub by_lot : (f : DriverConfig) (lots : List Lot) (o : Op) (gt : Lot → Turn) (gs : Lot → List Step) (r : Option Lot) → ((lot : Lot) → r ≡ Some lot → OpensSo f lots o (gt lot) (gs lot)) → OpensSo f lots o (with_lot turns.Stay gt r) (with_lot [] gs r)
 by_lot f lots o gt gs None h = none_opens f lots o turns.Stay tt (λ i free e. absurd cc)
 by_lot f lots o gt gs (Some lot) h = h lot refl
 
-pub by_made : (f : Fixed) (lots : List Lot) (o : Op) (id : LotId) (gs : Lot → List Step) (r : Option Lot) → ((lot : Lot) → r ≡ Some lot → OpensSo f lots o (turns.Lend id) (gs lot)) → OpensSo f lots o (turns.Lend id) (with_lot [] gs r)
+pub by_made : (f : DriverConfig) (lots : List Lot) (o : Op) (id : LotId) (gs : Lot → List Step) (r : Option Lot) → ((lot : Lot) → r ≡ Some lot → OpensSo f lots o (turns.Lend id) (gs lot)) → OpensSo f lots o (turns.Lend id) (with_lot [] gs r)
 by_made f lots o id gs None h = none_opens f lots o (turns.Lend id) tt (λ i free e. absurd cc)
 by_made f lots o id gs (Some lot) h = h lot refl
 
-pub if_opens : (f : Fixed) (lots : List Lot) (o : Op) (b : Bool) (t u : Turn) (xs ys : List Step) → OpensSo f lots o t xs → OpensSo f lots o u ys → OpensSo f lots o (if b then t else u) (if b then xs else ys)
+pub if_opens : (f : DriverConfig) (lots : List Lot) (o : Op) (b : Bool) (t u : Turn) (xs ys : List Step) → OpensSo f lots o t xs → OpensSo f lots o u ys → OpensSo f lots o (if b then t else u) (if b then xs else ys)
 if_opens f lots o true t u xs ys h k = h
 if_opens f lots o false t u xs ys h k = k
 
@@ -102,31 +102,31 @@ stay_ends : (o : Op) → EndsWaited o turns.Stay
 stay_ends o i free e = absurd cc
 
 -- a plan that takes a lot back and then makes this turn
-pub back_opens : (f : Fixed) (lots : List Lot) (o : Op) (lot : Lot) (t : Turn) → EndsWaited o t → OpensSo f lots o (turns.Return lot.id) (ending t (return_steps f lot))
+pub back_opens : (f : DriverConfig) (lots : List Lot) (o : Op) (lot : Lot) (t : Turn) → EndsWaited o t → OpensSo f lots o (turns.Return lot.id) (ending t (return_steps f lot))
 back_opens f lots o lot t ends =
     quiet_opens f lots o (turns.Return lot.id) (ending t (return_steps f lot)) tt (λ i free e. absurd cc)
     (ending_quiet (EndsWaited o) t (return_steps f lot) ends (return_quiet (EndsWaited o) f lot (stay_ends o)))
 
-pub fence_opens : (f : Fixed) (lots : List Lot) (o : Op) (lot : Lot) (t : Turn) → EndsWaited o t → OpensSo f lots o (turns.Return lot.id) (fenced t)
+pub fence_opens : (f : DriverConfig) (lots : List Lot) (o : Op) (lot : Lot) (t : Turn) → EndsWaited o t → OpensSo f lots o (turns.Return lot.id) (fenced t)
 fence_opens f lots o lot t ends =
     quiet_opens f lots o (turns.Return lot.id) (fenced t) tt (λ i free e. absurd cc)
     (All-cons (IsQuiet (EndsWaited o)) (turning t (hart_step full)) []
     (turning_quiet (EndsWaited o) t (hart_step full) ends (op_quiet (EndsWaited o) full (stay_ends o) (record { mail = λ b. refl; token = refl })))
     (All-nil (IsQuiet (EndsWaited o))))
 
-pub map_opens : (ram : ℕ) (f : Fixed) (lots : List Lot) (o : Op) (label : Label) (k : Kind) → All (IsLotIn ram f) lots → FitsLabel label → OpensSo f lots o (turns.Lend (lot_id label 0)) (with_lot [] (lend_steps f) (lot_named lots label k))
+pub map_opens : (ram : ℕ) (f : DriverConfig) (lots : List Lot) (o : Op) (label : Label) (k : Kind) → All (IsLotIn ram f) lots → FitsLabel label → OpensSo f lots o (turns.Lend (lot_id label 0)) (with_lot [] (lend_steps f) (lot_named lots label k))
 map_opens ram f lots o label k all fits =
     by_made f lots o (lot_id label 0) (lend_steps f) (lot_named lots label k) (λ lot e.
     let h = found_lot ram f label k lots lot all e in
     subst (λ (i : LotId). OpensSo f lots o (turns.Lend i) (lend_steps f lot)) (h.named fits) (lend_opens f lots o lot h.there))
 
-pub calloc_opens : (f : Fixed) (lots : List Lot) (o : Op) (label : Label) (lot : Lot) → OpensSo f lots o (turns.Lend (lot_id label 0)) (calloc_steps f lot)
+pub calloc_opens : (f : DriverConfig) (lots : List Lot) (o : Op) (label : Label) (lot : Lot) → OpensSo f lots o (turns.Lend (lot_id label 0)) (calloc_steps f lot)
 calloc_opens f lots o label lot =
     quiet_opens f lots o (turns.Lend (lot_id label 0)) (calloc_steps f lot) tt (λ i free e. absurd cc)
     (ending_quiet (EndsWaited o) (turns.Settle lot.id) (op_steps (allocating f.effects f.size (only_entry lot).span)) (λ i free e. absurd cc)
     (ops_quiet (EndsWaited o) (allocating f.effects f.size (only_entry lot).span) (stay_ends o) (allocating_quiet f.effects f.size (only_entry lot).span)))
 
-pub hand_opens : (f : Fixed) (lots : List Lot) (buf : ℕ) (to : HartNo) → OpensSo f lots (ops.Hand buf to) (turns.Pass (buffer_of f buf) to) (hand_steps buf to)
+pub hand_opens : (f : DriverConfig) (lots : List Lot) (buf : ℕ) (to : HartNo) → OpensSo f lots (ops.Hand buf to) (turns.Pass (buffer_of f buf) to) (hand_steps buf to)
 hand_opens f lots buf to =
     record {
       of_lots = λ other. absurd (other buf to refl);

@@ -15,7 +15,7 @@ use Rattle.nc_rules.specs.declared.lots.LotId.{LotId}
 use Rattle.nc_rules.specs.declared.steps.Step.{Step}
 use Rattle.nc_rules.specs.declared.steps.Turn.{Turn}
 use Rattle.nc_rules.specs.declared.steps.Turn.TheVariants as turns
-use Rattle.nc_rules.specs.Lots.{Fixed, is_lot, parts}
+use Rattle.nc_rules.specs.Lots.{DriverConfig, is_lot, parts}
 use Rattle.nc_rules.specs.Turns.{lots_after}
 use Rattle.nc_rules.specs.Plans.{hart_step, op_steps, turning, carried, token_steps, lend_steps}
 use Rattle.nc_rules.specs.Operations.{waited_label}
@@ -50,7 +50,7 @@ EndsWaited o t = (i : LotId) → NotWaited o i → NotEnd i t
 abbrev pub NoHand : Op → Type 0
 NoHand o = (buf : ℕ) (to : HartNo) → o ≡ ops.Hand buf to → ⊥
 
-pub record OpensSo (f : Fixed) (lots : List Lot) (o : Op) (turn : Turn) (plan : List Step) : Type 0 where
+pub record OpensSo (f : DriverConfig) (lots : List Lot) (o : Op) (turn : Turn) (plan : List Step) : Type 0 where
   pub of_lots : NoHand o → OfLots turn
   pub light : All (TokenIsLight f.light) plan
   pub claims : ClaimsAlone plan
@@ -98,7 +98,7 @@ quiet_to P Q (s ∷ xs) f all =
 
 -- ---- a quiet plan
 
-pub quiet_opens : (f : Fixed) (lots : List Lot) (o : Op) (turn : Turn) (plan : List Step) → OfLots turn → EndsWaited o turn → All (IsQuiet (EndsWaited o)) plan → OpensSo f lots o turn plan
+pub quiet_opens : (f : DriverConfig) (lots : List Lot) (o : Op) (turn : Turn) (plan : List Step) → OfLots turn → EndsWaited o turn → All (IsQuiet (EndsWaited o)) plan → OpensSo f lots o turn plan
 quiet_opens f lots o turn plan of ends all = record {
   of_lots = λ _. of;
   light = quiet_light (EndsWaited o) f.light plan all;
@@ -108,7 +108,7 @@ quiet_opens f lots o turn plan of ends all = record {
   stays = λ i free has. stays_by i (lots_after turn lots) plan (after_has turn lots i (ends i free) has) (end_none i plan (quiet_to (EndsWaited o) (NotEnd i) plan (λ t h. h i free) all));
 }
 
-pub none_opens : (f : Fixed) (lots : List Lot) (o : Op) (turn : Turn) → OfLots turn → EndsWaited o turn → OpensSo f lots o turn []
+pub none_opens : (f : DriverConfig) (lots : List Lot) (o : Op) (turn : Turn) → OfLots turn → EndsWaited o turn → OpensSo f lots o turn []
 none_opens f lots o turn of ends = quiet_opens f lots o turn [] of ends (All-nil (IsQuiet (EndsWaited o)))
 
 -- ---- a plan that lends one lot
@@ -130,7 +130,7 @@ give_quiet P i stay give = turning_quiet P (turns.Give i) (hart_step full) give 
 stay_waited : (o : Op) (t : Turn) → IsStay t → EndsWaited o t
 stay_waited o t h i free e = let same : turns.Stay ≡ turns.End i = sym h ∙ e in absurd cc
 
-pub lent_opens : (f : Fixed) (lots : List Lot) (o : Op) (lot : Lot) (xs : List Step) (light : Bool) → f.light ≡ light → list_any (is_lot lot.id) lots ≡ true → All (IsQuiet IsStay) xs
+pub lent_opens : (f : DriverConfig) (lots : List Lot) (o : Op) (lot : Lot) (xs : List Step) (light : Bool) → f.light ≡ light → list_any (is_lot lot.id) lots ≡ true → All (IsQuiet IsStay) xs
     → OpensSo f lots o (turns.Lend lot.id) (xs ++ (if light then token_steps lot else turning (turns.Give lot.id) (hart_step full) ∷ []))
 lent_opens f lots o lot xs true e there all =
     let mailless = All-append IsMailless xs (token_steps lot) (quiet_mailless IsStay xs all) (token_mailless lot) in
@@ -149,5 +149,5 @@ lent_opens f lots o lot xs false e there all =
     (quiet_to IsStay (EndsWaited o) xs (stay_waited o) all)
     (All-cons (IsQuiet (EndsWaited o)) (turning (turns.Give lot.id) (hart_step full)) [] (give_quiet (EndsWaited o) lot.id (λ i free e. absurd cc) (λ i free e. absurd cc)) (All-nil (IsQuiet (EndsWaited o)))))
 
-pub lend_opens : (f : Fixed) (lots : List Lot) (o : Op) (lot : Lot) → list_any (is_lot lot.id) lots ≡ true → OpensSo f lots o (turns.Lend lot.id) (lend_steps f lot)
+pub lend_opens : (f : DriverConfig) (lots : List Lot) (o : Op) (lot : Lot) → list_any (is_lot lot.id) lots ≡ true → OpensSo f lots o (turns.Lend lot.id) (lend_steps f lot)
 lend_opens f lots o lot there = lent_opens f lots o lot (op_steps (carried f.effects f.size (parts f lot))) f.light refl there (carried_steps_quiet IsStay f lot refl)

@@ -9,7 +9,7 @@ use Rattle.nc_rules.specs.declared.lots.Lot.{Lot}
 use Rattle.nc_rules.specs.declared.lots.Side.TheVariants as sides
 use Rattle.nc_rules.specs.declared.steps.Turn.{Turn}
 use Rattle.nc_rules.specs.declared.steps.Turn.TheVariants as turns
-use Rattle.nc_rules.specs.Lots.{Fixed, is_lot, is_wanted, some_lot_waits, slot_given, slots_held}
+use Rattle.nc_rules.specs.Lots.{DriverConfig, is_lot, is_wanted, some_lot_waits, slot_given, slots_held}
 use Rattle.nc_rules.specs.Turns.{lots_after, backs_of, set_side, slots_wanted, without_wanted}
 use Rattle.nc_rules.specs.World.{slots_back}
 use Rattle.nc_holds.specs.Held.{Held, times_held, is_holder, WordsAgree}
@@ -85,13 +85,13 @@ made_at w lots new none =
     let no : times_held w new ≡ 0 = ap (times w) none in
     omega (arith, times_join w lots new, no)
 
-pub words_own : (f : Fixed) (s : Held) (c : Change) → length s.slots ≡ f.slots → MayChange f s c → MakesUnplaced c → WordsAgree f.me s.slots s.lots → WordsAgree f.me (changed f s c).slots (changed f s c).lots
+pub words_own : (f : DriverConfig) (s : Held) (c : Change) → length s.slots ≡ f.slots → MayChange f s c → MakesUnplaced c → WordsAgree f.me s.slots s.lots → WordsAgree f.me (changed f s c).slots (changed f s c).lots
 words_own f s (Made new) long may none all = λ w. made_at w s.lots new none ∙ all w
 words_own f s (Got k) long may none all = λ w. got_at f.me s.slots k w s.lots (omega (arith, long, may.1)) may.0.free may.0.waits all
 words_own f s (Turned t) long may none all = (turned_words f.me s.slots s.lots t all).words
 words_own f s Dropped long may none all = (dropped_words f.me s.slots s.lots all).words
 
-pub words_other : (f : Fixed) (s : Held) (c : Change) (g : HartNo) (lots : List Lot) → g.0 ≢ f.me.0 → length s.slots ≡ f.slots → MayChange f s c → WordsAgree f.me s.slots s.lots → WordsAgree g s.slots lots → WordsAgree g (changed f s c).slots lots
+pub words_other : (f : DriverConfig) (s : Held) (c : Change) (g : HartNo) (lots : List Lot) → g.0 ≢ f.me.0 → length s.slots ≡ f.slots → MayChange f s c → WordsAgree f.me s.slots s.lots → WordsAgree g s.slots lots → WordsAgree g (changed f s c).slots lots
 words_other f s (Made new) g lots ne long may own all = all
 words_other f s (Got k) g lots ne long may own all = λ w. all w ∙ rw (got_other g f.me s.slots k w ne (omega (arith, long, may.1)) may.0.free) refl
 words_other f s (Turned t) g lots ne long may own all = λ w. all w ∙ rw (others_stay g f.me s.slots (backs_of s.lots t) w ne (turned_words f.me s.slots s.lots t own).backs) refl

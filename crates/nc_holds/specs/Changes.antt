@@ -9,7 +9,7 @@ use Rattle.nc_rules.specs.declared.lots.LotId.{LotId}
 use Rattle.nc_rules.specs.declared.steps.Step.{Step}
 use Rattle.nc_rules.specs.declared.steps.Turn.{Turn}
 use Rattle.nc_rules.specs.declared.steps.Turn.TheVariants as turns
-use Rattle.nc_rules.specs.Lots.{Fixed, is_lot, is_wanted, lot_waits, slot_given, some_lot_waits}
+use Rattle.nc_rules.specs.Lots.{DriverConfig, is_lot, is_wanted, lot_waits, slot_given, some_lot_waits}
 use Rattle.nc_rules.specs.Refusals.{buffer_of}
 use Rattle.nc_rules.specs.Operations.{begin}
 use Rattle.nc_rules.specs.Turns.{is_area, lots_after, transfers_of, grants_of, ended_of, backs_of, pages_of, slots_wanted, without_wanted}
@@ -28,7 +28,7 @@ pub data Change : Type 0 where
   Dropped : Change
 
 -- what is held after a change by a hart
-abbrev pub changed : Fixed → Held → Change → Held
+abbrev pub changed : DriverConfig → Held → Change → Held
 changed f s (Made new) = record s { lots = s.lots ++ new }
 changed f s (Got word) = record s { lots = slot_given word s.lots; slots = slice_set s.slots word (Some f.me) }
 changed f s (Turned t) = record {
@@ -40,7 +40,7 @@ changed f s (Turned t) = record {
 }
 changed f s Dropped = record s { lots = without_wanted s.lots; slots = slots_back s.slots (slots_wanted s.lots) }
 
-abbrev pub changed_by : Fixed → Held → List Change → Held
+abbrev pub changed_by : DriverConfig → Held → List Change → Held
 changed_by f s [] = s
 changed_by f s (c ∷ cs) = changed_by f (changed f s c) cs
 
@@ -60,7 +60,7 @@ WaitsUnlent lots = All (λ lot. lot_waits lot ≡ true → is_wanted lot.side �
 -- a range is passed by the hart that has it, and taken by the one to which it was passed; it is a buffer. A lot is lent
 -- once its entries have their slots, all other turns are of lots that are lent, and an area alone is the hart's own while
 -- it is granted
-abbrev pub MayTurn : Fixed → Held → Turn → Type 0
+abbrev pub MayTurn : DriverConfig → Held → Turn → Type 0
 MayTurn f s turns.Stay = Unit {0}
 MayTurn f s (turns.Pass range to) = (b : ℕ) × (range ≡ buffer_of f b) × IsOwnedBy s.owners range (owners.Thread f.me)
 MayTurn f s (turns.Own range) = (b : ℕ) × (range ≡ buffer_of f b) × ((g : HartNo) × IsOwnedBy s.owners range (owners.Passing g f.me))
@@ -72,7 +72,7 @@ MayTurn f s (turns.Settle id) = AreLent s.lots id × AreAreas s.lots id
 MayTurn f s (turns.End id) = AreLent s.lots id
 
 -- lots are made by the start of an operation, where the hart's other lots are settled
-pub record MayMake (f : Fixed) (s : Held) (new : List Lot) : Type 0 where
+pub record MayMake (f : DriverConfig) (s : Held) (new : List Lot) : Type 0 where
   pub op : Op
   pub begins : begin f s.lots s.owners s.pages op ≡ Ok new
   pub settled : All IsSettled s.lots
@@ -82,13 +82,13 @@ pub record MayGet (s : Held) (word : ℕ) : Type 0 where
   pub unlent : WaitsUnlent s.lots
   pub free : holder_of s.slots word ≡ None
 
-abbrev pub MayChange : Fixed → Held → Change → Type 0
+abbrev pub MayChange : DriverConfig → Held → Change → Type 0
 MayChange f s (Made new) = MayMake f s new
 MayChange f s (Got word) = MayGet s word × (word < f.slots)
 MayChange f s (Turned t) = MayTurn f s t
 MayChange f s Dropped = Unit {0}
 
-abbrev pub MayChangeBy : Fixed → Held → List Change → Type 0
+abbrev pub MayChangeBy : DriverConfig → Held → List Change → Type 0
 MayChangeBy f s [] = Unit {0}
 MayChangeBy f s (c ∷ cs) = MayChange f s c × MayChangeBy f (changed f s c) cs
 

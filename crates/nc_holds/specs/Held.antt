@@ -14,7 +14,7 @@ use Rattle.nc_coherent.specs.Pages as coherent
 use Rattle.nc_sg.specs.declared.list.Entry.{Entry}
 use Rattle.nc_rules.specs.declared.lots.Lot.{Lot}
 use Rattle.nc_rules.specs.declared.lots.LotId.{LotId}
-use Rattle.nc_rules.specs.Lots.{Fixed, is_lot, map_id, grant_of, owner_of_side, is_wanted, is_own, only_entry, slots_held}
+use Rattle.nc_rules.specs.Lots.{DriverConfig, is_lot, map_id, grant_of, owner_of_side, is_wanted, is_own, only_entry, slots_held}
 use Rattle.nc_rules.specs.Refusals.{buffer_of}
 use Rattle.nc_rules.specs.Turns.{is_area}
 
@@ -31,11 +31,11 @@ pub record Held : Type 0 where
 abbrev pub SharesNone : Span → Span → Type 0
 SharesNone a b = (x : ℕ) → covers a x ≡ true → covers b x ≡ true → ⊥
 
-abbrev pub slots_span : Fixed → Span
+abbrev pub slots_span : DriverConfig → Span
 slots_span f = record { at = f.slots_at; len = 2048 * f.slots }
 
 -- no two buffers, nor a buffer and the slots or the pool, nor the slots and the pool, share a byte
-pub record AreRegions (f : Fixed) : Type 0 where
+pub record AreRegions (f : DriverConfig) : Type 0 where
   pub buffers : (b c : ℕ) → b ≢ c → SharesNone (buffer_of f b) (buffer_of f c)
   pub buffers_off_slots : (b : ℕ) → SharesNone (buffer_of f b) (slots_span f)
   pub buffers_off_pool : (b : ℕ) → SharesNone (buffer_of f b) f.pool
@@ -69,11 +69,11 @@ EntriesAreApart lots =
     → IsSameEntry a i b j
 
 -- a range lies in a buffer
-abbrev pub LiesInBuffer : Fixed → Span → Type 0
+abbrev pub LiesInBuffer : DriverConfig → Span → Type 0
 LiesInBuffer f range = (b : ℕ) × ((x : ℕ) → covers range x ≡ true → covers (buffer_of f b) x ≡ true)
 
 -- what a kind says of the side and the entries of a lot
-pub record FitsSide (f : Fixed) (lot : Lot) : Type 0 where
+pub record FitsSide (f : DriverConfig) (lot : Lot) : Type 0 where
   -- an area is lent as soon as it is made
   pub area : is_area lot.kind ≡ true → is_wanted lot.side ≡ false
   -- an area alone can be the hart's own while it is granted
@@ -86,12 +86,12 @@ OwnersAgree me owners lots =
     (lot : Lot) (i : ℕ) (e : Entry) (x : ℕ) → IsEntryOf lots lot i e → covers e.span x ≡ true → owner_in owners x ≡ owner_of_side (map_id me lot.id i) lot.side
 
 -- each entry of a lot that is lent is granted
-abbrev pub AreGranted : Fixed → List Grant → List Lot → Type 0
+abbrev pub AreGranted : DriverConfig → List Grant → List Lot → Type 0
 AreGranted f grants lots =
     (lot : Lot) (i : ℕ) (e : Entry) → IsEntryOf lots lot i e → is_wanted lot.side ≡ false → In (grant_of f.slots_at lot (map_id f.me lot.id i) e) grants
 
 -- a grant of this hart is that of an entry of a lot that is lent
-pub record IsGrantOf (f : Fixed) (lots : List Lot) (g : Grant) : Type 0 where
+pub record IsGrantOf (f : DriverConfig) (lots : List Lot) (g : Grant) : Type 0 where
   pub lot : Lot
   pub i : ℕ
   pub entry : Entry
@@ -121,7 +121,7 @@ PagesAgree pool lots = All (IsTaken pool) lots
 -- ---- one hart, and all
 
 -- a hart's lots agree with what all harts share
-pub record HartAgrees (f : Fixed) (s : Held) : Type 0 where
+pub record HartAgrees (f : DriverConfig) (s : Held) : Type 0 where
   pub sides : All (FitsSide f) s.lots
   pub apart : EntriesAreApart s.lots
   pub owners : OwnersAgree f.me s.owners s.lots

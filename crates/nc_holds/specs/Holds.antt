@@ -16,7 +16,7 @@ use Rattle.nc_queue.specs.declared.entry.Entry.TheVariants as entries
 use Rattle.nc_num.specs.declared.names.Label.{Label}
 use Rattle.nc_rules.specs.declared.steps.PageMove.{PageMove}
 use Rattle.nc_rules.specs.declared.steps.PageMove.TheVariants as pages
-use Rattle.nc_rules.specs.Lots.{Fixed, lot_id}
+use Rattle.nc_rules.specs.Lots.{DriverConfig, lot_id}
 use Rattle.nc_rules.specs.Machine.{hart_of}
 use Rattle.nc_rules.specs.Calls.{leaving}
 use Rattle.nc_rules.specs.Sound.{IsMachine}
@@ -36,7 +36,7 @@ use Rattle.nc_holds.specs.Rests.{RestAgrees}
 -- ---- the drivers of a machine
 
 -- a machine that such a driver's operations are for, and the book and pages beside it
-pub record IsSetting (f : Fixed) (w : WorldState) : Type 0 where
+pub record IsSetting (f : DriverConfig) (w : WorldState) : Type 0 where
   pub block : w.machine.size ≡ f.size
   pub pool : w.machine.pool ≡ f.pool
   pub boxes : length w.machine.boxes ≡ length f.buffers
@@ -44,7 +44,7 @@ pub record IsSetting (f : Fixed) (w : WorldState) : Type 0 where
   pub words : length w.slots ≡ f.slots
 
 -- what drivers of one scenario know alike
-pub record KnowsAlike (f g : Fixed) : Type 0 where
+pub record KnowsAlike (f g : DriverConfig) : Type 0 where
   pub buffers : f.buffers ≡ g.buffers
   pub slots_at : f.slots_at ≡ g.slots_at
   pub slots : f.slots ≡ g.slots

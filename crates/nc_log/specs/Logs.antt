@@ -15,7 +15,7 @@ use Rattle.nc_rules.specs.declared.records.Record.TheVariants as records
 use Rattle.nc_rules.specs.Records.{start_of, transfer_records, load_record, store_record, mark_record}
 
 -- the records, and for how many more there is room
-pub record LogShown : Type 0 where
+pub record LogView : Type 0 where
   pub records : List Record
   pub room : ℕ
 

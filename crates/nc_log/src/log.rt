@@ -3,7 +3,7 @@
 ghost use Rattle.std.specs.Prelude.{◌≡◌, ◌≤◌, ◌<◌, ◌+◌, ◌*◌, ◌^◌, ◌++◌, [], ◌∷◌, length, All, OnOk};
 ghost use Rattle.nc_hart.specs.Issue.{payload};
 ghost use Rattle.nc_rules.specs.Records as rules;
-ghost use Rattle.nc_moves.specs.Shown.{seen_as};
+ghost use Rattle.nc_moves.specs.MovesView.{moves_view};
 ghost use Rattle.nc_log.specs.Logs.{HasPlace, OpHasPlace, IssuedHasPlaces, EntryHasPlace, loaded_records, fence_record, issued_records};
 
 use crate::records::RecordList;
@@ -31,9 +31,9 @@ pub struct Log {
 
 impl Model for Log {
     ghost use Rattle.std.specs.Prelude.{◌-◌, vec_len, vec_capacity};
-    ghost use Rattle.nc_log.specs.Logs.{LogShown};
+    ghost use Rattle.nc_log.specs.Logs.{LogView};
 
-    ghost Value = { LogShown };
+    ghost Value = { LogView };
 
     ghost view = { λ l. record { records = l.items.items; room = vec_capacity l.items - vec_len l.items } };
 }
@@ -232,7 +232,7 @@ impl Log {
     /// What a driver's call moves, with the answer of operation n.
     pub fn moves(&mut self, h: HartNo, n: u32, moves: &Moves)
         requires room { 67 ≤ self.old.room }
-        ensures records { self.new.records ≡ self.old.records ++ rules.moves_records h n (seen_as moves.now) }
+        ensures records { self.new.records ≡ self.old.records ++ rules.moves_records h n (moves_view moves.now) }
     {
         self.owners(moves.transfers.as_slice());
         self.backs(h, moves.backs.as_slice());

@@ -4,7 +4,7 @@ ghost use Rattle.std.specs.Prelude.{◌≡◌, ◌+◌, ◌<◌, ◌≤◌, IfSo
 ghost use Rattle.std.specs.List.{find, list_any, Contains};
 ghost use Rattle.nc_plan.specs.Parts.{is_too_big};
 ghost use Rattle.nc_sg.specs.Lists.{IsEntry};
-ghost use Rattle.nc_rules.specs.Lots.{Fixed, is_lot, is_labelled, is_named, lot_named, only_entry, bus_of_lot, lot_waits, some_lot_waits, same_kind};
+ghost use Rattle.nc_rules.specs.Lots.{DriverConfig, is_lot, is_labelled, is_named, lot_named, only_entry, bus_of_lot, lot_waits, some_lot_waits, same_kind};
 ghost use Rattle.nc_rules.specs.Refusals.{is_big, has_big};
 
 use nc_num::{Label, Span};
@@ -105,7 +105,7 @@ pub fn only_entry(lot: &Lot) -> Entry
 /// place `slots_at`, which is at most 1,048,576.
 pub fn bus_of_lot(slots_at: u32, lot: &Lot) -> u32
     requires slots { slots_at ≤ 1048576 }
-    ensures { (f : Fixed) → f.slots_at ≡ slots_at → result ≡ bus_of_lot f lot.now }
+    ensures { (f : DriverConfig) → f.slots_at ≡ slots_at → result ≡ bus_of_lot f lot.now }
 {
     match lot.list.entries().first() {
         Some(entry) => BUS + device(slots_at, entry).at,

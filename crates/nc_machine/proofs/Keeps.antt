@@ -13,10 +13,10 @@ use Rattle.nc_calls.specs.MachineLaws.{SameShape}
 use Rattle.nc_calls.proofs.SoundParts.{there_same}
 use Rattle.nc_calls.proofs.SoundWith.{sound_cache, shape_cache, shape_hart}
 use Rattle.nc_calls.proofs.SoundDrain.{leaving_is, sound_without, shape_without, without}
-use Rattle.nc_machine.specs.State.{IsKept}
+use Rattle.nc_machine.specs.State.{MachineInvariant}
 
 -- the machine p, which has the shape of m
-pub kept : (m n p : MachineState) (d e : DomainState) → IsKept m d → n ≡ p → IsMachine p → SameShape m p → e.size ≡ d.size → e.harts ≡ d.harts → IsKept n e
+pub kept : (m n p : MachineState) (d e : DomainState) → MachineInvariant m d → n ≡ p → IsMachine p → SameShape m p → e.size ≡ d.size → e.harts ≡ d.harts → MachineInvariant n e
 kept m n p d e k same sound shape size harts = record {
   machine = subst IsMachine (sym same) sound;
   size = size ∙ k.size ∙ sym (ap (λ (t : MachineState). t.size) same ∙ shape.size);
@@ -24,20 +24,20 @@ kept m n p d e k same sound shape size harts = record {
 }
 
 -- other caches, for a block size
-pub kept_cache : (m : MachineState) (d e : DomainState) (ram : List ℕ) (next : ℕ → Cache) → IsKept m d → Whole m.size (length m.harts) (length m.cache.ram) (next m.size)
-    → record { ram = ram; lines = e.lines } ≡ next d.size → e.size ≡ d.size → e.harts ≡ d.harts → IsKept (with_cache m (record { ram = ram; lines = e.lines })) e
+pub kept_cache : (m : MachineState) (d e : DomainState) (ram : List ℕ) (next : ℕ → Cache) → MachineInvariant m d → Whole m.size (length m.harts) (length m.cache.ram) (next m.size)
+    → record { ram = ram; lines = e.lines } ≡ next d.size → e.size ≡ d.size → e.harts ≡ d.harts → MachineInvariant (with_cache m (record { ram = ram; lines = e.lines })) e
 kept_cache m d e ram next k whole state size harts =
     kept m (with_cache m (record { ram = ram; lines = e.lines })) (with_cache m (next m.size)) d e k (ap (with_cache m) (state ∙ ap next k.size)) (sound_cache m (next m.size) k.machine whole)
     (shape_cache m (next m.size) k.machine whole) size harts
 
 -- other harts
-pub kept_harts : (m : MachineState) (d : DomainState) (h : ℕ) (s : HartState) (harts : List HartState) → IsKept m d → harts ≡ slice_set m.harts h s → IsMachine (with_hart m h s) → IsKept (record m { harts = harts }) d
+pub kept_harts : (m : MachineState) (d : DomainState) (h : ℕ) (s : HartState) (harts : List HartState) → MachineInvariant m d → harts ≡ slice_set m.harts h s → IsMachine (with_hart m h s) → MachineInvariant (record m { harts = harts }) d
 kept_harts m d h s harts k same sound =
     kept m (record m { harts = harts }) (with_hart m h s) d d k (ap (λ (hs : List HartState). record m { harts = hs }) same) sound (shape_hart m h s) refl refl
 
 -- an entry has left, where it may
-pub kept_left : (m : MachineState) (d : DomainState) (h i : ℕ) (o : Option Entry) (harts : List HartState) → IsKept m d → h < length m.harts → IfNone o (harts ≡ m.harts) → IfSome o (λ _. harts ≡ slice_set m.harts h (without_entry (hart_of m h) i))
-    → IsKept (record m { harts = harts }) d
+pub kept_left : (m : MachineState) (d : DomainState) (h i : ℕ) (o : Option Entry) (harts : List HartState) → MachineInvariant m d → h < length m.harts → IfNone o (harts ≡ m.harts) → IfSome o (λ _. harts ≡ slice_set m.harts h (without_entry (hart_of m h) i))
+    → MachineInvariant (record m { harts = harts }) d
 kept_left m d h i None harts k lt none some = kept m (record m { harts = harts }) m d d k (ap (λ (hs : List HartState). record m { harts = hs }) none) k.machine (record { size = refl; pool = refl; ram = refl; harts = refl; channels = refl; grantees = refl; boxes = refl }) refl refl
 kept_left m d h i (Some e) harts k lt none some = kept_harts m d h (without_entry (hart_of m h) i) harts k some (sound_without m h i k.machine lt)
 

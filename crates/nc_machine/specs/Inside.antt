@@ -1,7 +1,7 @@
 -- The machine that its parts make.
 use Rattle.nc_rules.specs.Machine.{MachineState}
 use Rattle.nc_machine.specs.declared.machine.Machine.TheInside.{Inside}
-use Rattle.nc_machine.specs.State.{MachineShown, IsKept}
+use Rattle.nc_machine.specs.State.{MachineView, MachineInvariant}
 
 abbrev pub machine_of : Inside → MachineState
 machine_of m = record {
@@ -14,8 +14,8 @@ machine_of m = record {
   boxes = m.mail;
 }
 
-abbrev pub shown : Inside → MachineShown
+abbrev pub shown : Inside → MachineView
 shown m = record { machine = machine_of m; spare = m.domain.spare }
 
 abbrev pub IsSound : Inside → Type 0
-IsSound m = IsKept (machine_of m) m.domain
+IsSound m = MachineInvariant (machine_of m) m.domain

@@ -14,12 +14,12 @@ use Rattle.std.specs.Ordering.{nat_cmp}
 use Rattle.std.specs.FinMap.{FinMap}
 
 -- the machine, and for how many more blocks its caches have room
-pub record MachineShown : Type 0 where
+pub record MachineView : Type 0 where
   pub machine : MachineState
   pub spare : ℕ
 
 -- a machine whose caches have its block size and its harts
-pub record IsKept (m : MachineState) (d : DomainState) : Type 0 where
+pub record MachineInvariant (m : MachineState) (d : DomainState) : Type 0 where
   pub machine : IsMachine m
   pub size : d.size ≡ m.size
   pub harts : d.harts ≡ length m.harts
@@ -41,5 +41,5 @@ machine_code line span hart channel hart_no =
     })
     (λ _. refl)
 
-abbrev pub shown_code : Coded MachineState → Coded MachineShown
+abbrev pub shown_code : Coded MachineState → Coded MachineView
 shown_code machine = code_by (MachineState × ℕ) (coded× machine coded_ℕ) (λ s. (s.machine, s.spare)) (λ p. record { machine = p.0; spare = p.1 }) (λ _. refl)

@@ -10,7 +10,7 @@ ghost use Rattle.nc_queue.specs.declared.entry.Entry.TheVariants as entries;
 ghost use Rattle.nc_rules.specs.declared.answers.Issued.TheVariants.{Loaded};
 ghost use Rattle.nc_rules.specs.Machine.{hart_of, queue_of, channel_of, grantee_of, box_of, with_hart, with_box, with_cache};
 ghost use Rattle.nc_rules.specs.View.{bytes_of, bytes_seen, below};
-ghost use Rattle.nc_rules.specs.Calls.{may_issue, issue_next, issue_answer, asks_caches, cache_loaded, load_transfers, performed, store_transfers, operation_transfers, drain_transfers, leaving, without_entry, drain_next, drain_answer, is_pooled, fill_next, fill_answer, evict_next, evict_answer, chan_read_next, chan_read_told, chan_write_next, chan_write_told, control_of, is_claimed, claim_next, claim_answer, may_take, take_next, io_waits, lends, register_value};
+ghost use Rattle.nc_rules.specs.Calls.{may_issue, issue_next, issue_answer, asks_caches, cache_loaded, load_transfers, performed, store_transfers, operation_transfers, drain_transfers, leaving, without_entry, drain_next, drain_answer, is_pooled, fill_next, fill_answer, evict_next, evict_answer, chan_read_next, chan_read_step, chan_write_next, chan_write_step, control_of, is_claimed, claim_next, claim_answer, may_take, take_next, io_waits, lends, register_value};
 ghost use Rattle.nc_rules.specs.Sound.{IsMachine, IsBlockIn, IsRegister, IsPieceIn, IsMessage, OpIsThere, EntryIsThere};
 ghost use Rattle.nc_rules.specs.Start.{first_machine};
 ghost use Rattle.nc_machine.specs.Loads.{may_bring};
@@ -46,14 +46,14 @@ pub struct Machine {
 }
 
 impl Model for Machine {
-    ghost use Rattle.nc_machine.specs.State.{MachineShown, machine_code, shown_code};
+    ghost use Rattle.nc_machine.specs.State.{MachineView, machine_code, shown_code};
     ghost use Rattle.nc_cache.specs.contracts.line.Line as line;
     ghost use Rattle.nc_num.specs.contracts.places.Span as span;
     ghost use Rattle.nc_hart.specs.contracts.hart.Hart as hart;
     ghost use Rattle.nc_pdma.specs.contracts.channel.Channel as channel;
     ghost use Rattle.nc_num.specs.contracts.names.HartNo as hart_no;
 
-    ghost Value = { MachineShown };
+    ghost Value = { MachineView };
 
     ghost coded = { shown_code (machine_code line.the_row.coded span.the_row.coded hart.the_row.coded channel.the_row.coded hart_no.the_row.coded) };
 
@@ -196,7 +196,7 @@ impl Machine {
     pub fn chan_read(&mut self, c: ChanNo) -> ChanStep
         requires { c.0 < 4 }
         ensures state { self.new.machine ≡ chan_read_next self.old.machine c.0 }
-        ensures told { result ≡ chan_read_told self.old.machine c.0 }
+        ensures told { result ≡ chan_read_step self.old.machine c.0 }
         ensures spare { self.old.spare ≤ self.new.spare }
     {
         engine::read_step(&mut self.channels, c, &self.ram)
@@ -207,7 +207,7 @@ impl Machine {
     pub fn chan_write(&mut self, c: ChanNo) -> ChanStep
         requires { c.0 < 4 }
         ensures state { self.new.machine ≡ chan_write_next self.old.machine c.0 }
-        ensures told { result ≡ chan_write_told self.old.machine c.0 }
+        ensures told { result ≡ chan_write_step self.old.machine c.0 }
         ensures spare { self.old.spare ≤ self.new.spare }
     {
         engine::write_step(&mut self.channels, c, &mut self.ram)

@@ -10,7 +10,7 @@ use Rattle.nc_rules.specs.declared.steps.PageMove.{PageMove}
 use Rattle.nc_rules.specs.declared.steps.PageMove.TheVariants as pages
 use Rattle.nc_rules.specs.Lots.{map_id, each_from}
 use Rattle.nc_rules.specs.Turns.{Moved, page_move}
-use Rattle.nc_moves.specs.Shown.{IsFew}
+use Rattle.nc_moves.specs.MovesView.{IsFew}
 use Rattle.nc_moves.specs.Turned.{nothing, joined}
 
 page_stay : (p : PageMove) → page_move p pages.Stay ≡ p

@@ -2,7 +2,7 @@
 
 ghost use Rattle.std.specs.Prelude.{◌≡◌, ◌≤◌, ◌<◌, [], OnOk, IfOk, All, length};
 ghost use Rattle.nc_rules.specs.Turns.{moved, turned_by, lots_after, slots_wanted, given_up};
-ghost use Rattle.nc_moves.specs.Shown.{seen_as, IsFew};
+ghost use Rattle.nc_moves.specs.MovesView.{moves_view, IsFew};
 ghost use Rattle.nc_moves.specs.Turned.{joined, of_turn, of_lots, after, of_one, of_lot, lent_lot, ended_lot};
 
 use crate::entries::{push_end, push_grants, push_ids, push_side, push_slots, push_wanted};
@@ -33,7 +33,7 @@ pub struct Moves {
 impl Moves {
     /// Nothing but an answer. It takes no memory.
     pub fn answer(alloc: Global, answer: Option<Answer>) -> Moves
-        ensures { seen_as result ≡ moved [] answer }
+        ensures { moves_view result ≡ moved [] answer }
     {
         Moves {
             transfers: TransferList::new(alloc),
@@ -61,7 +61,7 @@ impl Moves {
         requires slots { slots_at ≤ 1048576 }
         requires names { All (λ lot. lot.id.first < 2) lots.now }
         requires few { IsFew (turned_by me slots_at lots.now first last answer) }
-        ensures { IfOk result (λ m. seen_as m ≡ turned_by me slots_at lots.now first last answer) }
+        ensures { IfOk result (λ m. moves_view m ≡ turned_by me slots_at lots.now first last answer) }
     {
         let mut moves = Moves::answer(alloc, answer);
         push_turn(&mut moves, me, slots_at, lots, Turn::Stay, first)?;
@@ -73,7 +73,7 @@ impl Moves {
     /// want of memory, where such a lot holds a slot.
     pub fn given_up(alloc: Global, lots: &[Lot], answer: Answer) -> Result<Moves, NoMemory>
         requires few { length (slots_wanted lots.now) ≤ 32 }
-        ensures { IfOk result (λ m. seen_as m ≡ given_up lots.now answer) }
+        ensures { IfOk result (λ m. moves_view m ≡ given_up lots.now answer) }
     {
         let mut moves = Moves::answer(alloc, Some(answer));
         push_wanted(&mut moves.backs, lots)?;
@@ -92,8 +92,8 @@ fn push_turn(
 ) -> Result<(), NoMemory>
     requires slots { slots_at ≤ 1048576 }
     requires names { All (λ lot. lot.id.first < 2) lots.now }
-    requires few { IsFew (joined (seen_as moves.old) (of_turn me slots_at (lots_after first lots.now) turn)) }
-    ensures { OnOk result (seen_as moves.new ≡ joined (seen_as moves.old) (of_turn me slots_at (lots_after first lots.now) turn)) }
+    requires few { IsFew (joined (moves_view moves.old) (of_turn me slots_at (lots_after first lots.now) turn)) }
+    ensures { OnOk result (moves_view moves.new ≡ joined (moves_view moves.old) (of_turn me slots_at (lots_after first lots.now) turn)) }
 {
     match turn {
         Turn::Stay => Ok(()),
@@ -119,8 +119,8 @@ fn push_lots(
 ) -> Result<(), NoMemory>
     requires slots { slots_at ≤ 1048576 }
     requires names { All (λ lot. lot.id.first < 2) lots.now }
-    requires few { IsFew (joined (seen_as moves.old) (of_lots me slots_at first turn lots.now)) }
-    ensures { OnOk result (seen_as moves.new ≡ joined (seen_as moves.old) (of_lots me slots_at first turn lots.now)) }
+    requires few { IsFew (joined (moves_view moves.old) (of_lots me slots_at first turn lots.now)) }
+    ensures { OnOk result (moves_view moves.new ≡ joined (moves_view moves.old) (of_lots me slots_at first turn lots.now)) }
 {
     for lot in lots {
         push_one(moves, me, slots_at, lot, first, turn)?;
@@ -139,8 +139,8 @@ fn push_one(
 ) -> Result<(), NoMemory>
     requires slots { slots_at ≤ 1048576 }
     requires name { lot.now.id.first < 2 }
-    requires few { IsFew (joined (seen_as moves.old) (of_one me slots_at turn (after first lot.now))) }
-    ensures { OnOk result (seen_as moves.new ≡ joined (seen_as moves.old) (of_one me slots_at turn (after first lot.now))) }
+    requires few { IsFew (joined (moves_view moves.old) (of_one me slots_at turn (after first lot.now))) }
+    ensures { OnOk result (moves_view moves.new ≡ joined (moves_view moves.old) (of_one me slots_at turn (after first lot.now))) }
 {
     match side_after(first, lot) {
         Some(side) => {
@@ -165,8 +165,8 @@ fn push_lot(
 ) -> Result<(), NoMemory>
     requires slots { slots_at ≤ 1048576 }
     requires name { lot.now.id.first < 2 }
-    requires few { IsFew (joined (seen_as moves.old) (of_lot me slots_at (record lot.now { side = side }) turn)) }
-    ensures { OnOk result (seen_as moves.new ≡ joined (seen_as moves.old) (of_lot me slots_at (record lot.now { side = side }) turn)) }
+    requires few { IsFew (joined (moves_view moves.old) (of_lot me slots_at (record lot.now { side = side }) turn)) }
+    ensures { OnOk result (moves_view moves.new ≡ joined (moves_view moves.old) (of_lot me slots_at (record lot.now { side = side }) turn)) }
 {
     match turn {
         Turn::Stay | Turn::Pass(_, _) | Turn::Own(_) => Ok(()),
@@ -189,8 +189,8 @@ fn push_lent(
 ) -> Result<(), NoMemory>
     requires slots { slots_at ≤ 1048576 }
     requires name { lot.now.id.first < 2 }
-    requires few { IsFew (joined (seen_as moves.old) (lent_lot me slots_at (record lot.now { side = side }))) }
-    ensures { OnOk result (seen_as moves.new ≡ joined (seen_as moves.old) (lent_lot me slots_at (record lot.now { side = side }))) }
+    requires few { IsFew (joined (moves_view moves.old) (lent_lot me slots_at (record lot.now { side = side }))) }
+    ensures { OnOk result (moves_view moves.new ≡ joined (moves_view moves.old) (lent_lot me slots_at (record lot.now { side = side }))) }
 {
     push_side(&mut moves.transfers, me, Side::Lending, lot)?;
     if is_wanted(side) {
@@ -203,8 +203,8 @@ fn push_lent(
 /// The lot is gone: its bytes are the hart's or the pool's, its grants end, its slots and pages are given back.
 fn push_ended(moves: &mut Moves, me: HartNo, lot: &Lot) -> Result<(), NoMemory>
     requires name { lot.now.id.first < 2 }
-    requires few { IsFew (joined (seen_as moves.old) (ended_lot me lot.now)) }
-    ensures { OnOk result (seen_as moves.new ≡ joined (seen_as moves.old) (ended_lot me lot.now)) }
+    requires few { IsFew (joined (moves_view moves.old) (ended_lot me lot.now)) }
+    ensures { OnOk result (moves_view moves.new ≡ joined (moves_view moves.old) (ended_lot me lot.now)) }
 {
     push_end(&mut moves.transfers, me, lot)?;
     push_ids(&mut moves.ended, me, lot)?;

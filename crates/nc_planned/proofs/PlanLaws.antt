@@ -3,7 +3,7 @@ use Rattle.std.proofs.Common.{◌≡◌, ◌∙◌, List, refl, ap}
 use Rattle.nc_ops.specs.declared.ops.Op.{Op}
 use Rattle.nc_ops.specs.declared.ops.Op.TheVariants as ops
 use Rattle.nc_rules.specs.declared.lots.Lot.{Lot}
-use Rattle.nc_rules.specs.Lots.{Fixed}
+use Rattle.nc_rules.specs.Lots.{DriverConfig}
 use Rattle.nc_rules.specs.Operations.{plan_of, meaning}
 use Rattle.nc_rules.specs.Accesses.{load, store}
 use Rattle.nc_rules.specs.CacheOps.{cache_operation, fence}
@@ -16,7 +16,7 @@ use Rattle.nc_rules.specs.Copies.{copy}
 use Rattle.nc_planned.specs.declared.lender.Lender.{Lender}
 use Rattle.nc_planned.specs.Lenders.{lender_of, fixed_by}
 
-same_plan : (f : Fixed) (lots : List Lot) (o : Op) → plan_of f lots o ≡ plan_of (fixed_by (lender_of f)) lots o
+same_plan : (f : DriverConfig) (lots : List Lot) (o : Op) → plan_of f lots o ≡ plan_of (fixed_by (lender_of f)) lots o
 unfolding plan_of meaning load store cache_operation fence map_single unmap_single sync_for_cpu sync_for_device map_sg unmap_sg calloc give_area take_area free_area hand take claim free set_up run poll read_register write_register copy
 same_plan f lots (ops.Ld spot off len) = refl
 same_plan f lots (ops.St spot off bytes) = refl
@@ -43,5 +43,5 @@ same_plan f lots (ops.Regr chan off width) = refl
 same_plan f lots (ops.Regw chan off width value) = refl
 same_plan f lots (ops.Copy chan src src_off dst dst_off len cfg) = refl
 
-pub plans_by : (f : Fixed) (by : Lender) (lots : List Lot) (o : Op) → lender_of f ≡ by → plan_of f lots o ≡ plan_of (fixed_by by) lots o
+pub plans_by : (f : DriverConfig) (by : Lender) (lots : List Lot) (o : Op) → lender_of f ≡ by → plan_of f lots o ≡ plan_of (fixed_by by) lots o
 plans_by f by lots o e = same_plan f lots o ∙ ap (λ (l : Lender). plan_of (fixed_by l) lots o) e

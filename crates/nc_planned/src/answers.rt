@@ -2,7 +2,7 @@
 
 ghost use Rattle.std.specs.Prelude.{◌≡◌, ◌≤◌, List, false, All};
 ghost use Rattle.nc_rules.specs.declared.lots.Lot.{Lot};
-ghost use Rattle.nc_rules.specs.Lots.{Fixed, lot_waits};
+ghost use Rattle.nc_rules.specs.Lots.{DriverConfig, lot_waits};
 ghost use Rattle.nc_rules.specs.Operations as rules;
 
 use crate::areas::allocated_answer;
@@ -21,7 +21,7 @@ use nc_scen::Op;
 pub fn good_answer(slots_at: u32, lots: &[Lot], op: &Op, saw: Seen) -> Option<Answer>
     requires slots { slots_at ≤ 1048576 }
     requires placed { All (λ lot. lot_waits lot ≡ false) lots.now }
-    ensures { (f : Fixed) → f.slots_at ≡ slots_at → result ≡ rules.good_answer f lots.now op.now saw }
+    ensures { (f : DriverConfig) → f.slots_at ≡ slots_at → result ≡ rules.good_answer f lots.now op.now saw }
 {
     match op {
         Op::Map { label, .. } => mapped_answer(slots_at, lots, *label),
@@ -51,7 +51,7 @@ pub fn good_answer(slots_at: u32, lots: &[Lot], op: &Op, saw: Seen) -> Option<An
 /// The answer of an operation that was refused.
 #[tactic(auto, unfolding(nc_rules::specs::Operations::bad_answer, nc_rules::specs::Operations::meaning, nc_rules::specs::Accesses::load, nc_rules::specs::Accesses::store, nc_rules::specs::CacheOps::cache_operation, nc_rules::specs::CacheOps::fence, nc_rules::specs::Handing::hand, nc_rules::specs::Handing::take, nc_rules::specs::Channels::claim, nc_rules::specs::Channels::free, nc_rules::specs::Channels::set_up, nc_rules::specs::Channels::run, nc_rules::specs::Channels::poll, nc_rules::specs::Channels::read_register, nc_rules::specs::Channels::write_register, nc_rules::specs::Mappings::map_single, nc_rules::specs::Mappings::unmap_single, nc_rules::specs::Mappings::sync_for_cpu, nc_rules::specs::Mappings::sync_for_device, nc_rules::specs::ScatterLists::map_sg, nc_rules::specs::ScatterLists::unmap_sg, nc_rules::specs::Areas::calloc, nc_rules::specs::Areas::give_area, nc_rules::specs::Areas::take_area, nc_rules::specs::Areas::free_area, nc_rules::specs::Copies::copy))]
 pub fn bad_answer(op: &Op, refusal: Refusal) -> Answer
-    ensures { (f : Fixed) (lots : List Lot) → result ≡ rules.bad_answer f lots op.now refusal }
+    ensures { (f : DriverConfig) (lots : List Lot) → result ≡ rules.bad_answer f lots op.now refusal }
 {
     match op {
         Op::MapSg { .. } => Answer::NoSegments(refusal),

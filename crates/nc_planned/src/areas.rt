@@ -3,7 +3,7 @@
 ghost use Rattle.std.specs.Prelude.{◌≡◌, ◌≤◌, ◌++◌, [], false, OnOk};
 ghost use Rattle.nc_num.specs.Sizes.{IsBlockSize};
 ghost use Rattle.nc_planned.specs.Lenders.{fixed_by};
-ghost use Rattle.nc_rules.specs.Lots.{Fixed, lot_named, is_own};
+ghost use Rattle.nc_rules.specs.Lots.{DriverConfig, lot_named, is_own};
 ghost use Rattle.nc_rules.specs.declared.lots.Kind.TheVariants.{Area};
 ghost use Rattle.nc_rules.specs.Areas as rules;
 ghost use Rattle.nc_rules.specs.Mappings.{with_lot};
@@ -84,7 +84,7 @@ pub(crate) fn push_free(steps: &mut Vec<Step>, lots: &[Lot], label: Label) -> Re
 /// Allocated, with the area's address on the bus.
 pub(crate) fn allocated_answer(slots_at: u32, lots: &[Lot], label: Label) -> Option<Answer>
     requires { slots_at ≤ 1048576 }
-    ensures { (f : Fixed) → f.slots_at ≡ slots_at → result ≡ rules.allocated_answer f (lot_named lots.now label Area) }
+    ensures { (f : DriverConfig) → f.slots_at ≡ slots_at → result ≡ rules.allocated_answer f (lot_named lots.now label Area) }
 {
     let lot = lot_named(lots, label, Kind::Area)?;
     Some(Answer::Allocated(bus_of_lot(slots_at, lot)))

@@ -3,7 +3,7 @@
 ghost use Rattle.std.specs.Prelude.{◌≡◌, ◌≤◌, ◌++◌, [], false, OnOk, All};
 ghost use Rattle.nc_num.specs.Sizes.{IsBlockSize};
 ghost use Rattle.nc_planned.specs.Lenders.{fixed_by};
-ghost use Rattle.nc_rules.specs.Lots.{Fixed, lot_named, lot_waits, is_synced};
+ghost use Rattle.nc_rules.specs.Lots.{DriverConfig, lot_named, lot_waits, is_synced};
 ghost use Rattle.nc_rules.specs.declared.lots.Kind.TheVariants.{Single};
 ghost use Rattle.nc_rules.specs.Mappings as rules;
 ghost use Rattle.nc_rules.specs.Mappings.{with_lot};
@@ -102,7 +102,7 @@ pub(crate) fn push_to_dev(
 /// Mapped, with the address of its device range on the bus.
 pub(crate) fn mapped_answer(slots_at: u32, lots: &[Lot], label: Label) -> Option<Answer>
     requires { slots_at ≤ 1048576 }
-    ensures { (f : Fixed) → f.slots_at ≡ slots_at → result ≡ rules.mapped_answer f (lot_named lots.now label Single) }
+    ensures { (f : DriverConfig) → f.slots_at ≡ slots_at → result ≡ rules.mapped_answer f (lot_named lots.now label Single) }
 {
     let lot = lot_named(lots, label, Kind::Single)?;
     Some(Answer::Mapped(bus_of_lot(slots_at, lot)))

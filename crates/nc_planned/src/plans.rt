@@ -3,7 +3,7 @@
 ghost use Rattle.std.specs.Prelude.{◌≡◌, ◌≤◌, ◌++◌, false, IfOk, OnOk, All};
 ghost use Rattle.nc_num.specs.Sizes.{IsBlockSize};
 ghost use Rattle.nc_planned.specs.Lenders.{lender_of, fixed_by};
-ghost use Rattle.nc_rules.specs.Lots.{Fixed, lot_waits};
+ghost use Rattle.nc_rules.specs.Lots.{DriverConfig, lot_waits};
 ghost use Rattle.nc_rules.specs.Operations as rules;
 
 use crate::areas::{push_calloc, push_free, push_give, push_take};
@@ -67,7 +67,7 @@ pub fn plan_of(
     requires size { IsBlockSize by.now.size }
     requires slots { by.now.slots_at ≤ 1048576 }
     requires placed { All (λ lot. lot_waits lot ≡ false) lots.now }
-    ensures { (f : Fixed) → lender_of f ≡ by.now → IfOk result (λ v. v.items ≡ rules.plan_of f lots.now op.now) }
+    ensures { (f : DriverConfig) → lender_of f ≡ by.now → IfOk result (λ v. v.items ≡ rules.plan_of f lots.now op.now) }
 {
     let mut steps = Vec::new(alloc);
     push_plan(&mut steps, by, lots, op)?;

@@ -3,7 +3,7 @@
 ghost use Rattle.std.specs.Prelude.{◌≡◌, ◌≤◌, ◌++◌, [], false, OnOk, All};
 ghost use Rattle.nc_num.specs.Sizes.{IsBlockSize};
 ghost use Rattle.nc_planned.specs.Lenders.{fixed_by};
-ghost use Rattle.nc_rules.specs.Lots.{Fixed, lot_named, lot_waits};
+ghost use Rattle.nc_rules.specs.Lots.{DriverConfig, lot_named, lot_waits};
 ghost use Rattle.nc_rules.specs.declared.lots.Kind.TheVariants.{List as ScatterList};
 ghost use Rattle.nc_rules.specs.Mappings.{with_lot};
 ghost use Rattle.nc_rules.specs.ScatterLists as rules;
@@ -36,7 +36,7 @@ pub(crate) fn push_unmap_sg(
 pub(crate) fn segments_answer(slots_at: u32, lots: &[Lot], label: Label) -> Option<Answer>
     requires slots { slots_at ≤ 1048576 }
     requires placed { All (λ lot. lot_waits lot ≡ false) lots.now }
-    ensures { (f : Fixed) → f.slots_at ≡ slots_at → result ≡ rules.segments_answer f (lot_named lots.now label ScatterList) }
+    ensures { (f : DriverConfig) → f.slots_at ≡ slots_at → result ≡ rules.segments_answer f (lot_named lots.now label ScatterList) }
 {
     let lot = placed_lot(lots, label, Kind::List)?;
     Some(Answer::Segments(lot.list.seg_list(slots_at)))

@@ -9,7 +9,7 @@ use Rattle.nc_rules.specs.declared.lots.Kind.TheVariants as kinds
 use Rattle.nc_rules.specs.declared.lots.Lot.{Lot}
 use Rattle.nc_rules.specs.declared.steps.Seen.{Seen}
 use Rattle.nc_rules.specs.declared.steps.Seen.TheVariants as seen
-use Rattle.nc_rules.specs.Lots.{Fixed, lot_named}
+use Rattle.nc_rules.specs.Lots.{DriverConfig, lot_named}
 use Rattle.nc_rules.specs.Accesses as accesses
 use Rattle.nc_rules.specs.CacheOps as cache_ops
 use Rattle.nc_rules.specs.Channels.{poll_answer, value_answer}
@@ -26,15 +26,15 @@ use Rattle.nc_rules.specs.Copies as copies
 use Rattle.nc_rules.specs.Operations.{meaning, good_answer}
 use Rattle.nc_refusals.specs.Refused.{is_refusal, refuses}
 
-mapped_good : (f : Fixed) (o : Option Lot) → refuses (mapped_answer f o) ≡ false
+mapped_good : (f : DriverConfig) (o : Option Lot) → refuses (mapped_answer f o) ≡ false
 mapped_good f None = refl
 mapped_good f (Some lot) = refl
 
-segments_good : (f : Fixed) (o : Option Lot) → refuses (segments_answer f o) ≡ false
+segments_good : (f : DriverConfig) (o : Option Lot) → refuses (segments_answer f o) ≡ false
 segments_good f None = refl
 segments_good f (Some lot) = refl
 
-allocated_good : (f : Fixed) (o : Option Lot) → refuses (allocated_answer f o) ≡ false
+allocated_good : (f : DriverConfig) (o : Option Lot) → refuses (allocated_answer f o) ≡ false
 allocated_good f None = refl
 allocated_good f (Some lot) = refl
 
@@ -63,7 +63,7 @@ copy_good seen.Claimed = refl
 copy_good (seen.Busy g) = refl
 copy_good (seen.Value value) = refl
 
-pub good_is : (f : Fixed) (lots : List Lot) (o : Op) (saw : Seen) → refuses (good_answer f lots o saw) ≡ false
+pub good_is : (f : DriverConfig) (lots : List Lot) (o : Op) (saw : Seen) → refuses (good_answer f lots o saw) ≡ false
 unfolding good_answer meaning accesses.load accesses.store cache_ops.cache_operation cache_ops.fence handing.take handing.hand channels.claim channels.free channels.set_up channels.run channels.poll channels.read_register channels.write_register mappings.map_single mappings.unmap_single mappings.sync_for_cpu mappings.sync_for_device lists.map_sg lists.unmap_sg areas.calloc areas.give_area areas.take_area areas.free_area copies.copy
 good_is f lots (ops.Map label buf off len dir chan) saw = mapped_good f (lot_named lots label kinds.Single)
 good_is f lots (ops.MapSg label entries dir chan) saw = segments_good f (lot_named lots label kinds.List)

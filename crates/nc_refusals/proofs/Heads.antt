@@ -10,7 +10,7 @@ use Rattle.nc_rules.specs.declared.lots.Lot.{Lot}
 use Rattle.nc_rules.specs.declared.steps.Step.{Step}
 use Rattle.nc_rules.specs.declared.steps.Turn.{Turn}
 use Rattle.nc_rules.specs.declared.steps.Turn.TheVariants as turns
-use Rattle.nc_rules.specs.Lots.{Fixed, lot_named, is_synced, is_own, parts}
+use Rattle.nc_rules.specs.Lots.{DriverConfig, lot_named, is_synced, is_own, parts}
 use Rattle.nc_rules.specs.Plans.{op_steps, ending, carried, token_steps, lending_end, lend_steps, return_steps}
 use Rattle.nc_rules.specs.Mappings.{with_lot, unmap_steps, to_cpu_steps, to_dev_steps}
 use Rattle.nc_rules.specs.Mappings as mappings
@@ -42,10 +42,10 @@ either : (t : Bool) (xs ys : List Step) → begins_claim xs ≡ false → begins
 either true xs ys h k = h
 either false xs ys h k = k
 
-end_none : (f : Fixed) (lot : Lot) → begins_claim (lending_end f lot) ≡ false
+end_none : (f : DriverConfig) (lot : Lot) → begins_claim (lending_end f lot) ≡ false
 end_none f lot = either f.light (token_steps lot) _ refl refl
 
-lend_none : (f : Fixed) (lot : Lot) → begins_claim (lend_steps f lot) ≡ false
+lend_none : (f : DriverConfig) (lot : Lot) → begins_claim (lend_steps f lot) ≡ false
 lend_none f lot = ops_then (carried f.effects f.size (parts f lot)) (lending_end f lot) (end_none f lot)
 
 ending_none : (t : Turn) (steps : List Step) → begins_claim steps ≡ false → begins_claim (ending t steps) ≡ false
@@ -53,7 +53,7 @@ ending_none t [] h = refl
 ending_none t (s ∷ []) h = h
 ending_none t (s ∷ u ∷ rest) h = h
 
-return_none : (f : Fixed) (t : Turn) (lot : Lot) → begins_claim (ending t (return_steps f lot)) ≡ false
+return_none : (f : DriverConfig) (t : Turn) (lot : Lot) → begins_claim (ending t (return_steps f lot)) ≡ false
 return_none f t lot = ending_none t (return_steps f lot) (ops_none _)
 
 with_none : (g : Lot → List Step) (o : Option Lot) → ((lot : Lot) → begins_claim (g lot) ≡ false) → begins_claim (with_lot [] g o) ≡ false
@@ -64,7 +64,7 @@ off : {X : Type 0} (t : Bool) → t ≡ false → t ≡ true → X
 off true e h = absurd (false≢true (sym e))
 off false e h = absurd (false≢true h)
 
-pub quiet_opening : (f : Fixed) (lots : List Lot) (o : Op) → begins_claim (plan_of f lots o) ≡ true → opening f lots o ≡ turns.Stay
+pub quiet_opening : (f : DriverConfig) (lots : List Lot) (o : Op) → begins_claim (plan_of f lots o) ≡ true → opening f lots o ≡ turns.Stay
 unfolding opening plan_of meaning accesses.load accesses.store cache_ops.cache_operation cache_ops.fence handing.take handing.hand channels.claim channels.free channels.set_up channels.run channels.poll channels.read_register channels.write_register mappings.map_single mappings.unmap_single mappings.sync_for_cpu mappings.sync_for_device lists.map_sg lists.unmap_sg areas.calloc areas.give_area areas.take_area areas.free_area copies.copy
 quiet_opening f lots (ops.Map label buf o len dir chan) e = off (begins_claim (with_lot [] (lend_steps f) (lot_named lots label kinds.Single))) (with_none (lend_steps f) (lot_named lots label kinds.Single) (lend_none f)) e
 quiet_opening f lots (ops.Unmap label) e =

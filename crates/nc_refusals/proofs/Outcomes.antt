@@ -24,7 +24,7 @@ use Rattle.nc_rules.specs.Driver.{next_of, next_act, searching, is_script, start
 use Rattle.nc_rules.specs.Events.{enabled, may_go_on, is_out}
 use Rattle.nc_rules.specs.Outcomes.{Outcome, goes, seen_of, claim_seen, start_outcome, op_outcome, claim_outcome, poll_outcome, take_outcome, step_outcome, try_outcome, told_outcome, at_word, outcome}
 use Rattle.nc_rules.specs.Records.{op_records, try_records, told_records}
-use Rattle.nc_rules.specs.Watched.{issue_touch, poll_touch}
+use Rattle.nc_rules.specs.EventTouches.{issue_touch, poll_touch}
 use Rattle.nc_rules.specs.World.{WorldState, driver_of}
 use Rattle.nc_refusals.specs.Refused.{acted, maker}
 

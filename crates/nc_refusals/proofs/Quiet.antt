@@ -21,7 +21,7 @@ use Rattle.nc_rules.specs.declared.steps.Seen.TheVariants as seen
 use Rattle.nc_rules.specs.declared.steps.Step.{Step}
 use Rattle.nc_rules.specs.declared.steps.Turn.{Turn}
 use Rattle.nc_rules.specs.declared.steps.Turn.TheVariants as turns
-use Rattle.nc_rules.specs.Lots.{Fixed, some_lot_waits, slot_given}
+use Rattle.nc_rules.specs.Lots.{DriverConfig, some_lot_waits, slot_given}
 use Rattle.nc_rules.specs.Turns.{moved, lots_after, lots_after_both, turned_by, turned}
 use Rattle.nc_rules.specs.Operations.{has_start, step_at, begin, opening, plan_of}
 use Rattle.nc_rules.specs.Driver.{DriverState, Went, in_hand, next_of, next_of_op, next_in, next_act, next_step, next_rest, searched, searching, stays, give_up, went_to, answered, opened, searches, placed, with_lots, begun, refused_step, steps_done, started, started_of, told, told_of, told_in, told_word, kept, busy, stepped, worked, done, done_of, done_unless, done_in}
@@ -118,7 +118,7 @@ claim_open d chan e = claim_by d (in_hand d) chan e
 pub one_more_not : (n : ℕ) → n + 1 ≡ n → ⊥
 one_more_not n e = absurd (omega (arith, e))
 
-no_turn : (f : Fixed) (lots : List Lot) (t : Turn) → t ≡ turns.Stay → turned f lots t turns.Stay None ≡ moved [] None
+no_turn : (f : DriverConfig) (lots : List Lot) (t : Turn) → t ≡ turns.Stay → turned f lots t turns.Stay None ≡ moved [] None
 unfolding turned_by
 no_turn f lots t e = ap (λ u. turned f lots u turns.Stay None) e
 
@@ -194,7 +194,7 @@ pub record IsNumberDone (d : DriverState) (next : Next) (went : Went) : Type 0 w
   pub moves : went.moves ≡ moved [] None
   pub lots : went.driver.lots ≡ d.lots
 
-both_none : (f : Fixed) (lots : List Lot) (t u : Turn) → t ≡ turns.Stay → u ≡ turns.Stay → turned f lots t u None ≡ moved [] None
+both_none : (f : DriverConfig) (lots : List Lot) (t u : Turn) → t ≡ turns.Stay → u ≡ turns.Stay → turned f lots t u None ≡ moved [] None
 unfolding turned_by
 both_none f lots t u e k = ap (λ x. turned f lots x u None) e ∙ ap (λ x. turned f lots turns.Stay x None) k
 
@@ -226,7 +226,7 @@ acts_now (acts.Claim chan) = refl
 acts_now (acts.Poll chan) = refl
 acts_now (acts.Take buf) = refl
 
-last_now : (f : Fixed) (lots : List Lot) (o : Op) (n : ℕ) (s : Step) → step_at f lots o n ≡ Ok (Some s) → (s.last ≡ turns.Stay) ⊎ (step_at f lots o (n + 1) ≡ Ok None)
+last_now : (f : DriverConfig) (lots : List Lot) (o : Op) (n : ℕ) (s : Step) → step_at f lots o n ≡ Ok (Some s) → (s.last ≡ turns.Stay) ⊎ (step_at f lots o (n + 1) ≡ Ok None)
 last_now f lots o n s e = subst (λ (m : ℕ). (s.last ≡ turns.Stay) ⊎ (step_at f lots o m ≡ Ok None)) (omega arith) (number_last f lots o n s e)
 
 number_done : (d : DriverState) (o : Op) (saw : Seen) (n : ℕ) (a : Act) → in_hand d ≡ Some o → d.phase ≡ Steps n → next_in d o (Steps n) ≡ next_act a → (done_in d o saw (Steps n)).driver.op ≡ d.op → IsNumberDone d (next_act a) (done_in d o saw (Steps n))

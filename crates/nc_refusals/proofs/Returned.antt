@@ -30,7 +30,7 @@ use Rattle.nc_rules.specs.declared.lots.Side.{Side}
 use Rattle.nc_rules.specs.declared.lots.Side.TheVariants as sides
 use Rattle.nc_rules.specs.declared.steps.Turn.{Turn}
 use Rattle.nc_rules.specs.declared.steps.Turn.TheVariants as turns
-use Rattle.nc_rules.specs.Lots.{Fixed, is_lot, map_id, is_wanted, lot_waits, slots_held}
+use Rattle.nc_rules.specs.Lots.{DriverConfig, is_lot, map_id, is_wanted, lot_waits, slots_held}
 use Rattle.nc_rules.specs.Turns.{Moved, is_area, last_owner, to_end, ids, of_those, with_side, set_side, lots_after, lots_after_both, transfers_of, ended_of}
 use Rattle.nc_rules.specs.Driver.{DriverState, Went}
 use Rattle.nc_rules.specs.Events.{enabled}
@@ -116,11 +116,11 @@ owner_if : (me : HartNo) (t : Bool) → t ≡ false → (if t then owners.Pool e
 owner_if me true e = absurd (false≢true (sym e))
 owner_if me false e = refl
 
-last_is : (ram : ℕ) (f : Fixed) (me : HartNo) (lot : Lot) → IsLotIn ram f lot → IsEndName lot.id → last_owner me lot ≡ owners.Thread me
+last_is : (ram : ℕ) (f : DriverConfig) (me : HartNo) (lot : Lot) → IsLotIn ram f lot → IsEndName lot.id → last_owner me lot ≡ owners.Thread me
 last_is ram f me lot is end = owner_if me (is_area lot.kind) (not_area f.pool lot.kind lot is.kind end)
 
 -- what is left of a lot, in what is held
-record IsBack (f : Fixed) (s : Held) (lot : Lot) : Type 0 where
+record IsBack (f : DriverConfig) (s : Held) (lot : Lot) : Type 0 where
   bytes : (i : ℕ) (e : Entry) (x : ℕ) → slice_get lot.list.entries i ≡ Some e → covers e.span x ≡ true → owner_in s.owners x ≡ owners.Thread f.me
   grants : (i : ℕ) (e : Entry) (g : Grant) → slice_get lot.list.entries i ≡ Some e → In g s.grants → g.id ≡ map_id f.me lot.id i → ⊥
   slots : (i : ℕ) (e : Entry) (k : ℕ) → slice_get lot.list.entries i ≡ Some e → e.slot ≡ Some k → holder_of s.slots k ≡ None
@@ -155,7 +155,7 @@ in_held (d ∷ es) e k (inl same) is = in_held_by d.slot d k es refl (ap (λ (x 
 in_held (d ∷ es) e k (inr here) is = held_more d es k d.slot refl (in_held es e k here is)
 
 -- the end of a lot whose name is a copy's end
-end_back : (ram : ℕ) (f : Fixed) (s : Held) (lot : Lot) → All (IsLotIn ram f) s.lots → length s.owners ≡ ram → In lot s.lots → IsEndName lot.id → IsBack f (changed f s (Turned (turns.End lot.id))) lot
+end_back : (ram : ℕ) (f : DriverConfig) (s : Held) (lot : Lot) → All (IsLotIn ram f) s.lots → length s.owners ≡ ram → In lot s.lots → IsEndName lot.id → IsBack f (changed f s (Turned (turns.End lot.id))) lot
 end_back ram f s lot all long here end = record {
   bytes = λ i e x at on.
       moved_to (λ (o : Owner). o ≡ owners.Thread f.me) s.owners (of_those (to_end f.me) lot.id s.lots) x (e.span, last_owner f.me lot)
@@ -175,7 +175,7 @@ end_back ram f s lot all long here end = record {
 }
 
 -- the same lot by name and entries
-back_same : (f : Fixed) (s : Held) (lot now : Lot) → now.id ≡ lot.id → now.list ≡ lot.list → IsBack f s now → IsBack f s lot
+back_same : (f : DriverConfig) (s : Held) (lot now : Lot) → now.id ≡ lot.id → now.list ≡ lot.list → IsBack f s now → IsBack f s lot
 back_same f s lot now id list k = record {
   bytes = λ i e x at on. k.bytes i e x (ap (λ l. slice_get l.entries i) list ∙ at) on;
   grants = λ i e g at here is. k.grants i e g (ap (λ l. slice_get l.entries i) list ∙ at) here (is ∙ ap (λ (n : LotId). map_id f.me n i) (sym id));
@@ -191,7 +191,7 @@ Gone lots lot = (now : Lot) → In now lots → now.id ≡ lot.id → ⊥
 gone_stands : {X : Type 0} (lots : List Lot) (lot : Lot) → Gone lots lot → Stands lots lot → X
 gone_stands lots lot gone s = absurd (gone s.now s.here s.id)
 
-record IsEntered (ram : ℕ) (f : Fixed) (w m : Held) (lot : Lot) : Type 0 where
+record IsEntered (ram : ℕ) (f : DriverConfig) (w m : Held) (lot : Lot) : Type 0 where
   owners_are : m.owners ≡ w.owners
   grants_are : m.grants ≡ w.grants
   here : In lot m.lots
@@ -201,7 +201,7 @@ unlent_not : (lot : Lot) (t : Bool) → lot_waits lot ≡ t → (lot_waits lot �
 unlent_not lot true e h lent = absurd (false≢true (sym lent ∙ h e))
 unlent_not lot false e h lent = e
 
-entered : (ram : ℕ) (f : Fixed) (s m : Held) (lot : Lot) → Begins ram f s m → All (IsLotIn ram f) s.lots → In lot s.lots → is_wanted lot.side ≡ false → IsEntered ram f s m lot
+entered : (ram : ℕ) (f : DriverConfig) (s m : Held) (lot : Lot) → Begins ram f s m → All (IsLotIn ram f) s.lots → In lot s.lots → is_wanted lot.side ≡ false → IsEntered ram f s m lot
 entered ram f s m lot (As e) all here lent = subst (λ (x : Held). IsEntered ram f s x lot) (sym e) (record { owners_are = refl; grants_are = refl; here = here; all = all })
 entered ram f s m lot (Makes new making areas unplaced e) all here lent =
     subst (λ (x : Held). IsEntered ram f s x lot) (sym e)
@@ -212,7 +212,7 @@ entered ram f s m lot (Gets k may lt e) all here lent =
     (record { owners_are = refl; grants_are = refl; here = in_given k s.lots lot placed here; all = lots_given ram f k s.lots lt all })
 
 -- the lots behind a first turn, and what is held then
-not_quiet : {X : Type 0} (f : Fixed) (lots : List Lot) (lot : Lot) (i : ℕ) (e : Entry) → In lot lots → slice_get lot.list.entries i ≡ Some e → ended_of f.me lots (turns.End lot.id) ≡ [] → X
+not_quiet : {X : Type 0} (f : DriverConfig) (lots : List Lot) (lot : Lot) (i : ℕ) (e : Entry) → In lot lots → slice_get lot.list.entries i ≡ Some e → ended_of f.me lots (turns.End lot.id) ≡ [] → X
 not_quiet f lots lot i e here at none =
     elim (subst (λ (ms : List MapId). In (map_id f.me lot.id i) ms) none (in_ids f.me lot.id lots lot i e (its_name lot lot.id refl) (record { lot_in = here; entry = at }))) [ ]
 
@@ -226,13 +226,13 @@ first_of : (es : List Entry) → 1 ≤ length es → (e : Entry) × (slice_get e
 first_of [] le = absurd (omega (arith, le))
 first_of (e ∷ es) le = (e, refl)
 
-only_first : {X : Type 0} (ram : ℕ) (f : Fixed) (lots : List Lot) (lot : Lot) (t : Turn) → All (IsLotIn ram f) lots → In lot lots → t ≡ turns.End lot.id → IsQuietTurn f lots t → X
+only_first : {X : Type 0} (ram : ℕ) (f : DriverConfig) (lots : List Lot) (lot : Lot) (t : Turn) → All (IsLotIn ram f) lots → In lot lots → t ≡ turns.End lot.id → IsQuietTurn f lots t → X
 only_first ram f lots lot t all here e quiet =
     let is = all_at (IsLotIn ram f) lots lot all here in
     let one = first_of lot.list.entries (some_entry f.pool lot.kind lot.id lot.list.entries is.kind) in
     not_quiet f lots lot 0 one.0 here one.1 (subst (λ (u : Turn). ended_of f.me lots u ≡ []) e quiet.ended)
 
-second : (ram : ℕ) (f : Fixed) (m : Held) (lot : Lot) (u : Turn) → All (IsLotIn ram f) m.lots → length m.owners ≡ ram → IsEndName lot.id → Gone (lots_after u m.lots) lot → Stands m.lots lot → IsBack f (changed f m (Turned u)) lot
+second : (ram : ℕ) (f : DriverConfig) (m : Held) (lot : Lot) (u : Turn) → All (IsLotIn ram f) m.lots → length m.owners ≡ ram → IsEndName lot.id → Gone (lots_after u m.lots) lot → Stands m.lots lot → IsBack f (changed f m (Turned u)) lot
 second ram f m lot u all long end gone s =
     let name : IsEndName s.now.id = subst (λ (n : LotId). IsEndName n) (sym s.id) end in
     elim (turn_stands u m.lots s.now s.here) [
@@ -240,13 +240,13 @@ second ram f m lot u all long end gone s =
       | inr k ↦ gone_stands (lots_after u m.lots) lot gone (record { now = k.now; here = k.here; id = k.id ∙ s.id; list = k.list ∙ s.list })
     ]
 
-first_end : (ram : ℕ) (f : Fixed) (m : Held) (lot : Lot) (t u : Turn) → All (IsLotIn ram f) m.lots → length m.owners ≡ ram → In lot m.lots → IsEndName lot.id → t ≡ turns.End lot.id → (u ≡ turns.Stay) ⊎ IsQuietTurn f m.lots t → IsBack f (changed f (changed f m (Turned t)) (Turned u)) lot
+first_end : (ram : ℕ) (f : DriverConfig) (m : Held) (lot : Lot) (t u : Turn) → All (IsLotIn ram f) m.lots → length m.owners ≡ ram → In lot m.lots → IsEndName lot.id → t ≡ turns.End lot.id → (u ≡ turns.Stay) ⊎ IsQuietTurn f m.lots t → IsBack f (changed f (changed f m (Turned t)) (Turned u)) lot
 first_end ram f m lot t u all long here end e (inl stay) =
     subst (λ (x : Turn). IsBack f (changed f (changed f m (Turned t)) (Turned x)) lot) (sym stay)
     (subst (λ (x : Turn). IsBack f (changed f m (Turned x)) lot) (sym e) (end_back ram f m lot all long here end))
 first_end ram f m lot t u all long here end e (inr quiet) = only_first ram f m.lots lot t all here e quiet
 
-turns_back : (ram : ℕ) (f : Fixed) (m : Held) (lot : Lot) (t u : Turn) → All (IsLotIn ram f) m.lots → length m.owners ≡ ram → In lot m.lots → IsEndName lot.id → (u ≡ turns.Stay) ⊎ IsQuietTurn f m.lots t → Gone (lots_after_both t u m.lots) lot
+turns_back : (ram : ℕ) (f : DriverConfig) (m : Held) (lot : Lot) (t u : Turn) → All (IsLotIn ram f) m.lots → length m.owners ≡ ram → In lot m.lots → IsEndName lot.id → (u ≡ turns.Stay) ⊎ IsQuietTurn f m.lots t → Gone (lots_after_both t u m.lots) lot
     → IsBack f (changed f (changed f m (Turned t)) (Turned u)) lot
 turns_back ram f m lot t u all long here end quiet gone = elim (turn_stands t m.lots lot here) [
   | inl e ↦ first_end ram f m lot t u all long here end e quiet
@@ -254,7 +254,7 @@ turns_back ram f m lot t u all long here end quiet gone = elim (turn_stands t m.
 ]
 
 -- what is held behind a call
-ends_back : (ram : ℕ) (f : Fixed) (m : Held) (went : Went) (lot : Lot) → All (IsLotIn ram f) m.lots → length m.owners ≡ ram → In lot m.lots → IsEndName lot.id → is_wanted lot.side ≡ false → Gone went.driver.lots lot → Ends f m went → IsBack f (moved_by m went.driver.lots went.moves) lot
+ends_back : (ram : ℕ) (f : DriverConfig) (m : Held) (went : Went) (lot : Lot) → All (IsLotIn ram f) m.lots → length m.owners ≡ ram → In lot m.lots → IsEndName lot.id → is_wanted lot.side ≡ false → Gone went.driver.lots lot → Ends f m went → IsBack f (moved_by m went.driver.lots went.moves) lot
 ends_back ram f m went lot all long here end lent gone (Stays same none) = absurd (gone lot (subst (λ (ls : List Lot). In lot ls) (sym same) here) refl)
 ends_back ram f m went lot all long here end lent gone (Drops a same none) =
     absurd (gone lot (subst (λ (ls : List Lot). In lot ls) (sym same) (in_filter (λ (l : Lot). not (is_wanted l.side)) lot m.lots here (ap not lent))) refl)
@@ -264,7 +264,7 @@ ends_back ram f m went lot all long here end lent gone (Turns t u a first last q
     (subst (λ (x : Held). IsBack f x lot) (sym (both_turned f m t u a quiet))
     (turns_back ram f m lot t u all long here end quiet (subst (λ (ls : List Lot). Gone ls lot) same gone))))
 
-shape_back : (ram : ℕ) (f : Fixed) (s : Held) (now : List (Option HartNo)) (went : Went) (lot : Lot) → All (IsLotIn ram f) s.lots → length s.owners ≡ ram → In lot s.lots → IsEndName lot.id → is_wanted lot.side ≡ false → Gone went.driver.lots lot → Shape ram f s now went
+shape_back : (ram : ℕ) (f : DriverConfig) (s : Held) (now : List (Option HartNo)) (went : Went) (lot : Lot) → All (IsLotIn ram f) s.lots → length s.owners ≡ ram → In lot s.lots → IsEndName lot.id → is_wanted lot.side ≡ false → Gone went.driver.lots lot → Shape ram f s now went
     → IsBack f (moved_by (record s { slots = now }) went.driver.lots went.moves) lot
 unfolding moved_by
 shape_back ram f s now went lot all long here end lent gone (Plainly m begins ends slots) =
@@ -281,7 +281,7 @@ shape_back ram f s now went lot all long here end lent gone (ByArea a slots) =
 -- ---- a world
 
 -- what a world holds of a lot that is gone
-back_returned : (v : WorldState) (h : HartNo) (f : Fixed) (s : Held) (lot : Lot) → f.me ≡ h → v.owners ≡ s.owners → v.grants ≡ s.grants → v.slots ≡ s.slots → IsBack f s lot → IsReturned v h lot
+back_returned : (v : WorldState) (h : HartNo) (f : DriverConfig) (s : Held) (lot : Lot) → f.me ≡ h → v.owners ≡ s.owners → v.grants ≡ s.grants → v.slots ≡ s.slots → IsBack f s lot → IsReturned v h lot
 back_returned v h f s lot me owners_are grants_are slots_are k = record {
   bytes = λ i e x at on. ap (λ (ws : List Owner). owner_in ws x) owners_are ∙ k.bytes i e x at on ∙ ap owners.Thread me;
   grants = λ i e g at here is. k.grants i e g at (subst (λ (gs : List Grant). In g gs) grants_are here) (is ∙ ap (λ (n : HartNo). map_id n lot.id i) (sym me));

@@ -15,7 +15,7 @@ use Rattle.nc_rules.specs.declared.steps.Phase.TheVariants.{Steps}
 use Rattle.nc_rules.specs.Flat.{AreThere}
 use Rattle.nc_rules.specs.Machine.{queue_of}
 use Rattle.nc_rules.specs.Turns.{slots_wanted, without_wanted}
-use Rattle.nc_rules.specs.Lots.{Fixed}
+use Rattle.nc_rules.specs.Lots.{DriverConfig}
 use Rattle.nc_rules.specs.Meanings.{is_planned}
 use Rattle.nc_rules.specs.Operations.{has_start, meaning}
 use Rattle.nc_rules.specs.Driver.{next_of, over}
@@ -83,4 +83,4 @@ AnswersLeaveNoEnds =
 
 -- an operation has a start step, which may refuse it, exactly where it goes by a plan, whatever lots its hart has
 abbrev pub StartsAreOfPlans : Type 0
-StartsAreOfPlans = (f : Fixed) (lots : List Lot) (o : Op) → has_start o ≡ is_planned (meaning f lots o).way
+StartsAreOfPlans = (f : DriverConfig) (lots : List Lot) (o : Op) → has_start o ≡ is_planned (meaning f lots o).way

@@ -9,7 +9,7 @@ ghost use Rattle.nc_scen.specs.Events.{IsThere};
 ghost use Rattle.nc_rules.specs.Lines.{line};
 ghost use Rattle.nc_calls.specs.MachineLaws.{SameShape};
 ghost use Rattle.nc_rules.specs.Next.{next, event_records};
-ghost use Rattle.nc_world.specs.Shown.{answer as stepped};
+ghost use Rattle.nc_world.specs.WorldView.{answer as stepped};
 
 use crate::lines::lines;
 use nc_io::{Sink, Stop, write_all};

@@ -10,7 +10,7 @@ use Rattle.nc_queue.specs.declared.entry.Entry.{Entry}
 use Rattle.nc_lines.specs.Lines.{bare, line, gives_at, Marked}
 use Rattle.nc_rules.specs.declared.steps.Step.{Step}
 use Rattle.nc_rules.specs.Machine.{MachineState, queue_of}
-use Rattle.nc_calls.specs.PlaceLaws.{FreshAt, NotHeld, parts}
+use Rattle.nc_calls.specs.PlaceLaws.{FreshAt, NotHeld, may_leave_stale_copy}
 use Rattle.nc_rows.specs.Ahead.{names, is_full, is_mail, sending}
 use Rattle.nc_rows.specs.Places.{given, ThreadRow, QuietRow, PoolRow, OpenRow}
 use Rattle.nc_rows.specs.Rows.{back, drop, flushes, gives_here, gives_block, PassingRow, SlotRow, LendingRow, LendingTo, LendingFrom, AllocatingRow, GivingRow, DeviceTo, DeviceFrom, DroppingRow, HomeRow, ComingRow}
@@ -74,7 +74,7 @@ allocating_pushed m k h e n v x ahead by pass row =
     record {
       buffer = thread_pushed m k h e g v x by pass.place row.buffer;
       alone = alone_pushed m k h e g x by pass.block row.alone;
-      whole = λ j. rw by.shape.size (by.pushes.queues.none (λ a. parts m.size a x) j pass.whole (row.whole j));
+      whole = λ j. rw by.shape.size (by.pushes.queues.none (λ a. may_leave_stale_copy m.size a x) j pass.whole (row.whole j));
       behind = rw by.shape.size (covered_pushed m k h e g ahead (gives_block m x) (flushes m x) (names n) by (bare_in m.size (x / m.size) e ∙ pass.block) pass.token row.behind);
       unzeroed = λ coming. let was = row.unzeroed (rw (← by.shape.size) coming) in (free was.0, block_pushed m k h e g x by pass.block was.1);
       settled = λ none.

@@ -13,7 +13,7 @@ use Rattle.nc_lines.specs.Lines.{bare}
 use Rattle.nc_model.specs.declared.owners.Owner.{Owner}
 use Rattle.nc_model.specs.declared.owners.Owner.TheVariants.{Thread, Passing, Lending, Device, Returning, Synced, Pool}
 use Rattle.nc_rules.specs.Machine.{MachineState, queue_of}
-use Rattle.nc_calls.specs.PlaceLaws.{Loads, Pushes, parts}
+use Rattle.nc_calls.specs.PlaceLaws.{Loads, Pushes, may_leave_stale_copy}
 use Rattle.nc_calls.specs.MachineLaws.{SameShape}
 use Rattle.nc_rows.specs.Ahead.{names, is_full, is_mail, settling}
 use Rattle.nc_rows.specs.Places.{ThreadRow}
@@ -59,7 +59,7 @@ pub record PassesFrom (n : MapId) (m : MachineState) (h : ℕ) (e : Entry) (x y 
 pub record PassesAllocating (n : MapId) (m : MachineState) (h : ℕ) (e : Entry) (x : ℕ) : Type 0 where
   pub place : NoByte m e x
   pub block : NoBlock m e x
-  pub whole : parts m.size e x ≡ false
+  pub whole : may_leave_stale_copy m.size e x ≡ false
   pub token : NoToken n h e
 
 pub record PassesGiving (n : MapId) (m : MachineState) (h : ℕ) (e : Entry) (x : ℕ) : Type 0 where

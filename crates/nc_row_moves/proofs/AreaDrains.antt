@@ -16,7 +16,7 @@ use Rattle.nc_lines.specs.Laws.{OfBlock}
 use Rattle.nc_lines.proofs.LineLaws as lines
 use Rattle.nc_lines.proofs.Marks.{stands_or_not, uncovered}
 use Rattle.nc_rules.specs.Machine.{MachineState, queue_of}
-use Rattle.nc_calls.specs.PlaceLaws.{NotHeld, LosesNone, parts, brings, drops_copies}
+use Rattle.nc_calls.specs.PlaceLaws.{NotHeld, KeepsCoherence, may_leave_stale_copy, brings, drops_copies}
 use Rattle.nc_rules.specs.View.{middle}
 use Rattle.nc_calls.proofs.StartPlaces.{loads_show}
 use Rattle.nc_rows.proofs.PlaceFrames.{view_is}
@@ -63,7 +63,7 @@ zero_settled m k h i e n v x ahead l row own op none =
     let written = written_by m k h i e v x l (wider_op is_flush writes_back b e flush_back op) empty (subst (λ (g : ℕ). ThreadRow g v m x) own row) in
     (pool_written m k v x written, (l.drains.places x).gone (wider_op is_flush drops_copies b e flush_drops op))
 
-pub allocating_drained : (m k : MachineState) (h i : ℕ) (e : Entry) (n : MapId) (v x : ℕ) (ahead : List Entry) → Leaves m k h i e → LosesNone m e x → AllocatingRow n v ahead m x → AllocatingRow n v ahead k x
+pub allocating_drained : (m k : MachineState) (h i : ℕ) (e : Entry) (n : MapId) (v x : ℕ) (ahead : List Entry) → Leaves m k h i e → KeepsCoherence m e x → AllocatingRow n v ahead m x → AllocatingRow n v ahead k x
 allocating_drained m k h i e n v x ahead l loses row =
     let g = n.hart.0 in
     let b = x / m.size in
@@ -83,7 +83,7 @@ allocating_drained m k h i e n v x ahead l loses row =
     record {
       buffer = thread_drained m k h i e g v x l loses row.buffer;
       alone = alone_drained m k h i e g x l row.alone;
-      whole = λ j. rw l.size (l.drains.queues.none (λ a. parts m.size a x) j (row.whole j));
+      whole = λ j. rw l.size (l.drains.queues.none (λ a. may_leave_stale_copy m.size a x) j (row.whole j));
       behind = rw l.size behind;
       unzeroed = λ coming.
           let was = row.unzeroed (rw (← l.size) coming) in
@@ -91,7 +91,7 @@ allocating_drained m k h i e n v x ahead l loses row =
       settled = λ none. after (rw (← l.size) none);
     }
 
-pub giving_drained : (m k : MachineState) (h i : ℕ) (e : Entry) (n : MapId) (v x : ℕ) (ahead : List Entry) → Leaves m k h i e → LosesNone m e x → GivingRow n v ahead m x → GivingRow n v ahead k x
+pub giving_drained : (m k : MachineState) (h i : ℕ) (e : Entry) (n : MapId) (v x : ℕ) (ahead : List Entry) → Leaves m k h i e → KeepsCoherence m e x → GivingRow n v ahead m x → GivingRow n v ahead k x
 giving_drained m k h i e n v x ahead l loses row = record {
   buffer = thread_drained m k h i e n.hart.0 v x l loses row.buffer;
   covered = rw l.size (marked_cover m k h i e n.hart.0 ahead (gives_here m x) (names n) l (λ a is. gives_w m.size x a is) row.covered);
@@ -107,7 +107,7 @@ names_bring n s b (Reg chan off width value) is = absurd cc
 names_bring n s b (Mail buf to) is = absurd cc
 names_bring n s b (Mark pred succ) is = absurd cc
 
-pub area_given : (m k : MachineState) (h i : ℕ) (e : Entry) (n : MapId) (v x : ℕ) (ahead : List Entry) → Leaves m k h i e → LosesNone m e x → n.hart.0 ≡ h → names n e ≡ true → NotHeld m x → GivingRow n v ahead m x → PoolRow v k x
+pub area_given : (m k : MachineState) (h i : ℕ) (e : Entry) (n : MapId) (v x : ℕ) (ahead : List Entry) → Leaves m k h i e → KeepsCoherence m e x → n.hart.0 ≡ h → names n e ≡ true → NotHeld m x → GivingRow n v ahead m x → PoolRow v k x
 area_given m k h i e n v x ahead l loses_x own is held row =
     let covered = subst (λ (g : ℕ). Covered (gives_here m x) is_wo (names n) (line (queue_of m g) ahead)) own row.covered in
     let none = (loses m k h i e ahead l).none_left (gives_here m x) (names n) (λ a gives. gives_w m.size x a gives) (bare_names n e ∙ is) (names_o n e is) covered in

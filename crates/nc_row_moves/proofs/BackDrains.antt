@@ -12,7 +12,7 @@ use Rattle.nc_queue.specs.declared.entry.Entry.{Entry}
 use Rattle.nc_lines.specs.Lines.{bare, line, gives_at}
 use Rattle.nc_rules.specs.declared.steps.Step.{Step}
 use Rattle.nc_rules.specs.Machine.{MachineState, queue_of}
-use Rattle.nc_calls.specs.PlaceLaws.{FreshAt, NotHeld, LosesNone, parts, drops_copies}
+use Rattle.nc_calls.specs.PlaceLaws.{FreshAt, NotHeld, KeepsCoherence, may_leave_stale_copy, drops_copies}
 use Rattle.nc_rows.specs.Ahead.{is_full, is_mail, sending}
 use Rattle.nc_rows.specs.Places.{given, ThreadRow, QuietRow, PoolRow, OpenRow}
 use Rattle.nc_rows.specs.Rows.{drop, gives_here, PassingRow, DeviceTo, DeviceFrom, DroppingRow, HomeRow, ComingRow}
@@ -22,7 +22,7 @@ use Rattle.nc_row_moves.proofs.PlaceDrains.{Leaves, not_given, still_none, quiet
 use Rattle.nc_row_moves.proofs.LineDrains.{of_line, marked_cover, left_by, loses, line_here}
 use Rattle.nc_row_moves.proofs.LendingDrains.{none_of_queue}
 
-pub device_to_drained : (m k : MachineState) (h i : ℕ) (e : Entry) (n : MapId) (v x y : ℕ) → Leaves m k h i e → LosesNone m e x → DeviceTo n v m x y → DeviceTo n v k x y
+pub device_to_drained : (m k : MachineState) (h i : ℕ) (e : Entry) (n : MapId) (v x y : ℕ) → Leaves m k h i e → KeepsCoherence m e x → DeviceTo n v m x y → DeviceTo n v k x y
 device_to_drained m k h i e n v x y l loses_x row = record { device = pool_drained m k h i e v y l row.device; buffer = thread_drained m k h i e n.hart.0 v x l loses_x row.buffer }
 
 buffer_drained : (m k : MachineState) (h i : ℕ) (e : Entry) (g x y : ℕ) → Leaves m k h i e → LosesFrom m e x y → (x ≡ y) ⊎ QuietRow g m x → (x ≡ y) ⊎ QuietRow g k x
@@ -42,7 +42,7 @@ inval_drops cbos.Flush is = absurd cc
 inval_drops cbos.Zero is = absurd cc
 
 -- an entry that drops no copy of an open block loses none
-open_loses : (m k : MachineState) (h i : ℕ) (e : Entry) (v y : ℕ) → Leaves m k h i e → OpenRow v m y → has_op drops_copies (y / m.size) e ≡ false → LosesNone m e y
+open_loses : (m k : MachineState) (h i : ℕ) (e : Entry) (v y : ℕ) → Leaves m k h i e → OpenRow v m y → has_op drops_copies (y / m.size) e ≡ false → KeepsCoherence m e y
 open_loses m k h i e v y l row other = λ is. absurd (elim (parted m.size y e is) [
   | inl inval ↦ both_ways (has_op drops_copies (y / m.size) e) other (wider_op is_inval drops_copies (y / m.size) e inval_drops inval)
   | inr gives ↦ gives (not_given m k h i e y l (none_in {s = m.size} l.drain.sound.block_size (queue_of m h) y (l.drain.sound.queues h l.drain.hart).fit (row.none h)))
@@ -68,7 +68,7 @@ dropping_drained m k h i e n v x y ahead l loses_x row =
 
 -- ---- bytes that come back
 
-home_drained : (m k : MachineState) (h i : ℕ) (e : Entry) (g v x : ℕ) (ahead : List Entry) → Leaves m k h i e → LosesNone m e x → HomeRow g v ahead m x → HomeRow g v ahead k x
+home_drained : (m k : MachineState) (h i : ℕ) (e : Entry) (g v x : ℕ) (ahead : List Entry) → Leaves m k h i e → KeepsCoherence m e x → HomeRow g v ahead m x → HomeRow g v ahead k x
 home_drained m k h i e g v x ahead l loses_x row = record {
   unstored = λ coming. quiet_drained m k h i e g x l loses_x (row.unstored (rw (← l.size) coming));
   stored = λ none. thread_drained m k h i e g v x l loses_x (row.stored (rw (← l.size) none));
@@ -93,7 +93,7 @@ sent_now m k h i e g b x ahead l covered some none =
     let left = (loses m k h i e ahead l).none_left (gives_here m x) (is_mail b) (λ a gives. gives_w m.size x a gives) by.1 (mail_o b e by.1) here in
     rw (by.0, l.size) (none_of_queue m.size x (queue_of k h) ahead (ap (list_any (gives_here m x)) (line_here m k h i e ahead l) ∙ left))
 
-pub passing_drained : (m k : MachineState) (h i : ℕ) (e : Entry) (g v b x : ℕ) (rest : List Step) → Leaves m k h i e → LosesNone m e x → PassingRow g v b rest m x → PassingRow g v b rest k x
+pub passing_drained : (m k : MachineState) (h i : ℕ) (e : Entry) (g v b x : ℕ) (rest : List Step) → Leaves m k h i e → KeepsCoherence m e x → PassingRow g v b rest m x → PassingRow g v b rest k x
 passing_drained m k h i e g v b x rest l loses_x row =
     let ahead = sending b rest in
     record {

@@ -17,7 +17,7 @@ use Rattle.nc_lines.proofs.LineLaws.{line_loses}
 use Rattle.nc_lines.proofs.LineLaws as lines
 use Rattle.nc_lines.proofs.Marks.{stands_or_not, uncovered}
 use Rattle.nc_rules.specs.Machine.{MachineState, queue_of}
-use Rattle.nc_calls.specs.PlaceLaws.{NotHeld, LosesNone, parts}
+use Rattle.nc_calls.specs.PlaceLaws.{NotHeld, KeepsCoherence, may_leave_stale_copy}
 use Rattle.nc_rules.specs.View.{middle, view}
 use Rattle.nc_rows.specs.Ahead.{names}
 use Rattle.nc_rows.specs.Places.{given, ThreadRow, PoolRow, CalmRow, OpenRow, Alone}
@@ -28,7 +28,7 @@ use Rattle.nc_row_moves.proofs.Tests.{bare_gives, bare_in, bare_op, bare_names, 
 use Rattle.nc_row_moves.proofs.PlaceDrains.{Leaves, still_none, thread_drained, pool_drained, calm_drained, open_drained, alone_drained}
 use Rattle.nc_row_moves.proofs.LineDrains.{block_cover, still_marked, gone_by}
 
-slot_drained : (m k : MachineState) (h i : ℕ) (e : Entry) (g v y : ℕ) (ahead : List Entry) → Leaves m k h i e → LosesNone m e y → SlotRow g v ahead m y → SlotRow g v ahead k y
+slot_drained : (m k : MachineState) (h i : ℕ) (e : Entry) (g v y : ℕ) (ahead : List Entry) → Leaves m k h i e → KeepsCoherence m e y → SlotRow g v ahead m y → SlotRow g v ahead k y
 slot_drained m k h i e g v y ahead l loses row = record {
   unstored = λ coming. calm_drained m k h i e y l (row.unstored (rw (← l.size) coming));
   stored = λ none. thread_drained m k h i e g v y l loses (row.stored (rw (← l.size) none));
@@ -42,7 +42,7 @@ back_block m y a is = op_block m.size writes_back (y / m.size) a is
 
 -- What changes is told by four things: what p is of, what is settled, and how it comes to be so with the clean or the
 -- flush of the block.
-lending_drained : (p : MachineState → ℕ → Entry → Bool) (S : MachineState → Type 0) (m k : MachineState) (h i : ℕ) (e : Entry) (n : MapId) (v x y : ℕ) (ahead : List Entry) → Leaves m k h i e → LosesNone m e x → LosesNone m e y
+lending_drained : (p : MachineState → ℕ → Entry → Bool) (S : MachineState → Type 0) (m k : MachineState) (h i : ℕ) (e : Entry) (n : MapId) (v x y : ℕ) (ahead : List Entry) → Leaves m k h i e → KeepsCoherence m e x → KeepsCoherence m e y
     → (n.hart.0 ≡ h → names n e ≡ false) → p k y ≡ p m y → InBlock m.size (y / m.size) (p m y) (queue_of m h) → Apart (p m y) (names n) → (S m → S k)
     → (n.hart.0 ≡ h → has_op writes_back (y / m.size) e ≡ true → list_any (p m y) (line (queue_of k n.hart.0) ahead) ≡ false → S k) → LendingRow (p m y) (S m) n v ahead m x y → LendingRow (p k y) (S k) n v ahead k x y
 lending_drained p S m k h i e n v x y ahead l loses_x loses_y other same of_p apart keep settle row =
@@ -79,7 +79,7 @@ pub record Written (m k : MachineState) (v y : ℕ) : Type 0 where
 pub written_by : (m k : MachineState) (h i : ℕ) (e : Entry) (v y : ℕ) → Leaves m k h i e → has_op writes_back (y / m.size) e ≡ true → given k h y ≡ None → ThreadRow h v m y → Written m k v y
 written_by m k h i e v y l op none row =
     let silent = back_silent m.size (y / m.size) e y op in
-    let loses : LosesNone m e y = λ is. absurd (both_ways (parts m.size e y) (back_whole m.size (y / m.size) e y op) is) in
+    let loses : KeepsCoherence m e y = λ is. absurd (both_ways (may_leave_stale_copy m.size e y) (back_whole m.size (y / m.size) e y op) is) in
     let after = thread_drained m k h i e h v y l loses row in
     let before : given m h y ≡ None = sym (gives-remove_silent m.size (queue_of m h) i e y l.drains.queues.stood silent) ∙ ap (λ (q : List Entry). gives m.size q y) (sym l.drains.queues.own) ∙ ap (λ (s : ℕ). gives s (queue_of k h) y) (sym l.size) ∙ none in
     let below : middle m y ≡ v = sym (ap (λ (o : Option ℕ). unwrap_or o (middle m y)) before) ∙ sym (view_is m h y) ∙ row.shows in
@@ -116,7 +116,7 @@ to_settled m k h i e n v x y ahead l row own op none =
     let empty : given k h y ≡ None = rw (l.size, ← own) (none_of_queue m.size y (queue_of k n.hart.0) ahead none) in
     pool_written m k v y (written_by m k h i e v y l op empty (subst (λ (g : ℕ). ThreadRow g v m y) own thread))
 
-pub to_drained : (m k : MachineState) (h i : ℕ) (e : Entry) (n : MapId) (v x y : ℕ) (ahead : List Entry) → Leaves m k h i e → LosesNone m e x → LosesNone m e y → (n.hart.0 ≡ h → names n e ≡ false) → LendingTo n v ahead m x y → LendingTo n v ahead k x y
+pub to_drained : (m k : MachineState) (h i : ℕ) (e : Entry) (n : MapId) (v x y : ℕ) (ahead : List Entry) → Leaves m k h i e → KeepsCoherence m e x → KeepsCoherence m e y → (n.hart.0 ≡ h → names n e ≡ false) → LendingTo n v ahead m x y → LendingTo n v ahead k x y
 to_drained m k h i e n v x y ahead l loses_x loses_y other row =
     let z = l.drain.sound.block_size in
     lending_drained gives_here (λ j. PoolRow v j y) m k h i e n v x y ahead l loses_x loses_y other (here_alike m k y l.size) (gives_in_block {s = m.size} z (queue_of m h) y (l.drain.sound.queues h l.drain.hart).fit)
@@ -139,7 +139,7 @@ from_settled m k h i e n v x y ahead l pieces row own op none =
       ]);
     }
 
-pub from_drained : (m k : MachineState) (h i : ℕ) (e : Entry) (n : MapId) (v x y : ℕ) (ahead : List Entry) → Leaves m k h i e → LosesNone m e x → LosesNone m e y → All (PieceInBlock m y) ahead → (n.hart.0 ≡ h → names n e ≡ false)
+pub from_drained : (m k : MachineState) (h i : ℕ) (e : Entry) (n : MapId) (v x y : ℕ) (ahead : List Entry) → Leaves m k h i e → KeepsCoherence m e x → KeepsCoherence m e y → All (PieceInBlock m y) ahead → (n.hart.0 ≡ h → names n e ≡ false)
     → LendingFrom n v ahead m x y → LendingFrom n v ahead k x y
 from_drained m k h i e n v x y ahead l loses_x loses_y pieces other row = record {
   lending =

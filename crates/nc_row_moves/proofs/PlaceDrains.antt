@@ -12,7 +12,7 @@ use Rattle.nc_queue.proofs.TestLaws.{none_at}
 use Rattle.nc_rules.specs.Machine.{MachineState, queue_of}
 use Rattle.nc_rules.specs.Calls.{leaving, drain_next}
 use Rattle.nc_rules.specs.Sound.{IsMachine}
-use Rattle.nc_calls.specs.PlaceLaws.{FreshAt, NotHeld, LosesNone, Drains, parts}
+use Rattle.nc_calls.specs.PlaceLaws.{FreshAt, NotHeld, KeepsCoherence, Drains, may_leave_stale_copy}
 use Rattle.nc_rules.specs.View.{middle, view}
 use Rattle.nc_calls.proofs.DrainPlaces.{drain_is}
 use Rattle.nc_calls.proofs.SoundDrain.{shape_drain}
@@ -36,13 +36,13 @@ not_given m k h i e x l none = entry_gives-none m.size (queue_of m h) i e x none
 pub still_none : (m k : MachineState) (h i : ℕ) (e : Entry) (g x : ℕ) → Leaves m k h i e → given m g x ≡ None → given k g x ≡ None
 still_none m k h i e g x l none = l.drains.queues.silent g x none
 
-pub quiet_drained : (m k : MachineState) (h i : ℕ) (e : Entry) (g x : ℕ) → Leaves m k h i e → LosesNone m e x → QuietRow g m x → QuietRow g k x
+pub quiet_drained : (m k : MachineState) (h i : ℕ) (e : Entry) (g x : ℕ) → Leaves m k h i e → KeepsCoherence m e x → QuietRow g m x → QuietRow g k x
 quiet_drained m k h i e g x l loses row = record {
   fresh = ((l.drains.places x).fresh loses row.fresh).0;
   others = λ j ne. still_none m k h i e j x l (row.others j ne);
 }
 
-pub thread_drained : (m k : MachineState) (h i : ℕ) (e : Entry) (g v x : ℕ) → Leaves m k h i e → LosesNone m e x → ThreadRow g v m x → ThreadRow g v k x
+pub thread_drained : (m k : MachineState) (h i : ℕ) (e : Entry) (g v x : ℕ) → Leaves m k h i e → KeepsCoherence m e x → ThreadRow g v m x → ThreadRow g v k x
 thread_drained m k h i e g v x l loses row = record {
   shows = elim (cases_eq g h) [
     | inl same ↦ ap (λ (j : ℕ). view k j x) same ∙ (l.drains.places x).own_view loses row.quiet.fresh ∙ ap (λ (j : ℕ). view m j x) (sym same) ∙ row.shows

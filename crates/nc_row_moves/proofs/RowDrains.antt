@@ -13,7 +13,7 @@ use Rattle.nc_model.specs.declared.owners.Owner.{Owner}
 use Rattle.nc_model.specs.declared.owners.Owner.TheVariants.{Thread, Passing, Lending, Device, Returning, Synced, Pool}
 use Rattle.nc_rules.specs.Machine.{MachineState, queue_of}
 use Rattle.nc_rules.specs.Calls.{drain_next}
-use Rattle.nc_calls.specs.PlaceLaws.{NotHeld, LosesNone}
+use Rattle.nc_calls.specs.PlaceLaws.{NotHeld, KeepsCoherence}
 use Rattle.nc_rows.specs.Ahead.{names, is_full, settling}
 use Rattle.nc_rows.specs.Places.{ThreadRow, PoolRow, OpenRow}
 use Rattle.nc_rows.specs.Rows.{Loan, Book, device_place, back, LendingRow, LendingTo, LendingFrom, AllocatingRow, GivingRow, DeviceTo, DeviceFrom, Either, ByDir, ahead_of, LentRow, DeviceRow, BackRow, SyncedRow, Row}
@@ -73,7 +73,7 @@ back_drained a n (Some loan) v m k h i e x l loses_row row =
     (dir_both loan.grant.dir _ _ _ _ _ _ (device_to_drained m k h i e n v x y l)
     (λ loses_x. either_map (list_any is_full ahead) _ _ _ _ (dropping_drained m k h i e n v x y ahead l loses_x) (coming_drained m k h i e n v x y ahead l loses_x))) loses_row row
 
-synced_drained : (n : MapId) (o : Option Loan) (v : ℕ) (m k : MachineState) (h i : ℕ) (e : Entry) (x : ℕ) → Leaves m k h i e → LosesNone m e x → SyncedRow n o v m x → SyncedRow n o v k x
+synced_drained : (n : MapId) (o : Option Loan) (v : ℕ) (m k : MachineState) (h i : ℕ) (e : Entry) (x : ℕ) → Leaves m k h i e → KeepsCoherence m e x → SyncedRow n o v m x → SyncedRow n o v k x
 synced_drained n None v m k h i e x l loses_x row = absurd row
 synced_drained n (Some loan) v m k h i e x l loses_x row = thread_drained m k h i e n.hart.0 v x l loses_x row
 
@@ -94,19 +94,19 @@ none_marked m k h i e n y ahead l own is marked stands =
     (loses m k h i e ahead l).none_before (back m y) (names n) (back_w m y) (λ a op. w_unnamed n a (back_w m y a op)) (bare_names n e ∙ is) (names_o n e is)
     (subst (λ (g : ℕ). Marked (back m y) (names n) (line (queue_of m g) ahead)) own marked) (subst (λ (g : ℕ). Stands (back m y) (names n) (line (queue_of m g) ahead)) own stands)
 
-to_lent : (m k : MachineState) (h i : ℕ) (e : Entry) (n : MapId) (v x y : ℕ) (ahead : List Entry) → Leaves m k h i e → LosesNone m e x → n.hart.0 ≡ h → names n e ≡ true → LendingTo n v ahead m x y → DeviceTo n v k x y
+to_lent : (m k : MachineState) (h i : ℕ) (e : Entry) (n : MapId) (v x y : ℕ) (ahead : List Entry) → Leaves m k h i e → KeepsCoherence m e x → n.hart.0 ≡ h → names n e ≡ true → LendingTo n v ahead m x y → DeviceTo n v k x y
 to_lent m k h i e n v x y ahead l loses_x own is row = record {
   device = pool_drained m k h i e v y l (row.settled (none_marked m k h i e n y ahead l own is row.marked));
   buffer = thread_drained m k h i e n.hart.0 v x l loses_x row.buffer;
 }
 
-from_lent : (m k : MachineState) (h i : ℕ) (e : Entry) (n : MapId) (v x y : ℕ) (ahead : List Entry) → Leaves m k h i e → LosesNone m e x → n.hart.0 ≡ h → names n e ≡ true → LendingFrom n v ahead m x y → DeviceFrom n v k x y
+from_lent : (m k : MachineState) (h i : ℕ) (e : Entry) (n : MapId) (v x y : ℕ) (ahead : List Entry) → Leaves m k h i e → KeepsCoherence m e x → n.hart.0 ≡ h → names n e ≡ true → LendingFrom n v ahead m x y → DeviceFrom n v k x y
 from_lent m k h i e n v x y ahead l loses_x own is row = record {
   device = open_drained m k h i e v y l (row.lending.settled (none_marked m k h i e n y ahead l own is row.lending.marked));
   buffer = inr (thread_drained m k h i e n.hart.0 v x l loses_x row.lending.buffer).quiet;
 }
 
-given_by : (m k : MachineState) (h i : ℕ) (e : Entry) (n : MapId) (v x : ℕ) (ahead : List Entry) (t : Bool) → Leaves m k h i e → LosesNone m e x → n.hart.0 ≡ h → names n e ≡ true → t ≡ false → NotHeld m x
+given_by : (m k : MachineState) (h i : ℕ) (e : Entry) (n : MapId) (v x : ℕ) (ahead : List Entry) (t : Bool) → Leaves m k h i e → KeepsCoherence m e x → n.hart.0 ≡ h → names n e ≡ true → t ≡ false → NotHeld m x
     → Either t (AllocatingRow n v ahead m x) (GivingRow n v ahead m x) → PoolRow v k x
 given_by m k h i e n v x ahead true l loses_x own is other held row = absurd cc
 given_by m k h i e n v x ahead false l loses_x own is other held row = area_given m k h i e n v x ahead l loses_x own is held row

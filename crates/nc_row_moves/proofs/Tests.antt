@@ -19,7 +19,7 @@ use Rattle.nc_queue.proofs.GivesLaws.{gives-other, gives_is_w}
 use Rattle.nc_lines.specs.Lines.{bare, gives_at}
 use Rattle.nc_lines.specs.Laws.{InBlock}
 use Rattle.nc_rules.specs.Machine.{MachineState}
-use Rattle.nc_calls.specs.PlaceLaws.{drops_copies, brings, op_parts, parts}
+use Rattle.nc_calls.specs.PlaceLaws.{drops_copies, brings, op_parts, may_leave_stale_copy}
 use Rattle.nc_rows.specs.Ahead.{names, is_full, is_mail}
 
 -- ---- without bytes
@@ -203,7 +203,7 @@ given_not : (t : Bool) (v : ℕ) → t ≡ true → (if t then Some v else None)
 given_not true v is none = absurd cc
 given_not false v is none = absurd cc
 
-pub parted : (s x : ℕ) (e : Entry) → parts s e x ≡ true → (has_op is_inval (x / s) e ≡ true) ⊎ (entry_gives s e x ≡ None → ⊥)
+pub parted : (s x : ℕ) (e : Entry) → may_leave_stale_copy s e x ≡ true → (has_op is_inval (x / s) e ≡ true) ⊎ (entry_gives s e x ≡ None → ⊥)
 parted s x (Store span bytes Pma) is = absurd cc
 parted s x (Store span bytes Nc) is = inr (λ none. let over : covers span x ≡ true = is in absurd (given_not (covers span x) _ over none))
 parted s x (Store span bytes Io) is = inr (λ none. let over : covers span x ≡ true = is in absurd (given_not (covers span x) _ over none))
@@ -217,13 +217,13 @@ parted s x (Lend label first count) is = absurd cc
 parted s x (Mark pred succ) is = absurd cc
 
 -- a clean or a flush parts nothing
-back_together : (s b c : ℕ) (op : CboOp) (x : ℕ) → writes_back op ≡ true → parts s (Cbo (record { 0 = c }) op) x ≡ false
+back_together : (s b c : ℕ) (op : CboOp) (x : ℕ) → writes_back op ≡ true → may_leave_stale_copy s (Cbo (record { 0 = c }) op) x ≡ false
 back_together s b c cbos.Clean x is = refl
 back_together s b c cbos.Flush x is = refl
 back_together s b c cbos.Inval x is = absurd cc
 back_together s b c cbos.Zero x is = absurd cc
 
-pub back_whole : (s b : ℕ) (e : Entry) (x : ℕ) → has_op writes_back b e ≡ true → parts s e x ≡ false
+pub back_whole : (s b : ℕ) (e : Entry) (x : ℕ) → has_op writes_back b e ≡ true → may_leave_stale_copy s e x ≡ false
 back_whole s b (Cbo block op) x is = back_together s b block.0 op x (and_parts (writes_back op) (block.0 == b) is).0
 back_whole s b (Store span bytes kind) x is = absurd cc
 back_whole s b (Reg chan off width value) x is = absurd cc

@@ -9,7 +9,7 @@ use Rattle.nc_model.specs.declared.owners.Owner.TheVariants.{Thread, Passing, Le
 use Rattle.nc_rules.specs.Machine.{MachineState}
 use Rattle.nc_rules.specs.Calls.{leaving, drain_next, is_pooled, fill_next, evict_next}
 use Rattle.nc_rules.specs.Sound.{IsMachine, IsBlockIn}
-use Rattle.nc_calls.specs.PlaceLaws.{NotHeld, LosesNone}
+use Rattle.nc_calls.specs.PlaceLaws.{NotHeld, KeepsCoherence}
 use Rattle.nc_calls.specs.MachineLaws.{IsMove}
 use Rattle.nc_rows.specs.Ahead.{names, settling}
 use Rattle.nc_rows.specs.Rows.{Loan, Book, device_place, gives_here, gives_block, ahead_of, Either, ByDir, Row}
@@ -19,23 +19,23 @@ use Rattle.nc_rows.specs.Laws.{is_lent_area}
 
 -- it loses no byte that the row tells: at a place of which copies may be stale it may
 abbrev pub LosesFrom : MachineState → Entry → ℕ → ℕ → Type 0
-LosesFrom m e x y = (x ≡ y) ⊎ LosesNone m e x
+LosesFrom m e x y = (x ≡ y) ⊎ KeepsCoherence m e x
 
 abbrev pub LosesLent : Option Loan → MachineState → Entry → ℕ → Type 0
 LosesLent None m e x = Unit {0}
-LosesLent (Some l) m e x = LosesNone m e x × LosesNone m e (device_place l x)
+LosesLent (Some l) m e x = KeepsCoherence m e x × KeepsCoherence m e (device_place l x)
 
 abbrev pub LosesDevice : Option Loan → MachineState → Entry → ℕ → Type 0
 LosesDevice None m e x = Unit {0}
-LosesDevice (Some l) m e x = Either l.area (LosesNone m e x) (ByDir l.grant.dir (LosesNone m e x) (LosesFrom m e x (device_place l x)))
+LosesDevice (Some l) m e x = Either l.area (KeepsCoherence m e x) (ByDir l.grant.dir (KeepsCoherence m e x) (LosesFrom m e x (device_place l x)))
 
 abbrev pub LosesNoRow : Book → Owner → MachineState → Entry → ℕ → Type 0
-LosesNoRow a (Thread h) m e x = LosesNone m e x
-LosesNoRow a (Passing h g) m e x = LosesNone m e x
+LosesNoRow a (Thread h) m e x = KeepsCoherence m e x
+LosesNoRow a (Passing h g) m e x = KeepsCoherence m e x
 LosesNoRow a (Lending n) m e x = LosesLent (a.loan n) m e x
 LosesNoRow a (Device n) m e x = LosesDevice (a.loan n) m e x
 LosesNoRow a (Returning n) m e x = LosesDevice (a.loan n) m e x
-LosesNoRow a (Synced n) m e x = LosesNone m e x
+LosesNoRow a (Synced n) m e x = KeepsCoherence m e x
 LosesNoRow a Pool m e x = Unit {0}
 
 -- what comes of a place lies in its block, as each piece does

@@ -31,7 +31,7 @@ use Rattle.nc_plan.proofs.PlanLaws.{blocks_are_met}
 use Rattle.nc_rules.specs.declared.lots.Lot.{Lot}
 use Rattle.nc_rules.specs.declared.lots.LotId.{LotId}
 use Rattle.nc_rules.specs.declared.steps.Step.{Step}
-use Rattle.nc_rules.specs.Lots.{Fixed, parts}
+use Rattle.nc_rules.specs.Lots.{DriverConfig, parts}
 use Rattle.nc_rules.specs.Machine.{MachineState}
 use Rattle.nc_plan.specs.declared.ops.IoTarget.TheVariants as io
 use Rattle.nc_rules.specs.declared.steps.Turn.TheVariants as turns
@@ -310,7 +310,7 @@ end_bare false lot n = (refl, refl, refl)
 
 -- ---- the whole
 
-lends : (p : Entry → Bool) (f : Fixed) (lot : Lot) (n : MapId) (q : Part) (m : MachineState) (y : ℕ) → ((a : Entry) → p a ≡ true → is_w a ≡ true) → LacksBack p → IsBlockSize m.size → f.size ≡ m.size → WritesBack f.effects → IsEntryOf n lot
+lends : (p : Entry → Bool) (f : DriverConfig) (lot : Lot) (n : MapId) (q : Part) (m : MachineState) (y : ℕ) → ((a : Entry) → p a ≡ true → is_w a ≡ true) → LacksBack p → IsBlockSize m.size → f.size ≡ m.size → WritesBack f.effects → IsEntryOf n lot
     → IsPlaceOf f lot q y → LendsAhead p (back m y) n (coming n lot.id (lend_steps f lot))
 lends p f lot n q m y of_p lacks z size writes entry place =
     let ps = parts f lot in

@@ -13,7 +13,7 @@ use Rattle.nc_lines.specs.Lines.{bare, line, Marked}
 use Rattle.nc_lines.proofs.Bared.{any_bare}
 use Rattle.nc_rules.specs.declared.steps.Step.{Step}
 use Rattle.nc_rules.specs.Machine.{MachineState, queue_of}
-use Rattle.nc_calls.specs.PlaceLaws.{NotHeld, parts}
+use Rattle.nc_calls.specs.PlaceLaws.{NotHeld, may_leave_stale_copy}
 use Rattle.nc_rules.specs.View.{middle}
 use Rattle.nc_rows.specs.Ahead.{names, is_full, is_mail, sending}
 use Rattle.nc_rows.specs.Places.{given, ThreadRow, PoolRow, CalmRow, OpenRow, Alone}
@@ -79,7 +79,7 @@ lending p S m n v x y ahead none lends is row =
     }
 
 allocating : (m : MachineState) (n : MapId) (v x : ℕ) (ahead : List Entry) → Covered (gives_block m x) (flushes m x) (names n) ahead → Stands (flushes m x) (names n) ahead → NotHeld m x → ((g : ℕ) → NoneQueued (gives_block m x) m g)
-    → ((g : ℕ) → list_any (λ e. parts m.size e x) (queue_of m g) ≡ false) → NoneQueued (names n) m n.hart.0 → PoolRow v m x → AllocatingRow n v ahead m x
+    → ((g : ℕ) → list_any (λ e. may_leave_stale_copy m.size e x) (queue_of m g) ≡ false) → NoneQueued (names n) m n.hart.0 → PoolRow v m x → AllocatingRow n v ahead m x
 allocating m n v x ahead behind flushed free empty whole none row =
     let q = map bare (queue_of m n.hart.0) in
     let unlent = unnamed m n none in

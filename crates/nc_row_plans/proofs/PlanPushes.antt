@@ -16,7 +16,7 @@ use Rattle.nc_lines.proofs.Gains.{push_line}
 use Rattle.nc_rules.specs.declared.steps.Step.{Step}
 use Rattle.nc_rules.specs.Machine.{MachineState, queue_of}
 use Rattle.nc_rules.specs.Sound.{IsMachine}
-use Rattle.nc_calls.specs.PlaceLaws.{FreshAt, NotHeld, parts}
+use Rattle.nc_calls.specs.PlaceLaws.{FreshAt, NotHeld, may_leave_stale_copy}
 use Rattle.nc_rules.specs.View.{view}
 use Rattle.nc_rows.specs.Ahead.{names, is_full, is_mail, sending}
 use Rattle.nc_rows.specs.Places.{given, ThreadRow, QuietRow, PoolRow, CalmRow, OpenRow}
@@ -131,7 +131,7 @@ allocate m k e n v x ahead sound by zero row =
     record {
       buffer = thread_stored m k g e v x by row.buffer;
       alone = λ j ne. rw (by.shape.size, by.pushes.queues.others j ne) (row.alone j ne);
-      whole = λ j. rw by.shape.size (by.pushes.queues.none (λ a. parts m.size a x) j zero.whole (row.whole j));
+      whole = λ j. rw by.shape.size (by.pushes.queues.none (λ a. may_leave_stale_copy m.size a x) j zero.whole (row.whole j));
       behind = rw by.shape.size (by_line m k e g ahead (Covered (gives_block m x) (flushes m x) (names n)) by row.behind);
       unzeroed = λ coming.
           let more : list_any (zeroes m x) ahead ≡ true = rw (← by.shape.size) coming in

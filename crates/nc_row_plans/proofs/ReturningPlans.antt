@@ -23,7 +23,7 @@ use Rattle.nc_rules.specs.declared.lots.Lot.{Lot}
 use Rattle.nc_rules.specs.declared.lots.LotId.{LotId}
 use Rattle.nc_rules.specs.declared.steps.Step.{Step}
 use Rattle.nc_rules.specs.declared.steps.Turn.{Turn}
-use Rattle.nc_rules.specs.Lots.{Fixed, parts}
+use Rattle.nc_rules.specs.Lots.{DriverConfig, parts}
 use Rattle.nc_rules.specs.Machine.{MachineState}
 use Rattle.nc_calls.specs.PlaceLaws.{drops_copies}
 use Rattle.nc_rules.specs.Plans.{hart_step, op_steps, turning, ending, return_steps}
@@ -135,7 +135,7 @@ snoc_append : (a b : List HartOp) (o : HartOp) → (a ++ o ∷ []) ++ b ≡ a ++
 snoc_append [] b o = refl
 snoc_append (q ∷ a) b o = ap (λ (ops : List HartOp). q ∷ ops) (snoc_append a b o)
 
-comes_of : (f : Fixed) (lot : Lot) (n : MapId) (turn : Turn) → TurnsBack lot.id turn
+comes_of : (f : DriverConfig) (lot : Lot) (n : MapId) (turn : Turn) → TurnsBack lot.id turn
     → coming n lot.id (ending turn (return_steps f lot)) ≡ flat_map op_coming (flat_map (dropped f.effects f.size) (parts f lot)) ++ (entries.Mark 15 15 ∷ flat_map op_coming (flat_map copied_back (parts f lot)))
 unfolding returning
 comes_of f lot n turn is =
@@ -144,7 +144,7 @@ comes_of f lot n turn is =
     ∙ coming_fenced n lot.id turn (flat_map (dropped f.effects f.size) ps) (flat_map copied_back ps) (are_inner (flat_map (dropped f.effects f.size) ps) (are_flat is_plain (dropped f.effects f.size) ps (dropped_plain f.effects f.size)))
     (are_inner (flat_map copied_back ps) (are_flat is_plain copied_back ps back_plain)) is
 
-drops_of : (f : Fixed) (lot : Lot) (n : MapId) (turn : Turn) (p : Part) (m : MachineState) (y : ℕ) → IsBlockSize m.size → f.size ≡ m.size → DropsBlocks f.effects → comes_back p.dir ≡ true → TurnsBack lot.id turn → IsPlaceOf f lot p y
+drops_of : (f : DriverConfig) (lot : Lot) (n : MapId) (turn : Turn) (p : Part) (m : MachineState) (y : ℕ) → IsBlockSize m.size → f.size ≡ m.size → DropsBlocks f.effects → comes_back p.dir ≡ true → TurnsBack lot.id turn → IsPlaceOf f lot p y
     → Stands (drop m y) is_full (coming n lot.id (ending turn (return_steps f lot)))
 drops_of f lot n turn p m y z size drops comes is place =
     let ps = parts f lot in

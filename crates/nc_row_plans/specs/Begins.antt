@@ -8,7 +8,7 @@ use Rattle.nc_queue.specs.declared.entry.Entry.{Entry}
 use Rattle.nc_lines.specs.Lines.{line, bare, Marked}
 use Rattle.nc_rules.specs.declared.steps.Step.{Step}
 use Rattle.nc_rules.specs.Machine.{MachineState, queue_of}
-use Rattle.nc_calls.specs.PlaceLaws.{NotHeld, parts}
+use Rattle.nc_calls.specs.PlaceLaws.{NotHeld, may_leave_stale_copy}
 use Rattle.nc_rows.specs.Ahead.{names, is_full, is_mail, sending}
 use Rattle.nc_rows.specs.Places.{ThreadRow, PoolRow, CalmRow, Alone}
 use Rattle.nc_rows.specs.Rows.{back, drop, flushes, gives_here, gives_block, PassingRow, LendingTo, LendingFrom, AllocatingRow, GivingRow, DeviceFrom, DroppingRow}
@@ -35,7 +35,7 @@ pub record RowsBegin : Type 0 where
       → ThreadRow n.hart.0 v m x → LendingFrom n v ahead m x y
   -- an area of which there is no copy and no entry
   pub allocate : (m : MachineState) (n : MapId) (v x : ℕ) (ahead : List Entry) → Covered (gives_block m x) (flushes m x) (names n) ahead → Stands (flushes m x) (names n) ahead → NotHeld m x
-      → ((g : ℕ) → NoneQueued (gives_block m x) m g) → ((g : ℕ) → list_any (λ e. parts m.size e x) (queue_of m g) ≡ false) → NoneQueued (names n) m n.hart.0 → PoolRow v m x → AllocatingRow n v ahead m x
+      → ((g : ℕ) → NoneQueued (gives_block m x) m g) → ((g : ℕ) → list_any (λ e. may_leave_stale_copy m.size e x) (queue_of m g) ≡ false) → NoneQueued (names n) m n.hart.0 → PoolRow v m x → AllocatingRow n v ahead m x
   pub give : (m : MachineState) (n : MapId) (v x : ℕ) (ahead : List Entry) → NoneQueued (names n) m n.hart.0 → Covered (gives_here m x) is_wo (names n) ahead → Stands is_wo (names n) ahead → ThreadRow n.hart.0 v m x
       → GivingRow n v ahead m x
   -- the device's mapping is taken back: no full fence is ever queued

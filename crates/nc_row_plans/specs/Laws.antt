@@ -10,7 +10,7 @@ use Rattle.nc_lines.specs.Lines.{bare}
 use Rattle.nc_rules.specs.declared.steps.Step.{Step}
 use Rattle.nc_rules.specs.Machine.{MachineState, queue_of}
 use Rattle.nc_rules.specs.Sound.{IsMachine}
-use Rattle.nc_calls.specs.PlaceLaws.{NotHeld, parts}
+use Rattle.nc_calls.specs.PlaceLaws.{NotHeld, may_leave_stale_copy}
 use Rattle.nc_rows.specs.Ahead.{token, sending}
 use Rattle.nc_rows.specs.Places.{ThreadRow, PoolRow}
 use Rattle.nc_rows.specs.Rows.{gives_here, zeroes, PassingRow, LendingTo, LendingFrom, AllocatingRow, GivingRow, DeviceTo, DeviceFrom, DroppingRow, ComingRow}
@@ -28,7 +28,7 @@ PutsDevice m e v x y ahead = (x ≡ y) ⊎ Puts m e v y ahead
 
 pub record Zeroes (m : MachineState) (e : Entry) (x : ℕ) (ahead : List Entry) : Type 0 where
   pub fits : Fits m.size e
-  pub whole : parts m.size e x ≡ false
+  pub whole : may_leave_stale_copy m.size e x ≡ false
   -- a block is zeroed once
   pub once : NoBlock m e x ⊎ (list_any (zeroes m x) ahead ≡ false)
 

@@ -9,7 +9,7 @@ use Rattle.nc_plan.specs.declared.effects.Effects.{Effects}
 use Rattle.nc_plan.specs.declared.parts.Part.{Part}
 use Rattle.nc_num.specs.declared.names.Dir.{Dir}
 use Rattle.nc_rules.specs.declared.lots.Lot.{Lot}
-use Rattle.nc_rules.specs.Lots.{Fixed, parts}
+use Rattle.nc_rules.specs.Lots.{DriverConfig, parts}
 use Rattle.nc_rules.specs.Machine.{MachineState}
 use Rattle.nc_queue.specs.Laws.{Stands}
 use Rattle.nc_queue.specs.declared.entry.Entry.TheVariants.{Mark}
@@ -32,7 +32,7 @@ abbrev pub WritesBack : Effects → Type 0
 WritesBack e = (dir : Dir) → writes_back (lend_op e dir) ≡ true
 
 -- a place of a part of a lot
-pub record IsPlaceOf (f : Fixed) (lot : Lot) (p : Part) (y : ℕ) : Type 0 where
+pub record IsPlaceOf (f : DriverConfig) (lot : Lot) (p : Part) (y : ℕ) : Type 0 where
   pub part : In p (parts f lot)
   pub from : p.device.at ≤ y
   pub before : y < p.device.at + p.device.len
@@ -47,15 +47,15 @@ TurnsBack lot turn = (turns_lot lot turn ≡ true) × (gives_lot lot turn ≡ fa
 
 pub record PlansReturn : Type 0 where
   -- what comes of the plan that takes a lot back: the blocks that are dropped, a full fence, the copies back
-  pub comes : (f : Fixed) (lot : Lot) (n : MapId) (turn : Turn) → TurnsBack lot.id turn
+  pub comes : (f : DriverConfig) (lot : Lot) (n : MapId) (turn : Turn) → TurnsBack lot.id turn
       → coming n lot.id (ending turn (return_steps f lot)) ≡ flat_map op_coming (flat_map (dropped f.effects f.size) (parts f lot)) ++ (Mark 15 15 ∷ flat_map op_coming (flat_map copied_back (parts f lot)))
   -- the block of a place is dropped before the full fence
-  pub drops : (f : Fixed) (lot : Lot) (n : MapId) (turn : Turn) (p : Part) (m : MachineState) (y : ℕ) → IsBlockSize m.size → f.size ≡ m.size → DropsBlocks f.effects → comes_back p.dir ≡ true → TurnsBack lot.id turn → IsPlaceOf f lot p y
+  pub drops : (f : DriverConfig) (lot : Lot) (n : MapId) (turn : Turn) (p : Part) (m : MachineState) (y : ℕ) → IsBlockSize m.size → f.size ≡ m.size → DropsBlocks f.effects → comes_back p.dir ≡ true → TurnsBack lot.id turn → IsPlaceOf f lot p y
       → Stands (drop m y) is_full (coming n lot.id (ending turn (return_steps f lot)))
 
 pub record PlansLend : Type 0 where
   -- to the device a place is written back behind what gives it, and from the device behind what gives its block
-  pub to : (f : Fixed) (lot : Lot) (n : MapId) (p : Part) (m : MachineState) (y : ℕ) → IsBlockSize m.size → f.size ≡ m.size → WritesBack f.effects → IsEntryOf n lot → IsPlaceOf f lot p y
+  pub to : (f : DriverConfig) (lot : Lot) (n : MapId) (p : Part) (m : MachineState) (y : ℕ) → IsBlockSize m.size → f.size ≡ m.size → WritesBack f.effects → IsEntryOf n lot → IsPlaceOf f lot p y
       → LendsAhead (gives_here m y) (back m y) n (coming n lot.id (lend_steps f lot))
-  pub from : (f : Fixed) (lot : Lot) (n : MapId) (p : Part) (m : MachineState) (y : ℕ) → IsBlockSize m.size → f.size ≡ m.size → WritesBack f.effects → IsEntryOf n lot → IsPlaceOf f lot p y
+  pub from : (f : DriverConfig) (lot : Lot) (n : MapId) (p : Part) (m : MachineState) (y : ℕ) → IsBlockSize m.size → f.size ≡ m.size → WritesBack f.effects → IsEntryOf n lot → IsPlaceOf f lot p y
       → LendsAhead (gives_block m y) (back m y) n (coming n lot.id (lend_steps f lot))

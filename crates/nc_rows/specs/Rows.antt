@@ -17,7 +17,7 @@ use Rattle.nc_model.specs.declared.owners.Owner.TheVariants.{Thread, Passing, Le
 use Rattle.nc_rules.specs.declared.lots.LotId.{LotId}
 use Rattle.nc_rules.specs.declared.steps.Step.{Step}
 use Rattle.nc_rules.specs.Machine.{MachineState, queue_of}
-use Rattle.nc_calls.specs.PlaceLaws.{FreshAt, NotHeld, drops_copies, parts}
+use Rattle.nc_calls.specs.PlaceLaws.{FreshAt, NotHeld, drops_copies, may_leave_stale_copy}
 use Rattle.nc_rows.specs.Places.{given, ThreadRow, QuietRow, PoolRow, CalmRow, OpenRow, Alone}
 use Rattle.nc_rows.specs.Ahead.{names, is_full, coming, settling, sending, is_mail}
 
@@ -101,7 +101,7 @@ pub record LendingFrom (n : MapId) (v : ℕ) (ahead : List Entry) (m : MachineSt
 pub record AllocatingRow (n : MapId) (v : ℕ) (ahead : List Entry) (m : MachineState) (x : ℕ) : Type 0 where
   pub buffer : ThreadRow n.hart.0 v m x
   pub alone : Alone n.hart.0 m x
-  pub whole : (g : ℕ) → list_any (λ e. parts m.size e x) (queue_of m g) ≡ false
+  pub whole : (g : ℕ) → list_any (λ e. may_leave_stale_copy m.size e x) (queue_of m g) ≡ false
   pub behind : Covered (gives_block m x) (flushes m x) (names n) (line (queue_of m n.hart.0) ahead)
   pub unzeroed : list_any (zeroes m x) ahead ≡ true → NotHeld m x × (list_any (gives_block m x) (queue_of m n.hart.0) ≡ false)
   pub settled : (Stands (flushes m x) (names n) (line (queue_of m n.hart.0) ahead) → ⊥) → PoolRow v m x × NotHeld m x

@@ -14,13 +14,13 @@ use Rattle.nc_rules.specs.declared.answers.Refusal.TheVariants as refusals
 use Rattle.nc_rules.specs.declared.lots.Kind.TheVariants.{Area}
 use Rattle.nc_rules.specs.declared.lots.Lot.{Lot}
 use Rattle.nc_rules.specs.declared.steps.Step.{Step}
-use Rattle.nc_rules.specs.Lots.{Fixed, only_entry}
+use Rattle.nc_rules.specs.Lots.{DriverConfig, only_entry}
 use Rattle.nc_rules.specs.Refusals.{◌>>=◌, wanted, some_bytes, buffer_of, part_of, named}
 use Rattle.nc_rules.specs.Plans.{hart_step}
 use Rattle.nc_rules.specs.Meanings.{Meaning, ByNumber, no_answer}
 
 -- where an access of so many bytes starts; one of a coherent area is of type NC
-abbrev pub spot_at : Fixed → List Lot → Spot → ℕ → ℕ → Result At Refusal
+abbrev pub spot_at : DriverConfig → List Lot → Spot → ℕ → ℕ → Result At Refusal
 spot_at f lots (spots.Buffer buf) off len = some_bytes len >>= λ _. part_of (buffer_of f buf) off len >>= λ range. Ok (at.Ram range.at Pma)
 spot_at f lots spots.Virtual off len = some_bytes len >>= λ _. wanted refusals.BadRange (nat_le (off + len) (4096 * length f.table)) >>= λ _. Ok (at.Virtual off)
 spot_at f lots (spots.Area label) off len =
@@ -33,14 +33,14 @@ piece_step (Ok (Some op)) = Ok (Some (hart_step op))
 piece_step (Err fault) = Err (refusals.PageFault fault.va fault.bits)
 
 -- one step a piece; only a page fault can come later than with the first
-unfoldable pub load : Fixed → List Lot → Spot → ℕ → ℕ → Meaning
+unfoldable pub load : DriverConfig → List Lot → Spot → ℕ → ℕ → Meaning
 load f lots spot off len = record {
   way = ByNumber (λ n. spot_at f lots spot off len >>= λ to. piece_step (accesses.load_step to f.pbmte f.table len n));
   good = no_answer;
   bad = λ r. answers.Refused r;
 }
 
-unfoldable pub store : Fixed → List Lot → Spot → ℕ → List ℕ → Meaning
+unfoldable pub store : DriverConfig → List Lot → Spot → ℕ → List ℕ → Meaning
 store f lots spot off bytes = record {
   way = ByNumber (λ n. spot_at f lots spot off (length bytes) >>= λ to. piece_step (accesses.store_step to f.pbmte f.table bytes n));
   good = no_answer;

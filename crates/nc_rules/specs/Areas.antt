@@ -18,7 +18,7 @@ use Rattle.nc_rules.specs.declared.lots.Lot.{Lot}
 use Rattle.nc_rules.specs.declared.steps.Step.{Step}
 use Rattle.nc_rules.specs.declared.steps.Turn.{Turn}
 use Rattle.nc_rules.specs.declared.steps.Turn.TheVariants as turns
-use Rattle.nc_rules.specs.Lots.{Fixed, lot_id, lot_named, area_lot, only_entry, bus_of_lot, is_own}
+use Rattle.nc_rules.specs.Lots.{DriverConfig, lot_id, lot_named, area_lot, only_entry, bus_of_lot, is_own}
 use Rattle.nc_rules.specs.Refusals.{◌>>=◌, wanted, some_or, unused, named, owned, planned}
 use Rattle.nc_rules.specs.Plans.{hart_step, op_steps, turning, ending, lending_end}
 use Rattle.nc_rules.specs.Meanings.{Meaning, ByPlan, answer_with}
@@ -27,7 +27,7 @@ use Rattle.nc_rules.specs.Mappings.{with_lot, needs_lot}
 -- ---- allocation
 
 -- an area is zeroed and flushed; a hart without memory types has no way to it past the caches (Svpbmt)
-abbrev pub calloc_begin : Fixed → List Lot → Label → ℕ → ChanNo → PageMap → Result (List Lot) Refusal
+abbrev pub calloc_begin : DriverConfig → List Lot → Label → ℕ → ChanNo → PageMap → Result (List Lot) Refusal
 calloc_begin f lots label count chan pages =
     wanted refusals.Empty (not (count == 0))
     >>= λ _. unused lots label
@@ -37,14 +37,14 @@ calloc_begin f lots label count chan pages =
     >>= λ span. Ok (area_lot (lot_id label 0) chan span ∷ [])
 
 -- each block is zeroed, then each is flushed, then all is fenced, also where fences are light
-abbrev pub calloc_steps : Fixed → Lot → List Step
+abbrev pub calloc_steps : DriverConfig → Lot → List Step
 calloc_steps f lot = ending (turns.Settle lot.id) (op_steps (allocating f.effects f.size (only_entry lot).span))
 
-abbrev pub allocated_answer : Fixed → Option Lot → Option Answer
+abbrev pub allocated_answer : DriverConfig → Option Lot → Option Answer
 allocated_answer f None = None
 allocated_answer f (Some lot) = Some (answers.Allocated (bus_of_lot f lot))
 
-unfoldable pub calloc : Fixed → List Lot → Label → ℕ → ChanNo → Meaning
+unfoldable pub calloc : DriverConfig → List Lot → Label → ℕ → ChanNo → Meaning
 calloc f lots label count chan = record {
   way = ByPlan (λ owners pages. calloc_begin f lots label count chan pages) (turns.Lend (lot_id label 0)) (with_lot [] (calloc_steps f) (lot_named lots label Area));
   good = λ saw. allocated_answer f (lot_named lots label Area);
@@ -57,10 +57,10 @@ calloc f lots label count chan = record {
 abbrev pub give_turn : Lot → Turn
 give_turn lot = if is_own lot.side then turns.Lend lot.id else turns.Stay
 
-abbrev pub give_steps : Fixed → Lot → List Step
+abbrev pub give_steps : DriverConfig → Lot → List Step
 give_steps f lot = if is_own lot.side then lending_end f lot else []
 
-unfoldable pub give_area : Fixed → List Lot → Label → Meaning
+unfoldable pub give_area : DriverConfig → List Lot → Label → Meaning
 give_area f lots label = record {
   way = ByPlan (λ owners pages. needs_lot (named lots label Area)) (with_lot turns.Stay give_turn (lot_named lots label Area)) (with_lot [] (give_steps f) (lot_named lots label Area));
   good = answer_with answers.Given;
@@ -78,7 +78,7 @@ take_turn lot = if is_own lot.side then turns.Stay else turns.Return lot.id
 abbrev pub take_steps : Lot → List Step
 take_steps lot = if is_own lot.side then [] else fenced (turns.Settle lot.id)
 
-unfoldable pub take_area : Fixed → List Lot → Label → Meaning
+unfoldable pub take_area : DriverConfig → List Lot → Label → Meaning
 take_area f lots label = record {
   way = ByPlan (λ owners pages. needs_lot (named lots label Area)) (with_lot turns.Stay take_turn (lot_named lots label Area)) (with_lot [] take_steps (lot_named lots label Area));
   good = answer_with answers.Taken;
@@ -87,7 +87,7 @@ take_area f lots label = record {
 
 -- ---- the end
 
-abbrev pub cfree_begin : Fixed → List Lot → Label → List Owner → Result (List Lot) Refusal
+abbrev pub cfree_begin : DriverConfig → List Lot → Label → List Owner → Result (List Lot) Refusal
 cfree_begin f lots label owners = named lots label Area >>= λ lot. owned f.me owners (only_entry lot).span >>= λ _. Ok []
 
 abbrev pub free_turn : Lot → Turn
@@ -96,7 +96,7 @@ free_turn lot = turns.Return lot.id
 abbrev pub free_steps : Lot → List Step
 free_steps lot = fenced (turns.End lot.id)
 
-unfoldable pub free_area : Fixed → List Lot → Label → Meaning
+unfoldable pub free_area : DriverConfig → List Lot → Label → Meaning
 free_area f lots label = record {
   way = ByPlan (λ owners pages. cfree_begin f lots label owners) (with_lot turns.Stay free_turn (lot_named lots label Area)) (with_lot [] free_steps (lot_named lots label Area));
   good = answer_with answers.Freed;

@@ -9,7 +9,7 @@ use Rattle.nc_plan.specs.declared.effects.Effects.{Effects}
 use Rattle.nc_plan.specs.declared.ops.HartOp.TheVariants as hart
 use Rattle.nc_rules.specs.declared.answers.Answer.TheVariants as answers
 use Rattle.nc_rules.specs.declared.steps.Step.{Step}
-use Rattle.nc_rules.specs.Lots.{Fixed}
+use Rattle.nc_rules.specs.Lots.{DriverConfig}
 use Rattle.nc_rules.specs.Refusals.{◌>>=◌, buffer_of, part_of, legal}
 use Rattle.nc_rules.specs.Plans.{hart_step, single}
 use Rattle.nc_rules.specs.Meanings.{Meaning, ByNumber, no_answer}
@@ -23,7 +23,7 @@ effect_of e cbos.Zero = e.zero
 
 -- the blocks of a script's cache operation on the byte at a place: its block, and for a zero each block of the
 -- naturally aligned range of zero_size bytes that has the byte, ascending
-abbrev pub cbo_blocks : Fixed → CboOp → ℕ → List ℕ
+abbrev pub cbo_blocks : DriverConfig → CboOp → ℕ → List ℕ
 cbo_blocks f cbos.Clean x = block_at x f.size ∷ []
 cbo_blocks f cbos.Flush x = block_at x f.size ∷ []
 cbo_blocks f cbos.Inval x = block_at x f.size ∷ []
@@ -33,7 +33,7 @@ abbrev pub cbo_step : CboOp → ℕ → Step
 cbo_step effect b = hart_step (hart.Cbo effect (record { 0 = b }))
 
 -- one step a block
-unfoldable pub cache_operation : Fixed → CboOp → ℕ → ℕ → Meaning
+unfoldable pub cache_operation : DriverConfig → CboOp → ℕ → ℕ → Meaning
 cache_operation f op buf off = record {
   way = ByNumber (λ n. part_of (buffer_of f buf) off 1 >>= λ byte. legal (effect_of f.effects op) >>= λ effect. Ok (option_map (cbo_step effect) (slice_get (cbo_blocks f op byte.at) n)));
   good = no_answer;

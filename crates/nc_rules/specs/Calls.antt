@@ -180,18 +180,18 @@ evict_answer m h b = evict_bus h b (line_at m.cache b)
 
 -- ---- channels
 
-abbrev pub chan_read_told : MachineState → ℕ → ChanStep
-chan_read_told m c = read_told (channel_of m c) m.cache.ram
+abbrev pub chan_read_step : MachineState → ℕ → ChanStep
+chan_read_step m c = read_told (channel_of m c) m.cache.ram
 
 unfoldable pub chan_read_next : MachineState → ℕ → MachineState
-chan_read_next m c = with_channel m c (read_next (channel_of m c) (chan_read_told m c))
+chan_read_next m c = with_channel m c (read_next (channel_of m c) (chan_read_step m c))
 
-abbrev pub chan_write_told : MachineState → ℕ → ChanStep
-chan_write_told m c = write_told (channel_of m c) (length m.cache.ram)
+abbrev pub chan_write_step : MachineState → ℕ → ChanStep
+chan_write_step m c = write_told (channel_of m c) (length m.cache.ram)
 
 unfoldable pub chan_write_next : MachineState → ℕ → MachineState
 chan_write_next m c =
-    with_channel (with_ram m (ram_after m.cache.ram (chan_write_told m c))) c (write_next (channel_of m c) (chan_write_told m c))
+    with_channel (with_ram m (ram_after m.cache.ram (chan_write_step m c))) c (write_next (channel_of m c) (chan_write_step m c))
 
 -- Control as a number
 abbrev pub control_of : MachineState → ℕ → ℕ

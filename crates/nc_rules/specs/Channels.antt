@@ -17,13 +17,13 @@ use Rattle.nc_rules.specs.declared.lots.Lot.{Lot}
 use Rattle.nc_rules.specs.declared.steps.Act.TheVariants as acts
 use Rattle.nc_rules.specs.declared.steps.Seen.{Seen}
 use Rattle.nc_rules.specs.declared.steps.Seen.TheVariants as seen
-use Rattle.nc_rules.specs.Lots.{Fixed, bus_of_lot}
+use Rattle.nc_rules.specs.Lots.{DriverConfig, bus_of_lot}
 use Rattle.nc_rules.specs.Refusals.{◌>>=◌, wanted, some_or, named}
 use Rattle.nc_rules.specs.Plans.{step, hart_step, single, control_step}
 use Rattle.nc_rules.specs.Meanings.{Meaning, ByNumber, answer_with}
 
 -- what a channel's address register is set to
-abbrev pub bus_of : Fixed → List Lot → BusArg → Result ℕ Refusal
+abbrev pub bus_of : DriverConfig → List Lot → BusArg → Result ℕ Refusal
 bus_of f lots (bus.At n) = Ok n
 bus_of f lots (bus.Map label) = named lots label Single >>= λ lot. Ok (bus_of_lot f lot)
 bus_of f lots (bus.Segment label n) =
@@ -65,7 +65,7 @@ free chan = record {
   bad = λ r. answers.Refused r;
 }
 
-unfoldable pub set_up : Fixed → List Lot → ChanNo → BusArg → BusArg → ℕ → ℕ → Meaning
+unfoldable pub set_up : DriverConfig → List Lot → ChanNo → BusArg → BusArg → ℕ → ℕ → Meaning
 set_up f lots chan src dst len cfg = record {
   way = ByNumber (λ n. bus_of f lots src >>= λ source. bus_of f lots dst >>= λ target. Ok (option_map hart_step (registers.regs_step chan source target len cfg n)));
   good = answer_with answers.Set;

@@ -22,7 +22,7 @@ use Rattle.nc_rules.specs.declared.steps.Seen.{Seen}
 use Rattle.nc_rules.specs.declared.steps.Seen.TheVariants as seen
 use Rattle.nc_rules.specs.declared.steps.Step.{Step}
 use Rattle.nc_rules.specs.declared.steps.Turn.TheVariants as turns
-use Rattle.nc_rules.specs.Lots.{Fixed, is_lot, lot_id, ranges_lot, only_entry}
+use Rattle.nc_rules.specs.Lots.{DriverConfig, is_lot, lot_id, ranges_lot, only_entry}
 use Rattle.nc_rules.specs.Refusals.{◌>>=◌, all_some, ranges_of, owned_from, lendable, placeable}
 use Rattle.nc_rules.specs.Plans.{step, hart_step, beginning, ending, lend_steps, return_steps}
 use Rattle.nc_rules.specs.Meanings.{Meaning, ByPlan}
@@ -38,14 +38,14 @@ abbrev pub no_span : Span
 no_span = record { at = 0; len = 0 }
 
 -- the device reads the first range and writes the second
-abbrev pub ends_of : Fixed → ChanNo → List Span → List Lot
+abbrev pub ends_of : DriverConfig → ChanNo → List Span → List Lot
 ends_of f chan ranges =
     ranges_lot f source Copy ToDev chan (slice_index_or ranges 0 no_span ∷ [])
     ∷ ranges_lot f target Copy FromDev chan (slice_index_or ranges 1 no_span ∷ [])
     ∷ []
 
 -- each check goes over the source, then the destination, before the next check
-abbrev pub copy_begin : Fixed → SgEntry → SgEntry → ChanNo → List Owner → Result (List Lot) Refusal
+abbrev pub copy_begin : DriverConfig → SgEntry → SgEntry → ChanNo → List Owner → Result (List Lot) Refusal
 copy_begin f src dst chan owners =
     all_some (src ∷ dst ∷ [])
     >>= λ _. ranges_of f (src ∷ dst ∷ [])
@@ -64,15 +64,15 @@ abbrev pub claim_step : ChanNo → Step
 claim_step chan = record { act = acts.Claim chan; first = turns.Lend source; last = turns.Lend target }
 
 -- the way back of an end: its first step takes it back, and its last one ends it
-abbrev pub back_steps : Fixed → Lot → List Step
+abbrev pub back_steps : DriverConfig → Lot → List Step
 back_steps f lot = beginning (turns.Return lot.id) (ending (turns.End lot.id) (return_steps f lot))
 
-abbrev pub end_part : Fixed → Lot → Part
+abbrev pub end_part : DriverConfig → Lot → Part
 end_part f lot = part_of lot.list.dir f.slots_at (only_entry lot)
 
 -- claimed, the source lent, the destination lent, the channel set, started, waited for and released, the destination
 -- back, the source back
-abbrev pub copy_steps : Fixed → ChanNo → ℕ → Lot → Lot → List Step
+abbrev pub copy_steps : DriverConfig → ChanNo → ℕ → Lot → Lot → List Step
 copy_steps f chan cfg src dst =
     claim_step chan
     ∷ lend_steps f src
@@ -81,7 +81,7 @@ copy_steps f chan cfg src dst =
     ++ back_steps f dst
     ++ back_steps f src
 
-abbrev pub copy_steps_of : Fixed → ChanNo → ℕ → Option Lot → Option Lot → List Step
+abbrev pub copy_steps_of : DriverConfig → ChanNo → ℕ → Option Lot → Option Lot → List Step
 copy_steps_of f chan cfg None dst = []
 copy_steps_of f chan cfg (Some src) None = []
 copy_steps_of f chan cfg (Some src) (Some dst) = copy_steps f chan cfg src dst
@@ -97,7 +97,7 @@ copy_answer seen.Claimed = None
 copy_answer (seen.Busy g) = None
 copy_answer (seen.Value value) = None
 
-unfoldable pub copy : Fixed → List Lot → ChanNo → SgEntry → SgEntry → ℕ → Meaning
+unfoldable pub copy : DriverConfig → List Lot → ChanNo → SgEntry → SgEntry → ℕ → Meaning
 copy f lots chan src dst cfg = record {
   way = ByPlan (λ owners pages. copy_begin f src dst chan owners) turns.Stay (copy_steps_of f chan cfg (find (is_lot source) lots) (find (is_lot target) lots));
   good = copy_answer;

@@ -18,12 +18,12 @@ use Rattle.nc_rules.specs.declared.steps.Seen.{Seen}
 use Rattle.nc_rules.specs.declared.steps.Seen.TheVariants as seen
 use Rattle.nc_rules.specs.declared.steps.Step.{Step}
 use Rattle.nc_rules.specs.declared.steps.Turn.TheVariants as turns
-use Rattle.nc_rules.specs.Lots.{Fixed, lot_id, some_lot_waits, slot_given}
+use Rattle.nc_rules.specs.Lots.{DriverConfig, lot_id, some_lot_waits, slot_given}
 use Rattle.nc_rules.specs.Turns.{Moved, moved, lots_after, lots_after_both, turned, given_up, without_wanted}
 use Rattle.nc_rules.specs.Operations.{step_at, has_start, begin, opening, plan_of, good_answer, bad_answer, waited_label}
 
 pub record DriverState : Type 0 where
-  pub fixed : Fixed
+  pub fixed : DriverConfig
   -- the number of the operation in hand
   pub op : ℕ
   -- how many of its steps are done, which slot word it tries, or that it has a plan

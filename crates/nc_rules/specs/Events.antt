@@ -10,7 +10,7 @@ use Rattle.nc_scen.specs.declared.events.Event.{Event}
 use Rattle.nc_scen.specs.declared.events.Event.TheVariants as events
 use Rattle.nc_rules.specs.declared.steps.Next.{Next}
 use Rattle.nc_rules.specs.declared.steps.Next.TheVariants as nexts
-use Rattle.nc_rules.specs.Calls.{may_issue, io_waits, may_take, control_of, lends, leaving, may_fill, chan_read_told, chan_write_told}
+use Rattle.nc_rules.specs.Calls.{may_issue, io_waits, may_take, control_of, lends, leaving, may_fill, chan_read_step, chan_write_step}
 use Rattle.nc_rules.specs.Machine.{MachineState}
 use Rattle.nc_rules.specs.Driver.{next_of, searching, waits_for}
 use Rattle.nc_rules.specs.World.{WorldState, driver_of}
@@ -51,5 +51,5 @@ enabled w (events.Told h got) = is_some (searching (driver_of w h.0))
 enabled w (events.Drain h i) = is_some (leaving w.machine h.0 i)
 enabled w (events.Fill h b) = may_fill w.machine h.0 b.0
 enabled w (events.Evict h b) = held_by (line_at w.machine.cache b.0) h.0
-enabled w (events.ChanRead chan) = not (is_idle_step (chan_read_told w.machine chan.0))
-enabled w (events.ChanWrite chan) = not (is_idle_step (chan_write_told w.machine chan.0))
+enabled w (events.ChanRead chan) = not (is_idle_step (chan_read_step w.machine chan.0))
+enabled w (events.ChanWrite chan) = not (is_idle_step (chan_write_step w.machine chan.0))

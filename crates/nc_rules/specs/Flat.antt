@@ -19,7 +19,7 @@ use Rattle.nc_rules.specs.Machine.{MachineState, queue_of}
 use Rattle.nc_rules.specs.View as view
 use Rattle.nc_rules.specs.Start.{memory}
 use Rattle.nc_rules.specs.World.{WorldState, start}
-use Rattle.nc_rules.specs.Watched.{owner_of}
+use Rattle.nc_rules.specs.EventTouches.{owner_of}
 use Rattle.nc_rules.specs.Next.{next, event_records}
 use Rattle.nc_rules.specs.Run.{after}
 

@@ -19,7 +19,7 @@ pub mod Operations
 pub mod Driver
 pub mod Start
 pub mod World
-pub mod Watched
+pub mod EventTouches
 pub mod Events
 pub mod Records
 pub mod Outcomes

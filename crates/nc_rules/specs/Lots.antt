@@ -28,7 +28,7 @@ use Rattle.nc_rules.specs.declared.lots.Side.TheVariants as sides
 -- what a driver knows from the start: its hart, what the hart's cache operations do, whether it translates by memory
 -- types, the table of pages, the buffers, the bytes of a block and of a zeroed range, how far each channel reaches,
 -- the bounce slots, the coherent pool, whether fences are light, and its script
-pub record Fixed : Type 0 where
+pub record DriverConfig : Type 0 where
   pub me : HartNo
   pub effects : Effects
   pub pbmte : Bool
@@ -44,7 +44,7 @@ pub record Fixed : Type 0 where
   pub script : List Op
 
 -- where a channel's reach ends
-abbrev pub reach_of : Fixed → ChanNo → ℕ
+abbrev pub reach_of : DriverConfig → ChanNo → ℕ
 reach_of f chan = slice_index_or f.reach chan.0 0
 
 -- ---- names
@@ -77,7 +77,7 @@ abbrev pub each_entry : {A : Type 0} → HartNo → Lot → (MapId → Entry →
 each_entry me lot g = each_from me lot.id 0 g lot.list.entries
 
 -- the ranges of a lot as they are lent
-abbrev pub parts : Fixed → Lot → List Part
+abbrev pub parts : DriverConfig → Lot → List Part
 parts f lot = map (sg.part_of lot.list.dir f.slots_at) lot.list.entries
 
 abbrev pub no_entry : Entry
@@ -88,7 +88,7 @@ abbrev pub only_entry : Lot → Entry
 only_entry lot = slice_index_or lot.list.entries 0 no_entry
 
 -- where it starts on the bus
-abbrev pub bus_of_lot : Fixed → Lot → ℕ
+abbrev pub bus_of_lot : DriverConfig → Lot → ℕ
 bus_of_lot f lot = (segment_of f.slots_at (only_entry lot)).bus
 
 -- ---- owners
@@ -132,7 +132,7 @@ abbrev pub wanted_lot : LotId → Kind → ChanNo → SgView → Lot
 wanted_lot id kind chan list = record { id = id; kind = kind; chan = chan; list = list; side = sides.Wanted }
 
 -- these ranges, of which those bounce that the rule says
-abbrev pub ranges_lot : Fixed → LotId → Kind → Dir → ChanNo → List Span → Lot
+abbrev pub ranges_lot : DriverConfig → LotId → Kind → Dir → ChanNo → List Span → Lot
 ranges_lot f id kind dir chan ranges = wanted_lot id kind chan (list_of dir f.size (reach_of f chan) ranges)
 
 -- an area never bounces

@@ -12,7 +12,7 @@ use Rattle.nc_rules.specs.declared.lots.Lot.{Lot}
 use Rattle.nc_rules.specs.declared.steps.Seen.{Seen}
 use Rattle.nc_rules.specs.declared.steps.Step.{Step}
 use Rattle.nc_rules.specs.declared.steps.Turn.{Turn}
-use Rattle.nc_rules.specs.Lots.{Fixed}
+use Rattle.nc_rules.specs.Lots.{DriverConfig}
 use Rattle.nc_rules.specs.Meanings.{Meaning, step_of_way, begin_of_way, opening_of_way, plan_of_way}
 use Rattle.nc_rules.specs.Accesses as accesses
 use Rattle.nc_rules.specs.CacheOps as cache_ops
@@ -24,7 +24,7 @@ use Rattle.nc_rules.specs.Channels as channels
 use Rattle.nc_rules.specs.Copies as copies
 
 -- what an operation means, where the hart has these lots
-unfoldable pub meaning : Fixed → List Lot → Op → Meaning
+unfoldable pub meaning : DriverConfig → List Lot → Op → Meaning
 meaning f lots (ops.Ld spot off len) = accesses.load f lots spot off len
 meaning f lots (ops.St spot off bytes) = accesses.store f lots spot off bytes
 meaning f lots (ops.Cbo op buf off) = cache_ops.cache_operation f op buf off
@@ -81,25 +81,25 @@ has_start (ops.Regw chan off width value) = false
 has_start (ops.Copy chan src src_off dst dst_off len cfg) = true
 
 -- step n, counted from 0, of an operation without a start step
-unfoldable pub step_at : Fixed → List Lot → Op → ℕ → Result (Option Step) Refusal
+unfoldable pub step_at : DriverConfig → List Lot → Op → ℕ → Result (Option Step) Refusal
 step_at f lots o n = step_of_way (meaning f lots o).way n
 
 -- the tests of a start step, and the lots that it makes
-unfoldable pub begin : Fixed → List Lot → List Owner → PageMap → Op → Result (List Lot) Refusal
+unfoldable pub begin : DriverConfig → List Lot → List Owner → PageMap → Op → Result (List Lot) Refusal
 begin f lots owners pages o = begin_of_way (meaning f lots o).way owners pages
 
 -- what comes with the last slot that was wanted, or with the start where none was
-unfoldable pub opening : Fixed → List Lot → Op → Turn
+unfoldable pub opening : DriverConfig → List Lot → Op → Turn
 opening f lots o = opening_of_way (meaning f lots o).way
 
-unfoldable pub plan_of : Fixed → List Lot → Op → List Step
+unfoldable pub plan_of : DriverConfig → List Lot → Op → List Step
 plan_of f lots o = plan_of_way (meaning f lots o).way
 
 -- the answer of an operation that was not refused, by what its steps saw last
-unfoldable pub good_answer : Fixed → List Lot → Op → Seen → Option Answer
+unfoldable pub good_answer : DriverConfig → List Lot → Op → Seen → Option Answer
 good_answer f lots o saw = (meaning f lots o).good saw
 
-unfoldable pub bad_answer : Fixed → List Lot → Op → Refusal → Answer
+unfoldable pub bad_answer : DriverConfig → List Lot → Op → Refusal → Answer
 bad_answer f lots o r = (meaning f lots o).bad r
 
 -- ---- light fences

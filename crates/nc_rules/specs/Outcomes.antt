@@ -19,11 +19,11 @@ use Rattle.nc_rules.specs.declared.steps.Next.TheVariants as nexts
 use Rattle.nc_rules.specs.declared.steps.Seen.{Seen}
 use Rattle.nc_rules.specs.declared.steps.Seen.TheVariants as seen
 use Rattle.nc_rules.specs.Machine.{MachineState, grantee_of}
-use Rattle.nc_rules.specs.Calls.{issue_next, issue_answer, leaving, drain_next, fill_next, fill_answer, evict_next, evict_answer, chan_read_next, chan_read_told, chan_write_next, chan_write_told, control_of, claim_next, take_next}
+use Rattle.nc_rules.specs.Calls.{issue_next, issue_answer, leaving, drain_next, fill_next, fill_answer, evict_next, evict_answer, chan_read_next, chan_read_step, chan_write_next, chan_write_step, control_of, claim_next, take_next}
 use Rattle.nc_rules.specs.Turns.{Moved, moved}
 use Rattle.nc_rules.specs.Driver.{DriverState, Went, next_of, searching, is_script, started, told, done, lent}
 use Rattle.nc_rules.specs.World.{WorldState, driver_of}
-use Rattle.nc_rules.specs.Watched.{issue_touch, poll_touch, drain_touch, transaction_touch}
+use Rattle.nc_rules.specs.EventTouches.{issue_touch, poll_touch, drain_touch, transaction_touch}
 use Rattle.nc_rules.specs.Records.{touch_records, op_records, drain_records, answer_records, read_records, write_records, try_records, told_records, moves_records}
 
 pub record Outcome : Type 0 where
@@ -157,6 +157,6 @@ outcome w (events.Drain h i) = drain_outcome w h i (leaving w.machine h.0 i)
 outcome w (events.Fill h b) = runs w (fill_next w.machine h.0 b.0) None (answer_records w.machine.size (fill_answer w.machine h.0 b.0))
 outcome w (events.Evict h b) = runs w (evict_next w.machine h.0 b.0) None (answer_records w.machine.size (evict_answer w.machine h.0 b.0))
 outcome w (events.ChanRead chan) =
-    runs w (chan_read_next w.machine chan.0) (transaction_touch w chan Read (chan_read_told w.machine chan.0)) (read_records chan (chan_read_told w.machine chan.0))
+    runs w (chan_read_next w.machine chan.0) (transaction_touch w chan Read (chan_read_step w.machine chan.0)) (read_records chan (chan_read_step w.machine chan.0))
 outcome w (events.ChanWrite chan) =
-    runs w (chan_write_next w.machine chan.0) (transaction_touch w chan Write (chan_write_told w.machine chan.0)) (write_records chan (chan_write_told w.machine chan.0))
+    runs w (chan_write_next w.machine chan.0) (transaction_touch w chan Write (chan_write_step w.machine chan.0)) (write_records chan (chan_write_step w.machine chan.0))

@@ -14,7 +14,7 @@ use Rattle.nc_rules.specs.declared.steps.Act.TheVariants as acts
 use Rattle.nc_rules.specs.declared.steps.Step.{Step}
 use Rattle.nc_rules.specs.declared.steps.Turn.{Turn}
 use Rattle.nc_rules.specs.declared.steps.Turn.TheVariants as turns
-use Rattle.nc_rules.specs.Lots.{Fixed, parts}
+use Rattle.nc_rules.specs.Lots.{DriverConfig, parts}
 
 -- ---- steps
 
@@ -65,13 +65,13 @@ token_steps lot =
 
 -- the end of a lending: a full fence, with which the lot is the device's, or with light fences a token, with whose
 -- drain it is
-abbrev pub lending_end : Fixed → Lot → List Step
+abbrev pub lending_end : DriverConfig → Lot → List Step
 lending_end f lot = if f.light then token_steps lot else turning (turns.Give lot.id) (hart_step full) ∷ []
 
-abbrev pub lend_steps : Fixed → Lot → List Step
+abbrev pub lend_steps : DriverConfig → Lot → List Step
 lend_steps f lot = op_steps (carried f.effects f.size (parts f lot)) ++ lending_end f lot
 
 -- ---- the taking back of a lot
 
-abbrev pub return_steps : Fixed → Lot → List Step
+abbrev pub return_steps : DriverConfig → Lot → List Step
 return_steps f lot = op_steps (returning f.effects f.size (parts f lot))

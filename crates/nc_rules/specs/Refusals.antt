@@ -24,7 +24,7 @@ use Rattle.nc_rules.specs.declared.answers.Refusal.TheVariants as refusals
 use Rattle.nc_rules.specs.declared.lots.Kind.{Kind}
 use Rattle.nc_rules.specs.declared.lots.Lot.{Lot}
 use Rattle.nc_rules.specs.declared.lots.LotId.{LotId}
-use Rattle.nc_rules.specs.Lots.{Fixed, is_labelled, lot_named, map_id, some_lot_waits}
+use Rattle.nc_rules.specs.Lots.{DriverConfig, is_labelled, lot_named, map_id, some_lot_waits}
 
 infixl 10 ◌>>=◌
 abbrev pub ◌>>=◌ : {A B : Type 0} → Result A Refusal → (A → Result B Refusal) → Result B Refusal
@@ -46,7 +46,7 @@ some_bytes len = wanted refusals.Empty (not (len == 0))
 
 -- ---- ranges
 
-abbrev pub buffer_of : Fixed → ℕ → Span
+abbrev pub buffer_of : DriverConfig → ℕ → Span
 buffer_of f buf = slice_index_or f.buffers buf (record { at = 0; len = 0 })
 
 -- so many bytes of a range, from an offset in it on
@@ -59,7 +59,7 @@ all_some [] = Ok tt
 all_some (e ∷ es) = some_bytes e.len >>= λ _. all_some es
 
 -- their ranges, each of which ends in its buffer
-abbrev pub ranges_of : Fixed → List SgEntry → Result (List Span) Refusal
+abbrev pub ranges_of : DriverConfig → List SgEntry → Result (List Span) Refusal
 ranges_of f [] = Ok []
 ranges_of f (e ∷ es) = part_of (buffer_of f e.buf) e.off e.len >>= λ range. ranges_of f es >>= λ ranges. Ok (range ∷ ranges)
 
@@ -118,9 +118,9 @@ abbrev pub small_enough : List Lot → Result (Unit {0}) Refusal
 small_enough lots = wanted refusals.TooBig (not (list_any has_big lots))
 
 -- where a slot is wanted there are slots
-abbrev pub slots_there : Fixed → List Lot → Result (Unit {0}) Refusal
+abbrev pub slots_there : DriverConfig → List Lot → Result (Unit {0}) Refusal
 slots_there f lots = wanted refusals.NoSlot (not (some_lot_waits lots && f.slots == 0))
 
 -- what is asked of new lots last
-abbrev pub placeable : Fixed → List Lot → Result (List Lot) Refusal
+abbrev pub placeable : DriverConfig → List Lot → Result (List Lot) Refusal
 placeable f lots = small_enough lots >>= λ _. slots_there f lots >>= λ _. Ok lots

@@ -19,8 +19,8 @@ abbrev pub chan : ℕ → ChanNo
 chan n = record { 0 = n }
 
 -- a driver's turn: a try where it searches for a slot, else its next step
-abbrev pub turn_of : WorldState → ℕ → Event
-turn_of w h = if is_some (searching (driver_of w h)) then Try (hart h) else Issue (hart h)
+abbrev pub turn_event : WorldState → ℕ → Event
+turn_event w h = if is_some (searching (driver_of w h)) then Try (hart h) else Issue (hart h)
 
 -- ---- seeded draws: two words an event, a and b
 
@@ -35,7 +35,7 @@ size_of sc = record { harts = length sc.harts; blocks = sc.ram / sc.block_size }
 -- the event of two words: a's low four bits choose its kind, the others hart or channel, and b the entry or block
 abbrev pub event_of : WorldState → Size → ℕ → ℕ → Event
 event_of w s a b =
-    if nat_lt (a % 16) 7 then turn_of w (a / 16 % s.harts)
+    if nat_lt (a % 16) 7 then turn_event w (a / 16 % s.harts)
     else (if nat_lt (a % 16) 10 then Drain (hart (a / 16 % s.harts)) (b % 8)
     else (if nat_lt (a % 16) 12 then ChanRead (chan (a / 16 % 4))
     else (if nat_lt (a % 16) 14 then ChanWrite (chan (a / 16 % 4))
@@ -77,7 +77,7 @@ channel_event j = if j % 2 == 0 then ChanRead (chan (j / 2)) else ChanWrite (cha
 
 abbrev pub round_event : ℕ → WorldState → ℕ → Event
 round_event harts w i =
-    if nat_lt i harts then turn_of w i else (if nat_lt i (2 * harts) then Drain (hart (i - harts)) 0 else channel_event (i - 2 * harts))
+    if nat_lt i harts then turn_event w i else (if nat_lt i (2 * harts) then Drain (hart (i - harts)) 0 else channel_event (i - 2 * harts))
 
 -- the length of a round
 abbrev pub round_len : ℕ → ℕ
@@ -96,13 +96,13 @@ is_nothing [] = true
 is_nothing (r ∷ rs) = false
 
 -- whether each of these events is skipped: an event that is done has a record
-unfoldable pub is_idle : WorldState → List Event → Bool
-is_idle w es = is_nothing (records w es)
+unfoldable pub no_event_enabled : WorldState → List Event → Bool
+no_event_enabled w es = is_nothing (records w es)
 
 -- rounds up to the first in which every event is skipped, at most n of them
 unfoldable pub rounds : ℕ → ℕ → WorldState → List Event
 rounds harts zero w = []
-rounds harts (suc n) w = round harts w ++ (if is_idle w (round harts w) then [] else rounds harts n (after w (round harts w)))
+rounds harts (suc n) w = round harts w ++ (if no_event_enabled w (round harts w) then [] else rounds harts n (after w (round harts w)))
 
 -- what follows the plan
 abbrev pub finishing : Bool → ℕ → ℕ → WorldState → List Event

@@ -12,7 +12,7 @@ use Rattle.nc_scen.specs.Regions.{pool_of}
 use Rattle.nc_rules.specs.declared.steps.Phase.TheVariants.{Steps}
 use Rattle.nc_rules.specs.declared.steps.Seen.TheVariants.{Nothing}
 use Rattle.nc_rules.specs.Machine.{MachineState, fresh}
-use Rattle.nc_rules.specs.Lots.{Fixed}
+use Rattle.nc_rules.specs.Lots.{DriverConfig}
 use Rattle.nc_rules.specs.Driver.{DriverState}
 
 -- the first bytes of a buffer
@@ -41,7 +41,7 @@ hart_spec sc h = slice_index_or sc.harts h no_hart_spec
 abbrev pub pbmte_of : ℕ → Bool
 pbmte_of menvcfg = menvcfg / 2 ^ 62 % 2 == 1
 
-abbrev pub fixed_of : Scenario → HartNo → HartSpec → Fixed
+abbrev pub fixed_of : Scenario → HartNo → HartSpec → DriverConfig
 fixed_of sc me h = record {
   me = me;
   effects = effects_of h.mode h.menvcfg h.senvcfg;

@@ -17,7 +17,7 @@ use Rattle.nc_rules.specs.declared.steps.PageMove.{PageMove}
 use Rattle.nc_rules.specs.declared.steps.PageMove.TheVariants as pages
 use Rattle.nc_rules.specs.declared.steps.Turn.{Turn}
 use Rattle.nc_rules.specs.declared.steps.Turn.TheVariants as turns
-use Rattle.nc_rules.specs.Lots.{Fixed, is_lot, is_wanted, only_entry, each_entry, grant_of, owner_of_side, slots_held}
+use Rattle.nc_rules.specs.Lots.{DriverConfig, is_lot, is_wanted, only_entry, each_entry, grant_of, owner_of_side, slots_held}
 
 -- what a call of a driver changes beside the driver: owners and grants, mappings that end, slots given back, pages,
 -- and the answer of the operation where it ends with one
@@ -178,7 +178,7 @@ turned_by me slots_at lots first last answer = record {
   answer = answer;
 }
 
-abbrev pub turned : Fixed → List Lot → Turn → Turn → Option Answer → Moved
+abbrev pub turned : DriverConfig → List Lot → Turn → Turn → Option Answer → Moved
 turned f lots first last answer = turned_by f.me f.slots_at lots first last answer
 
 -- ---- giving up before anything is lent

@@ -17,10 +17,10 @@ use Rattle.nc_rules.specs.Events.{enabled}
 use Rattle.nc_rules.specs.Next.{next, event_records}
 use Rattle.nc_rules.specs.Run as run
 use Rattle.nc_rules.specs.Outcomes.{outcome}
-use Rattle.nc_rules.specs.Schedule.{Size, size_of, after_words, drawn, draws, round_event, round_len, round_from, round, rounds, finishing, is_idle, is_nothing, sched}
+use Rattle.nc_rules.specs.Schedule.{Size, size_of, after_words, drawn, draws, round_event, round_len, round_from, round, rounds, finishing, no_event_enabled, is_nothing, sched}
 use Rattle.nc_sched.specs.declared.sched.Phase.{Phase}
 use Rattle.nc_sched.specs.declared.sched.Phase.TheVariants as phases
-use Rattle.nc_sched.specs.Stands.{Stand, listed, first_stand, heard, harts_of, round_on, then_rounds, follow, to_come, settled, given, next_phase, next_generator}
+use Rattle.nc_sched.specs.Stands.{Stand, listed, first_stand, after_answer, harts_of, round_on, then_rounds, follow, to_come, enter_round, given, next_phase, next_generator}
 
 -- ---- fronts of lists
 
@@ -64,8 +64,8 @@ rounds-same harts (suc n) zero (suc k) w a b = absurd (omega arith)
 rounds-same harts (suc n) (suc m) k w a b =
     let es = round harts w in
     let u = run.after w es in
-    take-front-less k es (if is_idle w es then [] else rounds harts n u) (if is_idle w es then [] else rounds harts m u) (some-round harts w)
-    (λ j less. choose-same (is_idle w es) j (rounds harts n u) (rounds harts m u) (rounds-same harts n m j u (omega arith) (omega arith)))
+    take-front-less k es (if no_event_enabled w es then [] else rounds harts n u) (if no_event_enabled w es then [] else rounds harts m u) (some-round harts w)
+    (λ j less. choose-same (no_event_enabled w es) j (rounds harts n u) (rounds harts m u) (rounds-same harts n m j u (omega arith) (omega arith)))
 
 finishing-same : (f : Bool) (harts n m k : ℕ) (w : WorldState) → k ≤ n → k ≤ m → take k (finishing f harts n w) ≡ take k (finishing f harts m w)
 finishing-same true harts n m k w a b = rounds-same harts n m k w a b
@@ -83,8 +83,8 @@ begins harts zero (suc k) w le = absurd (omega arith)
 begins harts (suc n) k w le =
     let es = round harts w in
     let u = run.after w es in
-    take-front-less k es (if is_idle w es then [] else rounds harts n u) (if not (is_idle w es) then rounds harts (suc n) u else []) (some-round harts w)
-    (λ j less. turn (is_idle w es) j (rounds harts n u) (rounds harts (suc n) u) (rounds-same harts n (suc n) j u (omega arith) (omega arith)))
+    take-front-less k es (if no_event_enabled w es then [] else rounds harts n u) (if not (no_event_enabled w es) then rounds harts (suc n) u else []) (some-round harts w)
+    (λ j less. turn (no_event_enabled w es) j (rounds harts n u) (rounds harts (suc n) u) (rounds-same harts n (suc n) j u (omega arith) (omega arith)))
 
 -- ---- one element of a list
 
@@ -148,7 +148,7 @@ past-round sc n at moved g w h =
     let none = no-round harts at (round_len harts - at) w (omega (arith, le)) in
     ap (λ (es : List Event). round_on harts n moved es w) none ∙ ap (λ (m : Bool). round_on harts n m [] w) p.1
 
-pub settle : (sc : Scenario) (n k : ℕ) (p : Phase) (g : Lcg) (w : WorldState) → k ≤ n → take k (follow sc n p g w) ≡ take k (follow sc n (settled sc p) g w)
+pub settle : (sc : Scenario) (n k : ℕ) (p : Phase) (g : Lcg) (w : WorldState) → k ≤ n → take k (follow sc n p g w) ≡ take k (follow sc n (enter_round sc p) g w)
 settle sc n k (phases.List i) g w le = settle-if sc n k (phases.List i) g w (leb (length (listed sc.plan)) i && sc.finish) le (λ h. past-list sc n i g w h)
 settle sc n k (phases.Drawn m) g w le = settle-if sc n k (phases.Drawn m) g w (m == 0 && sc.finish) le (λ h. past-draws sc n m g w h)
 settle sc n k (phases.Round at moved) g w le = settle-if sc n k (phases.Round at moved) g w (leb (round_len (harts_of sc)) at && moved) le (λ h. past-round sc n at moved g w h)
@@ -175,8 +175,8 @@ done-by true false e rs later = refl
 done-by false true e rs later = refl
 done-by false false e rs later = refl
 
-done-here : (moved : Bool) (w : WorldState) (e : Event) (rest : List Event) → (moved || not (is_idle w (e ∷ rest))) ≡ ((moved || done w e) || not (is_idle (next w e) rest))
-unfolding is_idle run.records event_records
+done-here : (moved : Bool) (w : WorldState) (e : Event) (rest : List Event) → (moved || not (no_event_enabled w (e ∷ rest))) ≡ ((moved || done w e) || not (no_event_enabled (next w e) rest))
+unfolding no_event_enabled run.records event_records
 done-here moved w e rest = done-by (enabled w e) moved e (outcome w e).records (run.records (next w e) rest)
 
 step-round : (harts m : ℕ) (moved : Bool) (es rest : List Event) (e : Event) (w : WorldState) → es ≡ e ∷ rest
@@ -184,8 +184,8 @@ step-round : (harts m : ℕ) (moved : Bool) (es rest : List Event) (e : Event) (
 unfolding run.after round_on
 step-round harts m moved es rest e w here =
     let u = run.after (next w e) rest in
-    let before = moved || not (is_idle w (e ∷ rest)) in
-    let now = (moved || done w e) || not (is_idle (next w e) rest) in
+    let before = moved || not (no_event_enabled w (e ∷ rest)) in
+    let now = (moved || done w e) || not (no_event_enabled (next w e) rest) in
     ap (λ (fs : List Event). take (suc m) (round_on harts (suc m) moved fs w)) here
     ∙ ap (λ (fs : List Event). e ∷ fs) (take-front m rest (if before then rounds harts (suc m) u else []) (if now then rounds harts m u else [])
     (λ j le. ap (λ (t : Bool). take j (if t then rounds harts (suc m) u else [])) (done-here moved w e rest) ∙ choose-more now j (rounds harts (suc m) u) (rounds harts m u) (rounds-same harts (suc m) m j u (omega arith) le)))
@@ -224,7 +224,7 @@ some-left harts at w e h =
     ap (λ n. round_from harts at n w) count ∙ round-more harts at (round_len harts - (at + 1)) w e p.1
 
 pub step : (sc : Scenario) (m : ℕ) (p : Phase) (g : Lcg) (w : WorldState) (e : Event) → given sc p g w ≡ Some e
-    → take (suc m) (follow sc (suc m) p g w) ≡ e ∷ take m (follow sc m (heard (next_phase p) (done w e)) (next_generator p g) (next w e))
+    → take (suc m) (follow sc (suc m) p g w) ≡ e ∷ take m (follow sc m (after_answer (next_phase p) (done w e)) (next_generator p g) (next w e))
 unfolding follow
 step sc m (phases.List i) g w e h = step-plan sc m (drop i (listed sc.plan)) (drop (i + 1) (listed sc.plan)) e w (drop-step (listed sc.plan) i e h)
 step sc m (phases.Drawn k) g w e h = step-plan sc m (draws k (size_of sc) g w) (draws (k - 1) (size_of sc) (after_words g) (next w e)) e w (some-draw k (size_of sc) g w e h)
@@ -271,7 +271,7 @@ none-given false e h = refl
 
 ends-round : (sc : Scenario) (n at : ℕ) (moved : Bool) (g : Lcg) (w : WorldState) (t : Bool) → (leb (round_len (harts_of sc)) at && moved) ≡ t
     → given sc (if t then phases.Round 0 false else phases.Round at moved) g w ≡ None → follow sc n (if t then phases.Round 0 false else phases.Round at moved) g w ≡ []
-unfolding follow round_on is_idle run.records
+unfolding follow round_on no_event_enabled run.records
 ends-round sc n at moved g w true e h = absurd (no-round-event sc g w h)
 ends-round sc n at moved g w false e h =
     let harts = harts_of sc in
@@ -281,7 +281,7 @@ ends-round sc n at moved g w false e h =
     let none = no-round harts at (round_len harts - at) w (omega (arith, past)) in
     ap (λ (es : List Event). round_on harts n moved es w) none ∙ ap (λ (m : Bool). round_on harts n m [] w) still
 
-pub ends : (sc : Scenario) (n : ℕ) (p : Phase) (g : Lcg) (w : WorldState) → given sc (settled sc p) g w ≡ None → follow sc n (settled sc p) g w ≡ []
+pub ends : (sc : Scenario) (n : ℕ) (p : Phase) (g : Lcg) (w : WorldState) → given sc (enter_round sc p) g w ≡ None → follow sc n (enter_round sc p) g w ≡ []
 ends sc n (phases.List i) g w h = ends-list sc n i g w (leb (length (listed sc.plan)) i && sc.finish) refl h
 ends sc n (phases.Drawn k) g w h = ends-draws sc n k g w (k == 0 && sc.finish) refl h
 ends sc n (phases.Round at moved) g w h = ends-round sc n at moved g w (leb (round_len (harts_of sc)) at && moved) refl h
@@ -290,21 +290,21 @@ ends sc n (phases.Round at moved) g w h = ends-round sc n at moved g w (leb (rou
 
 pub to_come-none : (sc : Scenario) (s : Stand) (w : WorldState) (was_done : Bool) → s.left ≡ 0 → to_come sc s w was_done ≡ []
 unfolding to_come
-to_come-none sc s w was_done e = ap (λ n. take n (follow sc s.left (heard s.phase was_done) s.generator w)) e
+to_come-none sc s w was_done e = ap (λ n. take n (follow sc s.left (after_answer s.phase was_done) s.generator w)) e
 
-pub to_come-end : (sc : Scenario) (s : Stand) (w : WorldState) (was_done : Bool) → given sc (settled sc (heard s.phase was_done)) s.generator w ≡ None → to_come sc s w was_done ≡ []
+pub to_come-end : (sc : Scenario) (s : Stand) (w : WorldState) (was_done : Bool) → given sc (enter_round sc (after_answer s.phase was_done)) s.generator w ≡ None → to_come sc s w was_done ≡ []
 unfolding to_come
 to_come-end sc s w was_done h =
-    let p = heard s.phase was_done in
+    let p = after_answer s.phase was_done in
     settle sc s.left s.left p s.generator w (omega arith) ∙ ap (λ (es : List Event). take s.left es) (ends sc s.left p s.generator w h) ∙ take-nil s.left
 
-pub to_come-step : (sc : Scenario) (n m : ℕ) (p : Phase) (g : Lcg) (w : WorldState) (was_done : Bool) (e : Event) → n ≡ suc m → given sc (settled sc (heard p was_done)) g w ≡ Some e
+pub to_come-step : (sc : Scenario) (n m : ℕ) (p : Phase) (g : Lcg) (w : WorldState) (was_done : Bool) (e : Event) → n ≡ suc m → given sc (enter_round sc (after_answer p was_done)) g w ≡ Some e
     → to_come sc (record { left = n; phase = p; generator = g }) w was_done
-    ≡ e ∷ to_come sc (record { left = m; phase = next_phase (settled sc (heard p was_done)); generator = next_generator (settled sc (heard p was_done)) g }) (next w e) (enabled w e)
+    ≡ e ∷ to_come sc (record { left = m; phase = next_phase (enter_round sc (after_answer p was_done)); generator = next_generator (enter_round sc (after_answer p was_done)) g }) (next w e) (enabled w e)
 unfolding to_come
 to_come-step sc n m p g w was_done e is h =
-    let q = heard p was_done in
-    settle sc n n q g w (omega arith) ∙ ap (λ k. take k (follow sc k (settled sc q) g w)) is ∙ step sc m (settled sc q) g w e h
+    let q = after_answer p was_done in
+    settle sc n n q g w (omega arith) ∙ ap (λ k. take k (follow sc k (enter_round sc q) g w)) is ∙ step sc m (enter_round sc q) g w e h
 
 -- at the start all events of the schedule are to come
 start-by : (sc : Scenario) (p : Plan) → sc.plan ≡ p → to_come sc (first_stand sc) (start sc) false ≡ sched sc

@@ -19,7 +19,7 @@ use Rattle.nc_rules.specs.World.{WorldState, hart, driver_of, start}
 use Rattle.nc_rules.specs.Next.{next}
 use Rattle.nc_rules.specs.Run as run
 use Rattle.nc_rules.specs.Flat.{AreThere}
-use Rattle.nc_rules.specs.Schedule.{Size, size_of, begun, first_word, second_word, after_words, turn_of, event_of, drawn, draws, planned, plan_events, channel_event, round_event, round_len, round_from, round, rounds, finishing, is_idle, sched, chan}
+use Rattle.nc_rules.specs.Schedule.{Size, size_of, begun, first_word, second_word, after_words, turn_event, event_of, drawn, draws, planned, plan_events, channel_event, round_event, round_len, round_from, round, rounds, finishing, no_event_enabled, sched, chan}
 use Rattle.nc_sched.specs.declared.sched.Phase.{Phase}
 use Rattle.nc_sched.specs.declared.sched.Phase.TheVariants as phases
 use Rattle.nc_sched.specs.Stands.{listed, given, harts_of}
@@ -42,7 +42,7 @@ if_is_by : (harts size ram : ℕ) (t : Bool) (a b : Event) → (t ≡ true → I
 if_is_by harts size ram true a b p q = p refl
 if_is_by harts size ram false a b p q = q refl
 
-turn_is : (harts size ram : ℕ) (w : WorldState) (h : ℕ) → h < harts → Is harts size ram (turn_of w h)
+turn_is : (harts size ram : ℕ) (w : WorldState) (h : ℕ) → h < harts → Is harts size ram (turn_event w h)
 turn_is harts size ram w h less = if_is harts size ram (is_some (searching (driver_of w h))) (Try (hart h)) (Issue (hart h)) less less
 
 -- a block whose number is below the number of blocks lies in RAM
@@ -75,7 +75,7 @@ event_is harts size ram w a b p =
     let four = if nat_lt (a % 16) 14 then ChanWrite (chan (a / 16 % 4)) else five in
     let three = if nat_lt (a % 16) 12 then ChanRead (chan (a / 16 % 4)) else four in
     let two = if nat_lt (a % 16) 10 then Drain (hart h) (b % 8) else three in
-    if_is harts size ram (nat_lt (a % 16) 7) (turn_of w h) two (turn_is harts size ram w h less)
+    if_is harts size ram (nat_lt (a % 16) 7) (turn_event w h) two (turn_is harts size ram w h less)
     (if_is harts size ram (nat_lt (a % 16) 10) (Drain (hart h) (b % 8)) three less
     (if_is harts size ram (nat_lt (a % 16) 12) (ChanRead (chan (a / 16 % 4))) four channel
     (if_is harts size ram (nat_lt (a % 16) 14) (ChanWrite (chan (a / 16 % 4))) five channel
@@ -86,7 +86,7 @@ round_is harts size ram w i p less =
     let j = i - 2 * harts in
     let channel : j / 2 < 4 = omega (arith, less) in
     let last = if nat_lt i (2 * harts) then Drain (hart (i - harts)) 0 else channel_event j in
-    if_is_by harts size ram (nat_lt i harts) (turn_of w i) last (λ t. turn_is harts size ram w i (grind (arith, nat_tests)))
+    if_is_by harts size ram (nat_lt i harts) (turn_event w i) last (λ t. turn_is harts size ram w i (grind (arith, nat_tests)))
     (λ t. if_is_by harts size ram (nat_lt i (2 * harts)) (Drain (hart (i - harts)) 0) (channel_event j)
     (λ u. omega (arith, at_least i harts t, below i (2 * harts) u, p.some))
     (λ u. if_is harts size ram (j % 2 == 0) (ChanRead (chan (j / 2))) (ChanWrite (chan (j / 2))) channel channel))
@@ -158,7 +158,7 @@ rounds_there harts size ram zero w p = none_there harts size ram
 rounds_there harts size ram (suc n) w p =
     let es = round harts w in
     let more = rounds harts n (run.after w es) in
-    All-append (Is harts size ram) es (if is_idle w es then [] else more) (round_there harts size ram w p) (if_there harts size ram (is_idle w es) more (rounds_there harts size ram n (run.after w es) p))
+    All-append (Is harts size ram) es (if no_event_enabled w es then [] else more) (round_there harts size ram w p) (if_there harts size ram (no_event_enabled w es) more (rounds_there harts size ram n (run.after w es) p))
 
 finishing_there : (harts size ram n : ℕ) (f : Bool) (w : WorldState) → HasParts harts size ram → All (Is harts size ram) (finishing f harts n w)
 finishing_there harts size ram n true w p = rounds_there harts size ram n w p

@@ -7,7 +7,7 @@ use Rattle.nc_scen.specs.declared.scenario.Plan.TheVariants as plans
 use Rattle.nc_scen.specs.declared.scenario.Scenario.{Scenario}
 use Rattle.nc_rules.specs.World.{WorldState}
 use Rattle.nc_rules.specs.Run.{after}
-use Rattle.nc_rules.specs.Schedule.{size_of, begun, after_words, drawn, draws, round_event, round_len, round_from, rounds, finishing, is_idle}
+use Rattle.nc_rules.specs.Schedule.{size_of, begun, after_words, drawn, draws, round_event, round_len, round_from, rounds, finishing, no_event_enabled}
 use Rattle.nc_world.specs.declared.world.Stepped.{Stepped}
 use Rattle.nc_world.specs.declared.world.Stepped.TheVariants.{Done, Skipped}
 use Rattle.nc_sched.specs.declared.sched.Phase.{Phase}
@@ -43,17 +43,17 @@ is_done (Some Done) = true
 is_done (Some Skipped) = false
 
 -- the phase once the last event is answered: whether it was done counts in a round
-abbrev pub heard : Phase → Bool → Phase
-heard (phases.List i) was_done = phases.List i
-heard (phases.Drawn k) was_done = phases.Drawn k
-heard (phases.Round at moved) was_done = phases.Round at (moved || was_done)
+abbrev pub after_answer : Phase → Bool → Phase
+after_answer (phases.List i) was_done = phases.List i
+after_answer (phases.Drawn k) was_done = phases.Drawn k
+after_answer (phases.Round at moved) was_done = phases.Round at (moved || was_done)
 
 abbrev pub harts_of : Scenario → ℕ
 harts_of sc = length sc.harts
 
 -- the events of a round that are left, and further rounds where one of the round is done
 unfoldable pub round_on : ℕ → ℕ → Bool → List Event → WorldState → List Event
-round_on harts n moved es w = es ++ (if moved || not (is_idle w es) then rounds harts n (after w es) else [])
+round_on harts n moved es w = es ++ (if moved || not (no_event_enabled w es) then rounds harts n (after w es) else [])
 
 -- events, and the rounds that are wanted behind them
 abbrev pub then_rounds : Scenario → ℕ → List Event → WorldState → List Event
@@ -67,13 +67,13 @@ follow sc n (phases.Round at moved) g w = round_on (harts_of sc) n moved (round_
 
 -- the events that are still to come, from the state of the world and whether the last event was done
 unfoldable pub to_come : Scenario → Stand → WorldState → Bool → List Event
-to_come sc s w was_done = take s.left (follow sc s.left (heard s.phase was_done) s.generator w)
+to_come sc s w was_done = take s.left (follow sc s.left (after_answer s.phase was_done) s.generator w)
 
 -- at the start of a round, where one begins here
-abbrev pub settled : Scenario → Phase → Phase
-settled sc (phases.List i) = if nat_le (length (listed sc.plan)) i && sc.finish then phases.Round 0 false else phases.List i
-settled sc (phases.Drawn k) = if k == 0 && sc.finish then phases.Round 0 false else phases.Drawn k
-settled sc (phases.Round at moved) = if nat_le (round_len (harts_of sc)) at && moved then phases.Round 0 false else phases.Round at moved
+abbrev pub enter_round : Scenario → Phase → Phase
+enter_round sc (phases.List i) = if nat_le (length (listed sc.plan)) i && sc.finish then phases.Round 0 false else phases.List i
+enter_round sc (phases.Drawn k) = if k == 0 && sc.finish then phases.Round 0 false else phases.Drawn k
+enter_round sc (phases.Round at moved) = if nat_le (round_len (harts_of sc)) at && moved then phases.Round 0 false else phases.Round at moved
 
 -- the event at a settled phase
 abbrev pub given : Scenario → Phase → Lcg → WorldState → Option Event

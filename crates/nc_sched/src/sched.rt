@@ -6,8 +6,8 @@ ghost use Rattle.nc_scen.specs.Events.{IsThere};
 ghost use Rattle.nc_rules.specs.World.{start};
 ghost use Rattle.nc_rules.specs.Events.{enabled};
 ghost use Rattle.nc_rules.specs.Next.{next};
-ghost use Rattle.nc_rules.specs.Schedule.{turn_of, event_of, channel_event, round_event, round_len, size_of, begun, drawn, after_words, sched};
-ghost use Rattle.nc_sched.specs.Stands.{listed, first_phase, seed_of, first_stand, to_come, heard, is_done, settled, given, next_phase, next_generator};
+ghost use Rattle.nc_rules.specs.Schedule.{turn_event, event_of, channel_event, round_event, round_len, size_of, begun, drawn, after_words, sched};
+ghost use Rattle.nc_sched.specs.Stands.{listed, first_phase, seed_of, first_stand, to_come, after_answer, is_done, enter_round, given, next_phase, next_generator};
 
 use nc_num::{Block, ChanNo, HartNo};
 use nc_scen::{Event, Plan, Scenario};
@@ -89,9 +89,9 @@ pub fn seed_of(plan: &Plan) -> u64
 }
 
 /// A driver's turn: a try where it searches for a slot, else its next step.
-fn turn_of(w: &World, h: HartNo) -> Event
+fn turn_event(w: &World, h: HartNo) -> Event
     requires { h.0 < length w.now.at.machine.harts }
-    ensures { result ≡ turn_of w.now.at h.0 }
+    ensures { result ≡ turn_event w.now.at h.0 }
 {
     if w.searching(h).is_some() {
         return Event::Try(h);
@@ -111,7 +111,7 @@ fn event_of(w: &World, harts: u32, blocks: u32, a: u32, b: u32) -> Event
     let chan = ChanNo((a / 16 % 4) as u8);
     let kind = a % 16;
     if kind < 7 {
-        return turn_of(w, hart);
+        return turn_event(w, hart);
     }
     if kind < 10 {
         return Event::Drain(hart, (b % 8) as u8);
@@ -148,7 +148,7 @@ fn round_event(w: &World, harts: usize, i: usize) -> Event
     ensures { result ≡ round_event harts w.now.at i }
 {
     if i < harts {
-        return turn_of(w, HartNo(i as u8));
+        return turn_event(w, HartNo(i as u8));
     }
     if i < 2 * harts {
         return Event::Drain(HartNo((i - harts) as u8), 0);
@@ -157,8 +157,8 @@ fn round_event(w: &World, harts: usize, i: usize) -> Event
 }
 
 /// Where the schedule stands once the last event is answered.
-fn heard(phase: Phase, last: Option<Stepped>) -> Phase
-    ensures { result ≡ heard phase (is_done last) }
+fn after_answer(phase: Phase, last: Option<Stepped>) -> Phase
+    ensures { result ≡ after_answer phase (is_done last) }
 {
     match phase {
         Phase::List(i) => Phase::List(i),
@@ -171,9 +171,9 @@ fn heard(phase: Phase, last: Option<Stepped>) -> Phase
 }
 
 /// At the start of a round, where one begins here.
-fn settled(sc: &Scenario, phase: Phase) -> Phase
+fn enter_round(sc: &Scenario, phase: Phase) -> Phase
     requires { IsAccepted sc.now }
-    ensures { result ≡ settled sc.now phase }
+    ensures { result ≡ enter_round sc.now phase }
 {
     match phase {
         Phase::List(i) => {
@@ -240,7 +240,7 @@ impl Sched {
     }
 
     /// The event at which the settled schedule stands; it then stands behind it.
-    fn give(&mut self, sc: &Scenario, w: &World, phase: Phase) -> Option<Event>
+    fn take_event(&mut self, sc: &Scenario, w: &World, phase: Phase) -> Option<Event>
         requires accepted { IsAccepted sc.now }
         requires harts { length w.now.at.machine.harts ≡ length sc.now.harts }
         ensures event { result ≡ given sc.now phase self.old.generator w.now.at }
@@ -284,8 +284,8 @@ impl Sched {
         if self.left == 0 {
             return None;
         }
-        let phase = settled(sc, heard(self.phase, last));
-        let Some(e) = self.give(sc, w, phase) else {
+        let phase = enter_round(sc, after_answer(self.phase, last));
+        let Some(e) = self.take_event(sc, w, phase) else {
             return None;
         };
         self.left -= 1;

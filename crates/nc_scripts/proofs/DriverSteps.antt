@@ -42,7 +42,7 @@ use Rattle.nc_rules.specs.declared.steps.Step.{Step}
 use Rattle.nc_rules.specs.Machine.{MachineState}
 use Rattle.nc_rules.specs.declared.lots.Kind.TheVariants.{Area}
 use Rattle.nc_rules.specs.declared.lots.Lot.{Lot}
-use Rattle.nc_rules.specs.Lots.{Fixed, only_entry}
+use Rattle.nc_rules.specs.Lots.{DriverConfig, only_entry}
 use Rattle.nc_rules.specs.Refusals.{◌>>=◌, wanted, some_bytes, buffer_of, part_of, legal, named}
 use Rattle.nc_rules.specs.Plans.{step, hart_step, single, control_step}
 use Rattle.nc_rules.specs.Accesses.{spot_at, piece_step}
@@ -80,7 +80,7 @@ wanted_is r false u e = absurd (cc)
 -- ---- steps
 
 -- what a step needs of what the driver knows
-pub record IsLaid (ram : ℕ) (f : Fixed) : Type 0 where
+pub record IsLaid (ram : ℕ) (f : DriverConfig) : Type 0 where
   pub ram_small : ram ≤ 1048576
   pub ram_whole : ram % 4096 ≡ 0
   pub sized : IsBlockSize f.size
@@ -94,27 +94,27 @@ abbrev pub AreasLie : ℕ → List Lot → Type 0
 AreasLie ram lots = (label : Label) (lot : Lot) → named lots label Area ≡ Ok lot → IsRangeIn ram (only_entry lot).span
 
 -- step n of an operation is there, whatever was loaded before it, and n is small
-pub record IsStep (ram harts : ℕ) (f : Fixed) (n : ℕ) (s : Step) : Type 0 where
+pub record IsStep (ram harts : ℕ) (f : DriverConfig) (n : ℕ) (s : Step) : Type 0 where
   pub there : StepIsThere ram harts f s
   pub few : n < 4096
   pub free : (k : ℕ) → ActFitsLast k s.act
 
-is_single : (ram harts : ℕ) (f : Fixed) (t : Step) (n : ℕ) (s : Step) → StepIsThere ram harts f t → ((k : ℕ) → ActFitsLast k t.act) → single t n ≡ Some s → IsStep ram harts f n s
+is_single : (ram harts : ℕ) (f : DriverConfig) (t : Step) (n : ℕ) (s : Step) → StepIsThere ram harts f t → ((k : ℕ) → ActFitsLast k t.act) → single t n ≡ Some s → IsStep ram harts f n s
 is_single ram harts f t zero s h k e =
     let same : t ≡ s = cc in
     subst (λ (x : Step). IsStep ram harts f zero x) same (record { there = h; few = omega arith; free = k })
 is_single ram harts f t (suc n) s h k e = absurd (cc)
 
-is_single_ok : (ram harts : ℕ) (f : Fixed) (t : Step) (n : ℕ) (s : Step) → StepIsThere ram harts f t → ((k : ℕ) → ActFitsLast k t.act) → ◌≡◌ {A = Result (Option Step) Refusal} (Ok (single t n)) (Ok (Some s)) → IsStep ram harts f n s
+is_single_ok : (ram harts : ℕ) (f : DriverConfig) (t : Step) (n : ℕ) (s : Step) → StepIsThere ram harts f t → ((k : ℕ) → ActFitsLast k t.act) → ◌≡◌ {A = Result (Option Step) Refusal} (Ok (single t n)) (Ok (Some s)) → IsStep ram harts f n s
 is_single_ok ram harts f t n s h k e = is_single ram harts f t n s h k (cc)
 
-stays : (ram harts : ℕ) (f : Fixed) (op : HartOp) → ((m : MachineState) (h : ℕ) → IsDriven ram harts f m → OpIsThere m h op) → StepIsThere ram harts f (hart_step op)
+stays : (ram harts : ℕ) (f : DriverConfig) (op : HartOp) → ((m : MachineState) (h : ℕ) → IsDriven ram harts f m → OpIsThere m h op) → StepIsThere ram harts f (hart_step op)
 stays ram harts f op h = record { act = h; first = tt; last = tt }
 
 -- ---- accesses
 
 -- part of a buffer
-pub buffer_is : (ram harts : ℕ) (f : Fixed) (buf : ℕ) → IsLaid ram f → buf < length f.buffers → IsRangeIn ram (buffer_of f buf)
+pub buffer_is : (ram harts : ℕ) (f : DriverConfig) (buf : ℕ) → IsLaid ram f → buf < length f.buffers → IsRangeIn ram (buffer_of f buf)
 buffer_is ram harts f buf h lt = h.buffers buf (record { at = 0; len = 0 }) lt
 
 part_by : (t : Bool) (range : Span) (off len : ℕ) (part : Span) → nat_le (off + len) range.len ≡ t
@@ -127,11 +127,11 @@ pub part_is : (range : Span) (off len : ℕ) (part : Span) → part_of range off
 part_is range off len part e = part_by (nat_le (off + len) range.len) range off len part refl e
 
 -- where an access lies that passed
-pub record IsPlace (ram : ℕ) (f : Fixed) (len : ℕ) (to : At) : Type 0 where
+pub record IsPlace (ram : ℕ) (f : DriverConfig) (len : ℕ) (to : At) : Type 0 where
   pub mapped : IsMapped ram to f.table len
   pub ends : (home ram to len).at + (home ram to len).len ≤ ram
 
-place_in : (ram harts : ℕ) (f : Fixed) (range : Span) (kind : MemType) (off len : ℕ) (to : At) → IsRangeIn ram range
+place_in : (ram harts : ℕ) (f : DriverConfig) (range : Span) (kind : MemType) (off len : ℕ) (to : At) → IsRangeIn ram range
     → part_of range off len >>= (λ part. Ok (at.Ram part.at kind)) ≡ Ok to → IsPlace ram f len to
 place_in ram harts f range kind off len to h e =
     let p = passed (part_of range off len) (λ part. Ok (at.Ram part.at kind)) to e in
@@ -139,7 +139,7 @@ place_in ram harts f range kind off len to h e =
     let same : at.Ram (range.at + off) kind ≡ to = cc (ap (λ (s : Span). at.Ram s.at kind) k.0, p.rest) in
     subst (λ (t : At). IsPlace ram f len t) same (record { mapped = tt; ends = omega (arith, k.1, h.ends) })
 
-place_of : (ram harts : ℕ) (f : Fixed) (lots : List Lot) (spot : Spot) (off len : ℕ) (to : At) → IsLaid ram f → AreasLie ram lots → FitsSpot (length f.buffers) spot
+place_of : (ram harts : ℕ) (f : DriverConfig) (lots : List Lot) (spot : Spot) (off len : ℕ) (to : At) → IsLaid ram f → AreasLie ram lots → FitsSpot (length f.buffers) spot
     → spot_at f lots spot off len ≡ Ok to → IsPlace ram f len to
 place_of ram harts f lots (spots.Buffer buf) off len to h areas fits e =
     let p = passed (some_bytes len) (λ _. part_of (buffer_of f buf) off len >>= λ part. Ok (at.Ram part.at Pma)) to e in
@@ -173,7 +173,7 @@ piece_is (Ok None) s e = absurd (cc)
 piece_is (Ok (Some op)) s e = (op, refl, cc)
 piece_is (Err fault) s e = absurd (cc)
 
-load_there : (ram harts : ℕ) (f : Fixed) (to : At) (len n : ℕ) (op : HartOp) → IsLoad ram to f.pbmte f.table len n op → IsPlace ram f len to → (m : MachineState) (h : ℕ) → IsDriven ram harts f m → OpIsThere m h op
+load_there : (ram harts : ℕ) (f : DriverConfig) (to : At) (len n : ℕ) (op : HartOp) → IsLoad ram to f.pbmte f.table len n op → IsPlace ram f len to → (m : MachineState) (h : ℕ) → IsDriven ram harts f m → OpIsThere m h op
 load_there ram harts f to len n op k p m h d =
     subst (λ (o : HartOp). OpIsThere m h o) (sym k.loads) (record {
       len = k.placed.natural.size;
@@ -181,7 +181,7 @@ load_there ram harts f to len n op k p m h d =
       inside = rw d.memory (inside ram (home ram to len) k.there k.placed.lies p.ends);
     })
 
-store_there : (ram harts : ℕ) (f : Fixed) (to : At) (bytes : List ℕ) (n : ℕ) (op : HartOp) → IsStore ram to f.pbmte f.table bytes n op → IsPlace ram f (length bytes) to → (m : MachineState) (h : ℕ) → IsDriven ram harts f m → OpIsThere m h op
+store_there : (ram harts : ℕ) (f : DriverConfig) (to : At) (bytes : List ℕ) (n : ℕ) (op : HartOp) → IsStore ram to f.pbmte f.table bytes n op → IsPlace ram f (length bytes) to → (m : MachineState) (h : ℕ) → IsDriven ram harts f m → OpIsThere m h op
 store_there ram harts f to bytes n op k p m h d =
     subst (λ (o : HartOp). OpIsThere m h o) (sym k.stores) (record {
       piece = record {
@@ -192,7 +192,7 @@ store_there ram harts f to bytes n op k p m h d =
       whole = k.whole;
     })
 
-same_step : (ram harts : ℕ) (f : Fixed) (op : HartOp) (s : Step) (n : ℕ) → hart_step op ≡ s → ((m : MachineState) (h : ℕ) → IsDriven ram harts f m → OpIsThere m h op) → ((k : ℕ) → FitsLast k op) → n < 4096 → IsStep ram harts f n s
+same_step : (ram harts : ℕ) (f : DriverConfig) (op : HartOp) (s : Step) (n : ℕ) → hart_step op ≡ s → ((m : MachineState) (h : ℕ) → IsDriven ram harts f m → OpIsThere m h op) → ((k : ℕ) → FitsLast k op) → n < 4096 → IsStep ram harts f n s
 same_step ram harts f op s n e h free few = subst (λ (x : Step). IsStep ram harts f n x) e (record { there = stays ram harts f op h; few = few; free = free })
 
 load_free : (k : ℕ) (span : Span) (kind : MemType) (op : HartOp) → op ≡ hart.Load span kind → FitsLast k op
@@ -201,7 +201,7 @@ load_free k span kind op e = subst (λ (o : HartOp). FitsLast k o) (sym e) tt
 store_free : (k : ℕ) (span : Span) (kind : MemType) (given : List ℕ) (op : HartOp) → op ≡ hart.Store span kind (Given given) → FitsLast k op
 store_free k span kind given op e = subst (λ (o : HartOp). FitsLast k o) (sym e) tt
 
-load_is : (ram harts : ℕ) (f : Fixed) (lots : List Lot) (spot : Spot) (off len n : ℕ) (s : Step) → IsLaid ram f → AreasLie ram lots → FitsSpot (length f.buffers) spot → len ≤ 4096
+load_is : (ram harts : ℕ) (f : DriverConfig) (lots : List Lot) (spot : Spot) (off len n : ℕ) (s : Step) → IsLaid ram f → AreasLie ram lots → FitsSpot (length f.buffers) spot → len ≤ 4096
     → (spot_at f lots spot off len >>= λ to. piece_step (load_step to f.pbmte f.table len n)) ≡ Ok (Some s) → IsStep ram harts f n s
 load_is ram harts f lots spot off len n s h areas fits short e =
     let p = passed (spot_at f lots spot off len) (λ to. piece_step (load_step to f.pbmte f.table len n)) (Some s) e in
@@ -210,7 +210,7 @@ load_is ram harts f lots spot off len n s h areas fits short e =
     let k = loads_are_pieces ram p.value f.pbmte f.table len n q.0 place.mapped q.1 in
     same_step ram harts f q.0 s n q.2 (load_there ram harts f p.value len n q.0 k place) (λ j. load_free j k.there k.kind q.0 k.loads) (few_pieces p.value len n k.piece short k.placed.numbered)
 
-store_is : (ram harts : ℕ) (f : Fixed) (lots : List Lot) (spot : Spot) (off : ℕ) (bytes : List ℕ) (n : ℕ) (s : Step) → IsLaid ram f → AreasLie ram lots → FitsSpot (length f.buffers) spot → length bytes ≤ 4096
+store_is : (ram harts : ℕ) (f : DriverConfig) (lots : List Lot) (spot : Spot) (off : ℕ) (bytes : List ℕ) (n : ℕ) (s : Step) → IsLaid ram f → AreasLie ram lots → FitsSpot (length f.buffers) spot → length bytes ≤ 4096
     → (spot_at f lots spot off (length bytes) >>= λ to. piece_step (store_step to f.pbmte f.table bytes n)) ≡ Ok (Some s) → IsStep ram harts f n s
 store_is ram harts f lots spot off bytes n s h areas fits short e =
     let p = passed (spot_at f lots spot off (length bytes)) (λ to. piece_step (store_step to f.pbmte f.table bytes n)) (Some s) e in
@@ -241,15 +241,15 @@ zeroed_by s z ram x n (inr (inr e)) (inr (inl d)) wide whole lt few = absurd (om
 zeroed_by s z ram x n (inr (inr e)) (inr (inr d)) wide whole lt few = let k : n < 1 = rw (d, e) at few in rw (d, e) (omega arith, omega arith)
 
 -- block n of an operation, which is there
-pub record IsBlockOf (ram : ℕ) (f : Fixed) (n b : ℕ) : Type 0 where
+pub record IsBlockOf (ram : ℕ) (f : DriverConfig) (n b : ℕ) : Type 0 where
   pub inside : IsBlockIn f.size ram b
   pub few : n < 4096
 
-one_block : (ram : ℕ) (f : Fixed) (x n b : ℕ) → IsBlockIn f.size ram x → slice_get (x ∷ []) n ≡ Some b → IsBlockOf ram f n b
+one_block : (ram : ℕ) (f : DriverConfig) (x n b : ℕ) → IsBlockIn f.size ram x → slice_get (x ∷ []) n ≡ Some b → IsBlockOf ram f n b
 one_block ram f x zero b h e = let same : x ≡ b = cc in record { inside = subst (λ (y : ℕ). IsBlockIn f.size ram y) same h; few = omega arith }
 one_block ram f x (suc n) b h e = absurd (cc)
 
-block_of_op : (ram harts : ℕ) (f : Fixed) (op : CboOp) (x n b : ℕ) → IsLaid ram f → x < ram → slice_get (cbo_blocks f op x) n ≡ Some b → IsBlockOf ram f n b
+block_of_op : (ram harts : ℕ) (f : DriverConfig) (op : CboOp) (x n b : ℕ) → IsLaid ram f → x < ram → slice_get (cbo_blocks f op x) n ≡ Some b → IsBlockOf ram f n b
 block_of_op ram harts f cbos.Clean x n b h lt e = one_block ram f (block_at x f.size) n b (block_by f.size ram x h.sized.one_of h.ram_whole lt) e
 block_of_op ram harts f cbos.Flush x n b h lt e = one_block ram f (block_at x f.size) n b (block_by f.size ram x h.sized.one_of h.ram_whole lt) e
 block_of_op ram harts f cbos.Inval x n b h lt e = one_block ram f (block_at x f.size) n b (block_by f.size ram x h.sized.one_of h.ram_whole lt) e
@@ -262,14 +262,14 @@ block_of_op ram harts f cbos.Zero x n b h lt e =
     let k = zeroed_by f.size f.zero_size ram x n h.sized.one_of h.zero_sized.one_of h.zero_wide h.ram_whole lt few in
     record { inside = subst (λ (y : ℕ). IsBlockIn f.size ram y) is k.0; few = k.1 }
 
-cbo_of : (ram harts : ℕ) (f : Fixed) (effect : CboOp) (n : ℕ) (o : Option ℕ) (s : Step) → ((b : ℕ) → o ≡ Some b → IsBlockOf ram f n b)
+cbo_of : (ram harts : ℕ) (f : DriverConfig) (effect : CboOp) (n : ℕ) (o : Option ℕ) (s : Step) → ((b : ℕ) → o ≡ Some b → IsBlockOf ram f n b)
     → ◌≡◌ {A = Result (Option Step) Refusal} (Ok (option_map (cbo_step effect) o)) (Ok (Some s)) → IsStep ram harts f n s
 cbo_of ram harts f effect n None s h e = absurd (cc)
 cbo_of ram harts f effect n (Some b) s h e =
     let k = h b refl in
     same_step ram harts f (hart.Cbo effect (record { 0 = b })) s n (cc) (λ m me d. rw (d.memory, d.block) k.inside) (λ j. tt) k.few
 
-cbo_is : (ram harts : ℕ) (f : Fixed) (op : CboOp) (buf off n : ℕ) (s : Step) → IsLaid ram f → buf < length f.buffers
+cbo_is : (ram harts : ℕ) (f : DriverConfig) (op : CboOp) (buf off n : ℕ) (s : Step) → IsLaid ram f → buf < length f.buffers
     → (part_of (buffer_of f buf) off 1 >>= λ byte. legal (effect_of f.effects op) >>= λ effect. Ok (option_map (cbo_step effect) (slice_get (cbo_blocks f op byte.at) n))) ≡ Ok (Some s)
     → IsStep ram harts f n s
 cbo_is ram harts f op buf off n s h lt e =
@@ -283,14 +283,14 @@ cbo_is ram harts f op buf off n s h lt e =
 
 -- ---- registers
 
-register_there : (ram harts : ℕ) (f : Fixed) (chan : ChanNo) (off width value : ℕ) → chan.0 < 4 → is_some (register_at off width) ≡ true
+register_there : (ram harts : ℕ) (f : DriverConfig) (chan : ChanNo) (off width value : ℕ) → chan.0 < 4 → is_some (register_at off width) ≡ true
     → StepIsThere ram harts f (hart_step (hart.IoStore (io.Reg chan off width value)))
 register_there ram harts f chan off width value lt known = stays ram harts f _ (λ m h d. record { channel = lt; known = known })
 
-control_there : (ram harts : ℕ) (f : Fixed) (chan : ChanNo) (value : ℕ) → chan.0 < 4 → StepIsThere ram harts f (control_step chan value)
+control_there : (ram harts : ℕ) (f : DriverConfig) (chan : ChanNo) (value : ℕ) → chan.0 < 4 → StepIsThere ram harts f (control_step chan value)
 control_there ram harts f chan value lt = register_there ram harts f chan 0 4 value lt refl
 
-regs_of : (ram harts : ℕ) (f : Fixed) (chan : ChanNo) (source target len cfg n : ℕ) (s : Step) → chan.0 < 4
+regs_of : (ram harts : ℕ) (f : DriverConfig) (chan : ChanNo) (source target len cfg n : ℕ) (s : Step) → chan.0 < 4
     → ◌≡◌ {A = Result (Option Step) Refusal} (Ok (option_map hart_step (registers.regs_step chan source target len cfg n))) (Ok (Some s)) → IsStep ram harts f n s
 regs_of ram harts f chan source target len cfg zero s lt e =
     let same : hart_step (registers.next_config chan cfg) ≡ s = cc in
@@ -306,7 +306,7 @@ regs_of ram harts f chan source target len cfg (suc (suc (suc zero))) s lt e =
     subst (λ (x : Step). IsStep ram harts f (suc (suc (suc zero))) x) same (record { there = register_there ram harts f chan 0x018 8 source lt refl; few = omega arith; free = λ k. tt })
 regs_of ram harts f chan source target len cfg (suc (suc (suc (suc n)))) s lt e = absurd (cc)
 
-regs_is : (ram harts : ℕ) (f : Fixed) (lots : List Lot) (chan : ChanNo) (src dst : BusArg) (len cfg n : ℕ) (s : Step) → chan.0 < 4
+regs_is : (ram harts : ℕ) (f : DriverConfig) (lots : List Lot) (chan : ChanNo) (src dst : BusArg) (len cfg n : ℕ) (s : Step) → chan.0 < 4
     → (bus_of f lots src >>= λ source. bus_of f lots dst >>= λ target. Ok (option_map hart_step (registers.regs_step chan source target len cfg n))) ≡ Ok (Some s) → IsStep ram harts f n s
 regs_is ram harts f lots chan src dst len cfg n s lt e =
     let p = passed (bus_of f lots src) (λ source. bus_of f lots dst >>= λ target. Ok (option_map hart_step (registers.regs_step chan source target len cfg n))) (Some s) e in
@@ -316,13 +316,13 @@ regs_is ram harts f lots chan src dst len cfg n s lt e =
 known_is : (off width : ℕ) (u : Unit {0}) → known off width ≡ Ok u → is_some (register_at off width) ≡ true
 known_is off width u e = wanted_is _ _ u e
 
-read_is : (ram harts : ℕ) (f : Fixed) (chan : ChanNo) (off width n : ℕ) (s : Step) → chan.0 < 4
+read_is : (ram harts : ℕ) (f : DriverConfig) (chan : ChanNo) (off width n : ℕ) (s : Step) → chan.0 < 4
     → (known off width >>= λ _. Ok (single (hart_step (hart.IoLoad chan off width)) n)) ≡ Ok (Some s) → IsStep ram harts f n s
 read_is ram harts f chan off width n s lt e =
     let p = passed (known off width) (λ _. Ok (single (hart_step (hart.IoLoad chan off width)) n)) (Some s) e in
     is_single_ok ram harts f (hart_step (hart.IoLoad chan off width)) n s (stays ram harts f _ (λ m h d. record { channel = lt; known = known_is off width p.value p.first })) (λ k. tt) p.rest
 
-write_is : (ram harts : ℕ) (f : Fixed) (chan : ChanNo) (off width value n : ℕ) (s : Step) → chan.0 < 4
+write_is : (ram harts : ℕ) (f : DriverConfig) (chan : ChanNo) (off width value n : ℕ) (s : Step) → chan.0 < 4
     → (known off width >>= λ _. Ok (single (hart_step (hart.IoStore (io.Reg chan off width value))) n)) ≡ Ok (Some s) → IsStep ram harts f n s
 write_is ram harts f chan off width value n s lt e =
     let p = passed (known off width) (λ _. Ok (single (hart_step (hart.IoStore (io.Reg chan off width value))) n)) (Some s) e in
@@ -333,7 +333,7 @@ write_is ram harts f chan off width value n s lt e =
 none : {X : Type 0} (s : Step) → ◌≡◌ {A = Result (Option Step) Refusal} (Ok None) (Ok (Some s)) → X
 none s e = absurd (cc)
 
-pub step_is : (ram harts : ℕ) (f : Fixed) (lots : List Lot) (o : Op) (n : ℕ) (s : Step) → IsLaid ram f → AreasLie ram lots → FitsOp harts (length f.buffers) o → step_at f lots o n ≡ Ok (Some s) → IsStep ram harts f n s
+pub step_is : (ram harts : ℕ) (f : DriverConfig) (lots : List Lot) (o : Op) (n : ℕ) (s : Step) → IsLaid ram f → AreasLie ram lots → FitsOp harts (length f.buffers) o → step_at f lots o n ≡ Ok (Some s) → IsStep ram harts f n s
 unfolding step_at meaning accesses.load accesses.store cache_ops.cache_operation cache_ops.fence handing.take handing.hand channels.claim channels.free channels.set_up channels.run channels.poll channels.read_register channels.write_register mappings.map_single mappings.unmap_single mappings.sync_for_cpu mappings.sync_for_device lists.map_sg lists.unmap_sg areas.calloc areas.give_area areas.take_area areas.free_area copies.copy
 step_is ram harts f lots (ops.Ld spot off len) n s h areas fits e = load_is ram harts f lots spot off len n s h areas fits.0 fits.2 e
 step_is ram harts f lots (ops.St spot off bytes) n s h areas fits e = store_is ram harts f lots spot off bytes n s h areas fits.0 fits.2 e

@@ -38,7 +38,7 @@ use Rattle.nc_rules.specs.declared.steps.Seen.TheVariants as seen
 use Rattle.nc_rules.specs.declared.steps.Step.{Step}
 use Rattle.nc_rules.specs.declared.steps.Turn.{Turn}
 use Rattle.nc_rules.specs.declared.steps.Turn.TheVariants as turns
-use Rattle.nc_rules.specs.Lots.{Fixed, lot_id, is_lot, is_named, is_wanted, lot_waits, some_lot_waits, slot_given, lot_named}
+use Rattle.nc_rules.specs.Lots.{DriverConfig, lot_id, is_lot, is_named, is_wanted, lot_waits, some_lot_waits, slot_given, lot_named}
 use Rattle.nc_rules.specs.Turns.{with_side, set_side, lots_after, lots_after_both, without_wanted}
 use Rattle.nc_rules.specs.Operations.{step_at, has_start, begin, opening, plan_of}
 use Rattle.nc_rules.specs.Driver.{DriverState, in_hand, next_of, next_of_op, next_in, next_step, next_rest, next_act, over, stands, stays, kept, give_up, went_to, opened, searches, placed, with_lots, begun, refused_step, started, started_of, told, told_of, told_in, told_word, busy, stepped_to, stepped, worked, done, done_of, done_unless, done_in, lent}
@@ -115,7 +115,7 @@ in_hand_is ram harts d o h e =
     let is = get_or_from_slice_get d.fixed.script d.op o o e in
     record { fits = subst (λ (p : Op). FitsOp harts (length d.fixed.buffers) p) is (h.script d.op o lt); here = lt }
 
-pub areas_lie : (ram : ℕ) (f : Fixed) (lots : List Lot) → All (IsLotIn ram f) lots → AreasLie ram lots
+pub areas_lie : (ram : ℕ) (f : DriverConfig) (lots : List Lot) → All (IsLotIn ram f) lots → AreasLie ram lots
 areas_lie ram f lots all label lot e =
     let k = found (IsLotIn ram f) (is_named label kinds.Area) lots lot all (some_is refusals.NoLabel (lot_named lots label kinds.Area) lot e) in
     area_range ram f label lot k.is k.passes
@@ -135,7 +135,7 @@ wide_turn ram (turns.Sync id) h = tt
 wide_turn ram (turns.Settle id) h = tt
 wide_turn ram (turns.End id) h = tt
 
-wide_act : (ram harts : ℕ) (f : Fixed) (a : Act) → plain.ActIsThere ram harts f a → ActIsThere ram harts f a
+wide_act : (ram harts : ℕ) (f : DriverConfig) (a : Act) → plain.ActIsThere ram harts f a → ActIsThere ram harts f a
 wide_act ram harts f (acts.Op op) h = λ m i d fits. h m i d
 wide_act ram harts f (acts.Claim chan) h = h
 wide_act ram harts f (acts.Poll chan) h = h
@@ -170,7 +170,7 @@ named_by pool kinds.List lot h no_end = h.0
 named_by pool kinds.Area lot h no_end = h.0
 named_by pool kinds.Copy lot h no_end = absurd (no_end h.0.label)
 
-settled_by : (ram : ℕ) (f : Fixed) (lot : Lot) (t : Bool) → is_wanted lot.side ≡ t → IsReady ram f lot → (t ≡ true → ⊥) → (IsEndName lot.id → ⊥) → IsSettled lot
+settled_by : (ram : ℕ) (f : DriverConfig) (lot : Lot) (t : Bool) → is_wanted lot.side ≡ t → IsReady ram f lot → (t ≡ true → ⊥) → (IsEndName lot.id → ⊥) → IsSettled lot
 settled_by ram f lot true e h lent no_end = absurd (lent refl)
 settled_by ram f lot false e h lent no_end = record { named = named_by f.pool lot.kind lot h.is.kind no_end; placed = h.placed; lent = e }
 
@@ -180,11 +180,11 @@ none_first id k = k
 none_owed : (t : Turn) → In t [] → ⊥
 none_owed t k = k
 
-pub paid : (ram : ℕ) (f : Fixed) (lot : Lot) → IsReady ram f lot → IsOwed [] lot → IsSettled lot
+pub paid : (ram : ℕ) (f : DriverConfig) (lot : Lot) → IsReady ram f lot → IsOwed [] lot → IsSettled lot
 paid ram f lot h k = settled_by ram f lot (is_wanted lot.side) refl h (λ w. none_first lot.id (k.lends w)) (λ e. none_owed (turns.End lot.id) (k.ends e))
 
 -- what a plan that goes on needs
-pub record IsUnderWay (ram harts : ℕ) (f : Fixed) (lots : List Lot) (rest : List Step) : Type 0 where
+pub record IsUnderWay (ram harts : ℕ) (f : DriverConfig) (lots : List Lot) (rest : List Step) : Type 0 where
   pub each : All (IsLotIn ram f) lots
   pub apart : AreApart lots
   pub placed : All IsPlaced lots
@@ -634,7 +634,7 @@ lent_is ram harts d label first h at =
 
 -- ---- what comes next
 
-act_there : (ram harts : ℕ) (f : Fixed) (a : Act) → ActIsThere ram harts f a → NextIsThere ram harts f (next_act a)
+act_there : (ram harts : ℕ) (f : DriverConfig) (a : Act) → ActIsThere ram harts f a → NextIsThere ram harts f (next_act a)
 act_there ram harts f (acts.Op op) h = h
 act_there ram harts f (acts.Claim chan) h = h
 act_there ram harts f (acts.Poll chan) h = h

@@ -32,7 +32,7 @@ use Rattle.nc_rules.specs.declared.lots.Kind.{Kind}
 use Rattle.nc_rules.specs.declared.lots.Kind.TheVariants as kinds
 use Rattle.nc_rules.specs.declared.lots.Lot.{Lot}
 use Rattle.nc_rules.specs.declared.lots.LotId.{LotId}
-use Rattle.nc_rules.specs.Lots.{Fixed, lot_id, map_id, reach_of, ranges_lot, area_lot}
+use Rattle.nc_rules.specs.Lots.{DriverConfig, lot_id, map_id, reach_of, ranges_lot, area_lot}
 use Rattle.nc_rules.specs.Refusals.{◌>>=◌, wanted, some_or, buffer_of, part_of, all_some, ranges_of, unused, named, owned, owned_but, owned_from, planned, lendable, placeable}
 use Rattle.nc_rules.specs.Turns.{is_area}
 use Rattle.nc_rules.specs.Mappings as mappings
@@ -100,10 +100,10 @@ spans_back dir size reach (r ∷ rs) = ap (λ (ss : List Span). r ∷ ss) (spans
 no_pages : (pool : PageMap) (lot : Lot) → is_area lot.kind ≡ false → HasFreePages pool lot
 no_pages pool lot off e = absurd (false≢true (sym off ∙ e))
 
-own_by : (f : Fixed) (id : LotId) (kind : Kind) (dir : Dir) (chan : ChanNo) (rs : List Span) → is_area kind ≡ false → own_ranges (ranges_lot f id kind dir chan rs) ≡ rs
+own_by : (f : DriverConfig) (id : LotId) (kind : Kind) (dir : Dir) (chan : ChanNo) (rs : List Span) → is_area kind ≡ false → own_ranges (ranges_lot f id kind dir chan rs) ≡ rs
 own_by f id kind dir chan rs off = rw off (spans_back dir f.size (reach_of f chan) rs)
 
-ranges_free : (f : Fixed) (lots : List Lot) (label : Label) (kind : Kind) (dir : Dir) (chan : ChanNo) (owners : List Owner) (pool : PageMap) (es : List SgEntry) (new : List Lot) → is_area kind ≡ false
+ranges_free : (f : DriverConfig) (lots : List Lot) (label : Label) (kind : Kind) (dir : Dir) (chan : ChanNo) (owners : List Owner) (pool : PageMap) (es : List SgEntry) (new : List Lot) → is_area kind ≡ false
     → ranges_begin f lots label kind dir chan owners es ≡ Ok new → AreFree f.me owners pool new
 ranges_free f lots label kind dir chan owners pool es new off e =
     let p1 = passed (all_some es) (λ _. ranges_of f es >>= λ ranges. behind_ranges f lots label kind dir chan owners ranges) new e in
@@ -125,7 +125,7 @@ two_spans (r ∷ []) e = absurd (omega arith)
 two_spans (r ∷ s ∷ []) e = refl
 two_spans (r ∷ s ∷ t ∷ rs) e = absurd (omega arith)
 
-ranges_count : (f : Fixed) (es : List SgEntry) (rs : List Span) → ranges_of f es ≡ Ok rs → length rs ≡ length es
+ranges_count : (f : DriverConfig) (es : List SgEntry) (rs : List Span) → ranges_of f es ≡ Ok rs → length rs ≡ length es
 ranges_count f [] rs e = let none : [] ≡ rs = cc in ap length (sym none)
 ranges_count f (x ∷ es) rs e =
     let q = passed (part_of (buffer_of f x.buf) x.off x.len) (λ range. ranges_of f es >>= λ ranges. Ok (range ∷ ranges)) rs e in
@@ -133,7 +133,7 @@ ranges_count f (x ∷ es) rs e =
     let same : q.value ∷ r.value ≡ rs = cc (r.rest) in
     ap length (sym same) ∙ ap suc (ranges_count f es r.value r.first)
 
-copy_free : (f : Fixed) (src dst : SgEntry) (chan : ChanNo) (owners : List Owner) (pool : PageMap) (new : List Lot) → copy_begin f src dst chan owners ≡ Ok new → AreFree f.me owners pool new
+copy_free : (f : DriverConfig) (src dst : SgEntry) (chan : ChanNo) (owners : List Owner) (pool : PageMap) (new : List Lot) → copy_begin f src dst chan owners ≡ Ok new → AreFree f.me owners pool new
 copy_free f src dst chan owners pool new e =
     let p1 = passed (all_some (src ∷ dst ∷ [])) (λ _. ranges_of f (src ∷ dst ∷ []) >>= λ ranges. behind_copy f chan owners ranges) new e in
     let p2 = passed (ranges_of f (src ∷ dst ∷ [])) (λ ranges. behind_copy f chan owners ranges) new p1.rest in
@@ -172,7 +172,7 @@ run_pages pool n span run =
     subst (λ (k : ℕ). slice_range pool.free k (k + page_count span) ≡ replicate (page_count span) true) first
     (subst (λ (k : ℕ). slice_range pool.free run.page (run.page + k) ≡ replicate k true) count here)
 
-calloc_free : (f : Fixed) (lots : List Lot) (label : Label) (count : ℕ) (chan : ChanNo) (owners : List Owner) (pool : PageMap) (new : List Lot) → calloc_begin f lots label count chan pool ≡ Ok new → AreFree f.me owners pool new
+calloc_free : (f : DriverConfig) (lots : List Lot) (label : Label) (count : ℕ) (chan : ChanNo) (owners : List Owner) (pool : PageMap) (new : List Lot) → calloc_begin f lots label count chan pool ≡ Ok new → AreFree f.me owners pool new
 calloc_free f lots label count chan owners pool new e =
     let p1 = passed (wanted refusals.Empty (not (count == 0))) (λ _. unused lots label >>= λ _. wanted refusals.NoPbmt f.pbmte >>= λ _. planned (both (effects.legal f.effects.zero) (effects.legal f.effects.flush)) >>= λ _. area_is f label chan (lowest_span pool count)) new e in
     let p2 = passed (unused lots label) (λ _. wanted refusals.NoPbmt f.pbmte >>= λ _. planned (both (effects.legal f.effects.zero) (effects.legal f.effects.flush)) >>= λ _. area_is f label chan (lowest_span pool count)) new p1.rest in
@@ -192,7 +192,7 @@ calloc_free f lots label count chan owners pool new e =
 none_free : (me : HartNo) (owners : List Owner) (pool : PageMap) (new : List Lot) → [] ≡ new → AreFree me owners pool new
 none_free me owners pool new none = subst (λ (ls : List Lot). AreFree me owners pool ls) none (record { owned = tt; pages = All-nil (HasFreePages pool) })
 
-list_free : (f : Fixed) (lots : List Lot) (label : Label) (entries : List SgEntry) (dir : Dir) (chan : ChanNo) (owners : List Owner) (pool : PageMap) (new : List Lot) → lists.map_sg_begin f lots label entries dir chan owners ≡ Ok new → AreFree f.me owners pool new
+list_free : (f : DriverConfig) (lots : List Lot) (label : Label) (entries : List SgEntry) (dir : Dir) (chan : ChanNo) (owners : List Owner) (pool : PageMap) (new : List Lot) → lists.map_sg_begin f lots label entries dir chan owners ≡ Ok new → AreFree f.me owners pool new
 list_free f lots label entries dir chan owners pool new e =
     let p = passed (some_entries entries) (λ _. ranges_begin f lots label kinds.List dir chan owners entries) new e in
     ranges_free f lots label kinds.List dir chan owners pool entries new refl p.rest

@@ -11,7 +11,7 @@ use Rattle.nc_rules.specs.declared.lots.Side.{Side}
 use Rattle.nc_rules.specs.declared.lots.Side.TheVariants as sides
 use Rattle.nc_rules.specs.declared.steps.Turn.{Turn}
 use Rattle.nc_rules.specs.declared.steps.Turn.TheVariants as turns
-use Rattle.nc_rules.specs.Lots.{Fixed, is_lot, is_wanted, lot_waits}
+use Rattle.nc_rules.specs.Lots.{DriverConfig, is_lot, is_wanted, lot_waits}
 use Rattle.nc_rules.specs.Turns.{set_side, lots_after}
 use Rattle.nc_scripts.specs.Drivers.{LendsFirst, IsLotIn, AreApart, IsOwed, wanted_lots}
 
@@ -111,7 +111,7 @@ thinned (turns.End id) lots = all_ended id lots
 
 -- ---- what stays true of lots
 
-lot_stays : (ram : ℕ) (f : Fixed) (t : Turn) (lot now : Lot) → Becomes t lot now → IsLotIn ram f lot → IsLotIn ram f now
+lot_stays : (ram : ℕ) (f : DriverConfig) (t : Turn) (lot now : Lot) → Becomes t lot now → IsLotIn ram f lot → IsLotIn ram f now
 lot_stays ram f t lot now b h = record {
   few = rw b.list h.few;
   entries = rw b.list h.entries;
@@ -120,7 +120,7 @@ lot_stays ram f t lot now b h = record {
   kind = rw (b.kind, b.id, b.list) h.kind;
 }
 
-pub lots_stay : (ram : ℕ) (f : Fixed) (t : Turn) (lots : List Lot) → All (IsLotIn ram f) lots → All (IsLotIn ram f) (lots_after t lots)
+pub lots_stay : (ram : ℕ) (f : DriverConfig) (t : Turn) (lots : List Lot) → All (IsLotIn ram f) lots → All (IsLotIn ram f) (lots_after t lots)
 lots_stay ram f t lots all = thins_all (Becomes t) (IsLotIn ram f) (IsLotIn ram f) (thinned t lots) all (lot_stays ram f t)
 
 pub apart_stay : (t : Turn) (lots : List Lot) → AreApart lots → AreApart (lots_after t lots)

@@ -30,7 +30,7 @@ use Rattle.nc_rules.specs.declared.lots.Kind.{Kind}
 use Rattle.nc_rules.specs.declared.lots.Kind.TheVariants as kinds
 use Rattle.nc_rules.specs.declared.lots.Lot.{Lot}
 use Rattle.nc_rules.specs.declared.lots.LotId.{LotId}
-use Rattle.nc_rules.specs.Lots.{Fixed, lot_id, is_lot, is_labelled, is_wanted, some_lot_waits, reach_of, ranges_lot, area_lot, only_entry}
+use Rattle.nc_rules.specs.Lots.{DriverConfig, lot_id, is_lot, is_labelled, is_wanted, some_lot_waits, reach_of, ranges_lot, area_lot, only_entry}
 use Rattle.nc_rules.specs.Refusals.{◌>>=◌, wanted, some_or, some_bytes, buffer_of, part_of, all_some, ranges_of, unused, named, owned, owned_from, planned, lendable, is_big, has_big, small_enough, slots_there, placeable}
 use Rattle.nc_rules.specs.Turns.{is_area, those}
 use Rattle.nc_rules.specs.Mappings as mappings
@@ -53,14 +53,14 @@ use Rattle.nc_scripts.proofs.LotLaws.{named_so}
 use Rattle.nc_scripts.proofs.DriverSteps.{passed, wanted_is, part_is, buffer_is, IsLaid}
 
 -- what an operation makes beside the lots that the hart has
-pub record AreNew (ram : ℕ) (f : Fixed) (o : Op) (lots new : List Lot) : Type 0 where
+pub record AreNew (ram : ℕ) (f : DriverConfig) (o : Op) (lots new : List Lot) : Type 0 where
   pub each : All (IsLotIn ram f) new
   pub names : map (λ lot. lot.id) new ≡ made_names o
   pub wanted : All (λ lot. is_wanted lot.side ≡ true) new
   pub apart : AreApart (lots ++ new)
   pub slots : some_lot_waits new ≡ true → 0 < f.slots
 
-pub laid : (ram harts : ℕ) (f : Fixed) → IsFixed ram harts f → IsLaid ram f
+pub laid : (ram harts : ℕ) (f : DriverConfig) → IsFixed ram harts f → IsLaid ram f
 laid ram harts f h = record {
   ram_small = h.ram_small;
   ram_whole = h.ram_whole;
@@ -141,7 +141,7 @@ record AreRanges (ram : ℕ) (es : List SgEntry) (ranges : List Span) : Type 0 w
   all : All (IsRangeIn ram) ranges
   count : length ranges ≡ length es
 
-ranges_in : (ram : ℕ) (f : Fixed) (es : List SgEntry) (ranges : List Span) (u : Unit {0}) → IsLaid ram f → All (FitsEntry (length f.buffers)) es → all_some es ≡ Ok u → ranges_of f es ≡ Ok ranges → AreRanges ram es ranges
+ranges_in : (ram : ℕ) (f : DriverConfig) (es : List SgEntry) (ranges : List Span) (u : Unit {0}) → IsLaid ram f → All (FitsEntry (length f.buffers)) es → all_some es ≡ Ok u → ranges_of f es ≡ Ok ranges → AreRanges ram es ranges
 ranges_in ram f [] ranges u h fits some e = let none : [] ≡ ranges = cc in subst (λ (rs : List Span). AreRanges ram [] rs) none (record { all = All-nil (IsRangeIn ram); count = refl })
 ranges_in ram f (x ∷ es) ranges u h fits some e =
     let p = passed (some_bytes x.len) (λ _. all_some es) u some in
@@ -170,11 +170,11 @@ entries_in ram slots size reach dir (r ∷ rs) all small =
     (entries_in ram slots size reach dir rs (All-tail (IsRangeIn ram) r rs all) (All-tail (λ e. is_big e ≡ false) (fresh dir size reach r) (map (fresh dir size reach) rs) small))
 
 -- each bounces as the rule says
-bounce_so : (f : Fixed) (kind : Kind) (dir : Dir) (chan : ChanNo) (ranges : List Span) → is_area kind ≡ false → All (BouncesSo f kind dir chan) (map (fresh dir f.size (reach_of f chan)) ranges)
+bounce_so : (f : DriverConfig) (kind : Kind) (dir : Dir) (chan : ChanNo) (ranges : List Span) → is_area kind ≡ false → All (BouncesSo f kind dir chan) (map (fresh dir f.size (reach_of f chan)) ranges)
 bounce_so f kind dir chan ranges off =
     All-map (BouncesSo f kind dir chan) (fresh dir f.size (reach_of f chan)) ranges (λ k d lt. rw off refl)
 
-lot_in : (ram : ℕ) (f : Fixed) (id : LotId) (kind : Kind) (dir : Dir) (chan : ChanNo) (ranges : List Span) → All (IsRangeIn ram) ranges → length ranges ≤ 16 → chan.0 < 4 → is_area kind ≡ false
+lot_in : (ram : ℕ) (f : DriverConfig) (id : LotId) (kind : Kind) (dir : Dir) (chan : ChanNo) (ranges : List Span) → All (IsRangeIn ram) ranges → length ranges ≤ 16 → chan.0 < 4 → is_area kind ≡ false
     → has_big (ranges_lot f id kind dir chan ranges) ≡ false → ((es : List Entry) → length es ≡ length ranges → FitsKind f.pool kind id es) → IsLotIn ram f (ranges_lot f id kind dir chan ranges)
 lot_in ram f id kind dir chan ranges all few lt off small fits =
     let es = map (fresh dir f.size (reach_of f chan)) ranges in
@@ -188,7 +188,7 @@ lot_in ram f id kind dir chan ranges all few lt off small fits =
 
 -- ---- what is asked of new lots last
 
-pub record IsPlaceable (f : Fixed) (new lots : List Lot) : Type 0 where
+pub record IsPlaceable (f : DriverConfig) (new lots : List Lot) : Type 0 where
   pub same : new ≡ lots
   pub small : All (λ lot. has_big lot ≡ false) new
   pub slots : some_lot_waits new ≡ true → 0 < f.slots
@@ -197,7 +197,7 @@ some_slots : (waits : Bool) (n : ℕ) → (waits && n == 0) ≡ false → waits 
 some_slots true n e h = grind (arith, nat_tests)
 some_slots false n e h = absurd (false≢true h)
 
-pub placeable_is : (f : Fixed) (new lots : List Lot) → placeable f new ≡ Ok lots → IsPlaceable f new lots
+pub placeable_is : (f : DriverConfig) (new lots : List Lot) → placeable f new ≡ Ok lots → IsPlaceable f new lots
 placeable_is f new lots e =
     let p = passed (small_enough new) (λ _. slots_there f new >>= λ _. Ok new) lots e in
     let q = passed (slots_there f new) (λ _. Ok new) lots p.rest in
@@ -211,14 +211,14 @@ placeable_is f new lots e =
 
 -- ---- mappings and lists
 
-abbrev pub behind_ranges : Fixed → List Lot → Label → Kind → Dir → ChanNo → List Owner → List Span → Result (List Lot) Refusal
+abbrev pub behind_ranges : DriverConfig → List Lot → Label → Kind → Dir → ChanNo → List Owner → List Span → Result (List Lot) Refusal
 behind_ranges f lots label kind dir chan owners ranges =
     unused lots label >>= λ _. owned_from f.me (lot_id label 0) 0 owners ranges >>= λ _. lendable f.effects dir >>= λ _. placeable f (ranges_lot f (lot_id label 0) kind dir chan ranges ∷ [])
 
-abbrev pub ranges_begin : Fixed → List Lot → Label → Kind → Dir → ChanNo → List Owner → List SgEntry → Result (List Lot) Refusal
+abbrev pub ranges_begin : DriverConfig → List Lot → Label → Kind → Dir → ChanNo → List Owner → List SgEntry → Result (List Lot) Refusal
 ranges_begin f lots label kind dir chan owners es = all_some es >>= λ _. ranges_of f es >>= λ ranges. behind_ranges f lots label kind dir chan owners ranges
 
-ranges_new : (ram harts : ℕ) (f : Fixed) (lots : List Lot) (label : Label) (kind : Kind) (dir : Dir) (chan : ChanNo) (owners : List Owner) (es : List SgEntry) (o : Op) (new : List Lot)
+ranges_new : (ram harts : ℕ) (f : DriverConfig) (lots : List Lot) (label : Label) (kind : Kind) (dir : Dir) (chan : ChanNo) (owners : List Owner) (es : List SgEntry) (o : Op) (new : List Lot)
     → IsFixed ram harts f → AreApart lots → All (FitsEntry (length f.buffers)) es → length es ≤ 16 → chan.0 < 4 → is_area kind ≡ false → ((xs : List Entry) → length xs ≡ length es → FitsKind f.pool kind (lot_id label 0) xs)
     → lot_id label 0 ∷ [] ≡ made_names o → ranges_begin f lots label kind dir chan owners es ≡ Ok new → AreNew ram f o lots new
 ranges_new ram harts f lots label kind dir chan owners es o new h apart fits few lt off its_kind names e =
@@ -241,7 +241,7 @@ ranges_new ram harts f lots label kind dir chan owners es o new h apart fits few
 
 -- ---- areas
 
-abbrev pub area_is : Fixed → Label → ChanNo → Option Span → Result (List Lot) Refusal
+abbrev pub area_is : DriverConfig → Label → ChanNo → Option Span → Result (List Lot) Refusal
 area_is f label chan o = some_or refusals.NoPage o >>= λ span. Ok (area_lot (lot_id label 0) chan span ∷ [])
 
 pub record IsRun (pool : PageMap) (n : ℕ) (span : Span) : Type 0 where
@@ -259,7 +259,7 @@ run_by pool n span (Some p) h e =
 pub run_is : (pool : PageMap) (n : ℕ) (span : Span) → 0 < n → lowest_span pool n ≡ Some span → IsRun pool n span
 run_is pool n span some e = run_by pool n span (lowest_run pool.free n) (lowest_is_lowest pool.free n some) e
 
-area_in : (ram harts : ℕ) (f : Fixed) (pool : PageMap) (n : ℕ) (label : Label) (chan : ChanNo) (span : Span) → IsFixed ram harts f → ArePagesOf f pool → FitsLabel label → chan.0 < 4 → 0 < n → IsRun pool n span → IsLotIn ram f (area_lot (lot_id label 0) chan span)
+area_in : (ram harts : ℕ) (f : DriverConfig) (pool : PageMap) (n : ℕ) (label : Label) (chan : ChanNo) (span : Span) → IsFixed ram harts f → ArePagesOf f pool → FitsLabel label → chan.0 < 4 → 0 < n → IsRun pool n span → IsLotIn ram f (area_lot (lot_id label 0) chan span)
 area_in ram harts f pool n label chan span h of fits lt some run =
     let at : pool.at + 4096 * run.page ≡ span.at = ap (λ (s : Span). s.at) run.is in
     let len : 4096 * n ≡ span.len = ap (λ (s : Span). s.len) run.is in
@@ -278,7 +278,7 @@ area_in ram harts f pool n label chan span h of fits lt some run =
       kind = (record { label = fits; first = refl }, refl, All-cons (λ (e : Entry). IsInPool f.pool e.span) (record { span = span; bounced = false; slot = None }) [] pages (All-nil (λ (e : Entry). IsInPool f.pool e.span)));
     }
 
-calloc_new : (ram harts : ℕ) (f : Fixed) (lots : List Lot) (label : Label) (count : ℕ) (chan : ChanNo) (pool : PageMap) (new : List Lot) → IsFixed ram harts f → AreApart lots → ArePagesOf f pool → FitsLabel label → chan.0 < 4
+calloc_new : (ram harts : ℕ) (f : DriverConfig) (lots : List Lot) (label : Label) (count : ℕ) (chan : ChanNo) (pool : PageMap) (new : List Lot) → IsFixed ram harts f → AreApart lots → ArePagesOf f pool → FitsLabel label → chan.0 < 4
     → calloc_begin f lots label count chan pool ≡ Ok new → AreNew ram f (ops.Calloc label count chan) lots new
 calloc_new ram harts f lots label count chan pool new h apart of fits lt e =
     let p1 = passed (wanted refusals.Empty (not (count == 0))) (λ _. unused lots label >>= λ _. wanted refusals.NoPbmt f.pbmte >>= λ _. planned (both (effects.legal f.effects.zero) (effects.legal f.effects.flush)) >>= λ _. area_is f label chan (lowest_span pool count)) new e in
@@ -300,7 +300,7 @@ calloc_new ram harts f lots label count chan pool new h apart of fits lt e =
 
 -- ---- copies
 
-abbrev pub behind_copy : Fixed → ChanNo → List Owner → List Span → Result (List Lot) Refusal
+abbrev pub behind_copy : DriverConfig → ChanNo → List Owner → List Span → Result (List Lot) Refusal
 behind_copy f chan owners ranges =
     owned_from f.me source 0 owners ranges >>= λ _. lendable f.effects ToDev >>= λ _. lendable f.effects FromDev >>= λ _. placeable f (ends_of f chan ranges)
 
@@ -316,13 +316,13 @@ two_apart lots s t es et apart settled =
     joined_none [] s all h = All-cons (HasNo target) s [] h (All-nil (HasNo target))
     joined_none (x ∷ lots) s all h = All-cons (HasNo target) x (lots ++ s ∷ []) (All-head (HasNo target) x lots all) (joined_none lots s (All-tail (HasNo target) x lots all) h)
 
-end_in : (ram : ℕ) (f : Fixed) (first : ℕ) (dir : Dir) (chan : ChanNo) (range : Span) → first < 2 → IsRangeIn ram range → chan.0 < 4
+end_in : (ram : ℕ) (f : DriverConfig) (first : ℕ) (dir : Dir) (chan : ChanNo) (range : Span) → first < 2 → IsRangeIn ram range → chan.0 < 4
     → has_big (ranges_lot f (lot_id (record { 0 = 1000 }) first) kinds.Copy dir chan (range ∷ [])) ≡ false → IsLotIn ram f (ranges_lot f (lot_id (record { 0 = 1000 }) first) kinds.Copy dir chan (range ∷ []))
 end_in ram f first dir chan range lt h k small =
     lot_in ram f (lot_id (record { 0 = 1000 }) first) kinds.Copy dir chan (range ∷ []) (All-cons (IsRangeIn ram) range [] h (All-nil (IsRangeIn ram))) (omega arith) k refl small
     (λ xs same. (record { label = refl; first = lt }, same))
 
-copy_new : (ram harts : ℕ) (f : Fixed) (lots : List Lot) (src dst : SgEntry) (chan : ChanNo) (owners : List Owner) (o : Op) (new : List Lot) → IsFixed ram harts f → All IsSettled lots → AreApart lots
+copy_new : (ram harts : ℕ) (f : DriverConfig) (lots : List Lot) (src dst : SgEntry) (chan : ChanNo) (owners : List Owner) (o : Op) (new : List Lot) → IsFixed ram harts f → All IsSettled lots → AreApart lots
     → FitsEntry (length f.buffers) src → FitsEntry (length f.buffers) dst → chan.0 < 4 → source ∷ target ∷ [] ≡ made_names o → copy_begin f src dst chan owners ≡ Ok new → AreNew ram f o lots new
 copy_new ram harts f lots src dst chan owners o new h settled apart fs fd lt names e =
     let p1 = passed (all_some (src ∷ dst ∷ [])) (λ _. ranges_of f (src ∷ dst ∷ []) >>= λ ranges. behind_copy f chan owners ranges) new e in
@@ -350,7 +350,7 @@ copy_new ram harts f lots src dst chan owners o new h settled apart fs fd lt nam
 
 -- ---- the others make none
 
-none_new : (ram : ℕ) (f : Fixed) (o : Op) (lots new : List Lot) → [] ≡ made_names o → AreApart lots → [] ≡ new → AreNew ram f o lots new
+none_new : (ram : ℕ) (f : DriverConfig) (o : Op) (lots new : List Lot) → [] ≡ made_names o → AreApart lots → [] ≡ new → AreNew ram f o lots new
 none_new ram f o lots new names apart none = subst (λ (ls : List Lot). AreNew ram f o lots ls) none (record {
   each = All-nil (IsLotIn ram f);
   names = names;
@@ -367,27 +367,27 @@ sg_none lots new label count e =
     let p = passed (named lots label kinds.List) (λ lot. wanted (refusals.BadCount (length lot.list.entries)) (length lot.list.entries == count) >>= λ _. Ok []) new e in
     behind_test (wanted (refusals.BadCount (length p.value.list.entries)) (length p.value.list.entries == count)) new p.rest
 
-pub free_none : (f : Fixed) (lots new : List Lot) (label : Label) (owners : List Owner) → cfree_begin f lots label owners ≡ Ok new → [] ≡ new
+pub free_none : (f : DriverConfig) (lots new : List Lot) (label : Label) (owners : List Owner) → cfree_begin f lots label owners ≡ Ok new → [] ≡ new
 free_none f lots new label owners e =
     let p = passed (named lots label kinds.Area) (λ lot. owned f.me owners (only_entry lot).span >>= λ _. Ok []) new e in
     behind_test (owned f.me owners (only_entry p.value).span) new p.rest
 
-one_kind : (f : Fixed) (label : Label) → FitsLabel label → (xs : List Entry) → length xs ≡ 1 → FitsKind f.pool kinds.Single (lot_id label 0) xs
+one_kind : (f : DriverConfig) (label : Label) → FitsLabel label → (xs : List Entry) → length xs ≡ 1 → FitsKind f.pool kinds.Single (lot_id label 0) xs
 one_kind f label fits xs one = (record { label = fits; first = refl }, one)
 
-list_kind : (f : Fixed) (label : Label) (n : ℕ) → FitsLabel label → 0 < n → (xs : List Entry) → length xs ≡ n → FitsKind f.pool kinds.List (lot_id label 0) xs
+list_kind : (f : DriverConfig) (label : Label) (n : ℕ) → FitsLabel label → 0 < n → (xs : List Entry) → length xs ≡ n → FitsKind f.pool kinds.List (lot_id label 0) xs
 list_kind f label n fits some xs same = (record { label = fits; first = refl }, omega (arith, some, same))
 
 one_fits : (buffers : ℕ) (e : SgEntry) → FitsEntry buffers e → All (FitsEntry buffers) (e ∷ [])
 one_fits buffers e h = All-cons (FitsEntry buffers) e [] h (All-nil (FitsEntry buffers))
 
-list_new : (ram harts : ℕ) (f : Fixed) (lots : List Lot) (label : Label) (entries : List SgEntry) (dir : Dir) (chan : ChanNo) (owners : List Owner) (new : List Lot) → IsFixed ram harts f → AreApart lots
+list_new : (ram harts : ℕ) (f : DriverConfig) (lots : List Lot) (label : Label) (entries : List SgEntry) (dir : Dir) (chan : ChanNo) (owners : List Owner) (new : List Lot) → IsFixed ram harts f → AreApart lots
     → FitsLabel label → length entries ≤ 16 → All (FitsEntry (length f.buffers)) entries → chan.0 < 4 → map_sg_begin f lots label entries dir chan owners ≡ Ok new → AreNew ram f (ops.MapSg label entries dir chan) lots new
 list_new ram harts f lots label entries dir chan owners new h apart fits few each lt e =
     let p = passed (some_entries entries) (λ _. ranges_begin f lots label kinds.List dir chan owners entries) new e in
     ranges_new ram harts f lots label kinds.List dir chan owners entries (ops.MapSg label entries dir chan) new h apart each few lt refl (list_kind f label (length entries) fits (some_len (length entries) p.value p.first)) refl p.rest
 
-pub new_is : (ram harts : ℕ) (f : Fixed) (lots new : List Lot) (owners : List Owner) (pool : PageMap) (o : Op) → IsFixed ram harts f → All IsSettled lots → AreApart lots → ArePagesOf f pool → FitsOp harts (length f.buffers) o
+pub new_is : (ram harts : ℕ) (f : DriverConfig) (lots new : List Lot) (owners : List Owner) (pool : PageMap) (o : Op) → IsFixed ram harts f → All IsSettled lots → AreApart lots → ArePagesOf f pool → FitsOp harts (length f.buffers) o
     → begin f lots owners pool o ≡ Ok new → AreNew ram f o lots new
 unfolding begin meaning accesses.load accesses.store cache_ops.cache_operation cache_ops.fence handing.take handing.hand channels.claim channels.free channels.set_up channels.run channels.poll channels.read_register channels.write_register mappings.map_single mappings.unmap_single mappings.sync_for_cpu mappings.sync_for_device lists.map_sg lists.unmap_sg areas.calloc areas.give_area areas.take_area areas.free_area copies.copy
 new_is ram harts f lots new owners pool (ops.Map label buf off len dir chan) h settled apart of fits e =

@@ -26,7 +26,7 @@ use Rattle.nc_rules.specs.declared.steps.Act.TheVariants as acts
 use Rattle.nc_rules.specs.declared.steps.Step.{Step}
 use Rattle.nc_rules.specs.declared.steps.Turn.{Turn}
 use Rattle.nc_rules.specs.declared.steps.Turn.TheVariants as turns
-use Rattle.nc_rules.specs.Lots.{Fixed, lot_id, is_lot, is_named, is_labelled, same_kind, is_wanted, is_synced, is_own, lot_named, only_entry}
+use Rattle.nc_rules.specs.Lots.{DriverConfig, lot_id, is_lot, is_named, is_labelled, same_kind, is_wanted, is_synced, is_own, lot_named, only_entry}
 use Rattle.nc_rules.specs.Refusals.{buffer_of}
 use Rattle.nc_rules.specs.Turns.{lots_after}
 use Rattle.nc_rules.specs.Plans.{step, hart_step, op_steps, ending, lending_end, lend_steps, return_steps}
@@ -51,7 +51,7 @@ use Rattle.nc_scripts.proofs.DriverSteps.{buffer_is}
 use Rattle.nc_scripts.proofs.NewLots.{laid}
 
 -- what an operation opens with, over these lots
-pub record Opens (ram harts : ℕ) (f : Fixed) (lots : List Lot) (turn : Turn) (plan : List Step) : Type 0 where
+pub record Opens (ram harts : ℕ) (f : DriverConfig) (lots : List Lot) (turn : Turn) (plan : List Step) : Type 0 where
   pub there : All (StepIsThere ram harts f) plan
   pub fits : (n : ℕ) → LoadsFit n plan
   pub claims : ClaimsFirst (lots_after turn lots) plan
@@ -90,18 +90,18 @@ lent_name label ts fits =
 
 -- ---- the lot that a plan is about
 
-pub record IsReady (ram : ℕ) (f : Fixed) (lot : Lot) : Type 0 where
+pub record IsReady (ram : ℕ) (f : DriverConfig) (lot : Lot) : Type 0 where
   pub is : IsLotIn ram f lot
   pub placed : IsPlaced lot
 
-pub ready : (ram : ℕ) (f : Fixed) (lots : List Lot) → All (IsLotIn ram f) lots → All IsPlaced lots → All (IsReady ram f) lots
+pub ready : (ram : ℕ) (f : DriverConfig) (lots : List Lot) → All (IsLotIn ram f) lots → All IsPlaced lots → All (IsReady ram f) lots
 ready ram f lots all placed = all_both (IsLotIn ram f) IsPlaced (IsReady ram f) lots all placed (λ lot is p. record { is = is; placed = p })
 
-with_by : (ram harts : ℕ) (f : Fixed) (P : Lot → Type 0) (g : Lot → List Step) (o : Option Lot) → ((lot : Lot) → o ≡ Some lot → P lot) → ((lot : Lot) → P lot → IsPlan ram harts f (g lot)) → IsPlan ram harts f (with_lot [] g o)
+with_by : (ram harts : ℕ) (f : DriverConfig) (P : Lot → Type 0) (g : Lot → List Step) (o : Option Lot) → ((lot : Lot) → o ≡ Some lot → P lot) → ((lot : Lot) → P lot → IsPlan ram harts f (g lot)) → IsPlan ram harts f (with_lot [] g o)
 with_by ram harts f P g None is h = no_plan ram harts f
 with_by ram harts f P g (Some lot) is h = h lot (is lot refl)
 
-with_plan : (ram harts : ℕ) (f : Fixed) (p : Lot → Bool) (lots : List Lot) (g : Lot → List Step) → All (IsReady ram f) lots → ((lot : Lot) → Found (IsReady ram f) p lot → IsPlan ram harts f (g lot)) → IsPlan ram harts f (with_lot [] g (find p lots))
+with_plan : (ram harts : ℕ) (f : DriverConfig) (p : Lot → Bool) (lots : List Lot) (g : Lot → List Step) → All (IsReady ram f) lots → ((lot : Lot) → Found (IsReady ram f) p lot → IsPlan ram harts f (g lot)) → IsPlan ram harts f (with_lot [] g (find p lots))
 with_plan ram harts f p lots g all h = with_by ram harts f (Found (IsReady ram f) p) g (find p lots) (λ lot e. found (IsReady ram f) p lots lot all e) h
 
 with_turn : (ram : ℕ) (g : Lot → Turn) (o : Option Lot) → ((lot : Lot) → TurnIsThere ram (g lot)) → TurnIsThere ram (with_lot turns.Stay g o)
@@ -112,16 +112,16 @@ if_turn : (ram : ℕ) (b : Bool) (t u : Turn) → TurnIsThere ram t → TurnIsTh
 if_turn ram true t u th uh = th
 if_turn ram false t u th uh = uh
 
-if_steps : (ram harts : ℕ) (f : Fixed) (b : Bool) (xs ys : List Step) → IsPlan ram harts f xs → IsPlan ram harts f ys → IsPlan ram harts f (if b then xs else ys)
+if_steps : (ram harts : ℕ) (f : DriverConfig) (b : Bool) (xs ys : List Step) → IsPlan ram harts f xs → IsPlan ram harts f ys → IsPlan ram harts f (if b then xs else ys)
 if_steps ram harts f true xs ys h k = h
 if_steps ram harts f false xs ys h k = k
 
 -- ---- the plans
 
-back_with : (ram harts : ℕ) (f : Fixed) (t : Turn) (lot : Lot) → IsFixed ram harts f → IsReady ram f lot → TurnIsThere ram t → IsPlan ram harts f (ending t (return_steps f lot))
+back_with : (ram harts : ℕ) (f : DriverConfig) (t : Turn) (lot : Lot) → IsFixed ram harts f → IsReady ram f lot → TurnIsThere ram t → IsPlan ram harts f (ending t (return_steps f lot))
 back_with ram harts f t lot h k th = ending_plan ram harts f t (return_steps f lot) th (return_plan ram harts f lot h k.is k.placed)
 
-fence_plan : (ram harts : ℕ) (f : Fixed) (t : Turn) → TurnIsThere ram t → IsPlan ram harts f (fenced t)
+fence_plan : (ram harts : ℕ) (f : DriverConfig) (t : Turn) → TurnIsThere ram t → IsPlan ram harts f (fenced t)
 fence_plan ram harts f t th = turn_plan ram harts f full t (λ m h d fits. tt) (λ n. tt) th
 
 kind_same : (k : Kind) → same_kind kinds.Area k ≡ true → kinds.Area ≡ k
@@ -131,18 +131,18 @@ kind_same kinds.Area e = refl
 kind_same kinds.Copy e = absurd (false≢true e)
 
 -- an area has one entry
-pub area_range : (ram : ℕ) (f : Fixed) (label : Label) (lot : Lot) → IsLotIn ram f lot → is_named label kinds.Area lot ≡ true → IsRangeIn ram (only_entry lot).span
+pub area_range : (ram : ℕ) (f : DriverConfig) (label : Label) (lot : Lot) → IsLotIn ram f lot → is_named label kinds.Area lot ≡ true → IsRangeIn ram (only_entry lot).span
 area_range ram f label lot h e =
     let p = and_parts (is_labelled label lot) (same_kind kinds.Area lot.kind) e in
     let kind = subst (λ (k : Kind). FitsKind f.pool k lot.id lot.list.entries) (sym (kind_same lot.kind p.1)) h.kind in
     (only_in ram f lot h kind.1).range
 
-calloc_plan : (ram harts : ℕ) (f : Fixed) (label : Label) (lot : Lot) → IsFixed ram harts f → Found (IsReady ram f) (is_named label kinds.Area) lot → IsPlan ram harts f (calloc_steps f lot)
+calloc_plan : (ram harts : ℕ) (f : DriverConfig) (label : Label) (lot : Lot) → IsFixed ram harts f → Found (IsReady ram f) (is_named label kinds.Area) lot → IsPlan ram harts f (calloc_steps f lot)
 calloc_plan ram harts f label lot h k =
     ending_plan ram harts f (turns.Settle lot.id) (op_steps (allocating f.effects f.size (only_entry lot).span)) tt
     (allocating_plan ram harts f (only_entry lot).span h (area_range ram f label lot k.is.is k.passes))
 
-hand_plan : (ram harts : ℕ) (f : Fixed) (buf : ℕ) (to : HartNo) → buf < length f.buffers → to.0 < harts → IsPlan ram harts f (hand_steps buf to)
+hand_plan : (ram harts : ℕ) (f : DriverConfig) (buf : ℕ) (to : HartNo) → buf < length f.buffers → to.0 < harts → IsPlan ram harts f (hand_steps buf to)
 hand_plan ram harts f buf to lt there =
     plan_join ram harts f (hart_step (hart.Mark 1 4) ∷ []) (hart_step (hart.IoStore (io.Mail buf to)) ∷ [])
     (op_plan ram harts f (hart.Mark 1 4) (λ m h d fits. tt) (λ n. tt))
@@ -150,10 +150,10 @@ hand_plan ram harts f buf to lt there =
 
 -- ---- the plan of a copy
 
-reg_plan : (ram harts : ℕ) (f : Fixed) (chan : ChanNo) (off width value : ℕ) → chan.0 < 4 → is_some (register_at off width) ≡ true → IsPlan ram harts f (hart_step (hart.IoStore (io.Reg chan off width value)) ∷ [])
+reg_plan : (ram harts : ℕ) (f : DriverConfig) (chan : ChanNo) (off width value : ℕ) → chan.0 < 4 → is_some (register_at off width) ≡ true → IsPlan ram harts f (hart_step (hart.IoStore (io.Reg chan off width value)) ∷ [])
 reg_plan ram harts f chan off width value lt known = op_plan ram harts f (hart.IoStore (io.Reg chan off width value)) (λ m h d fits. record { channel = lt; known = known }) (λ n. tt)
 
-poll_plan : (ram harts : ℕ) (f : Fixed) (chan : ChanNo) → chan.0 < 4 → IsPlan ram harts f (step (acts.Poll chan) ∷ [])
+poll_plan : (ram harts : ℕ) (f : DriverConfig) (chan : ChanNo) → chan.0 < 4 → IsPlan ram harts f (step (acts.Poll chan) ∷ [])
 poll_plan ram harts f chan lt = record {
   there = All-cons (StepIsThere ram harts f) (step (acts.Poll chan)) [] (record { act = lt; first = tt; last = tt }) (All-nil (StepIsThere ram harts f));
   fits = λ n. (tt, tt);
@@ -163,7 +163,7 @@ poll_plan ram harts f chan lt = record {
 abbrev reg_step : ChanNo → ℕ → ℕ → ℕ → Step
 reg_step chan off width value = hart_step (hart.IoStore (io.Reg chan off width value))
 
-transfer_plan : (ram harts : ℕ) (f : Fixed) (chan : ChanNo) (src dst : Part) (cfg : ℕ) → chan.0 < 4 → IsPlan ram harts f (map (copy_step chan) (transfer chan src dst cfg))
+transfer_plan : (ram harts : ℕ) (f : DriverConfig) (chan : ChanNo) (src dst : Part) (cfg : ℕ) → chan.0 < 4 → IsPlan ram harts f (map (copy_step chan) (transfer chan src dst cfg))
 transfer_plan ram harts f chan src dst cfg lt =
     let end = plan_join ram harts f (step (acts.Poll chan) ∷ []) (reg_step chan 0 4 0 ∷ []) (poll_plan ram harts f chan lt) (reg_plan ram harts f chan 0 4 0 lt refl) in
     let run = plan_join ram harts f (reg_step chan 0 4 3 ∷ []) (step (acts.Poll chan) ∷ reg_step chan 0 4 0 ∷ []) (reg_plan ram harts f chan 0 4 3 lt refl) end in
@@ -172,18 +172,18 @@ transfer_plan ram harts f chan src dst cfg lt =
     let bytes = plan_join ram harts f (reg_step chan 0x008 8 src.device.len ∷ []) (reg_step chan 0x010 8 (bus_of dst.device) ∷ reg_step chan 0x018 8 (bus_of src.device) ∷ reg_step chan 0 4 3 ∷ step (acts.Poll chan) ∷ reg_step chan 0 4 0 ∷ []) (reg_plan ram harts f chan 0x008 8 src.device.len lt refl) to in
     plan_join ram harts f (reg_step chan 0x004 4 cfg ∷ []) (reg_step chan 0x008 8 src.device.len ∷ reg_step chan 0x010 8 (bus_of dst.device) ∷ reg_step chan 0x018 8 (bus_of src.device) ∷ reg_step chan 0 4 3 ∷ step (acts.Poll chan) ∷ reg_step chan 0 4 0 ∷ []) (reg_plan ram harts f chan 0x004 4 cfg lt refl) bytes
 
-back_plan : (ram harts : ℕ) (f : Fixed) (lot : Lot) → IsFixed ram harts f → IsReady ram f lot → IsPlan ram harts f (back_steps f lot)
+back_plan : (ram harts : ℕ) (f : DriverConfig) (lot : Lot) → IsFixed ram harts f → IsReady ram f lot → IsPlan ram harts f (back_steps f lot)
 back_plan ram harts f lot h k = beginning_plan ram harts f (turns.Return lot.id) (ending (turns.End lot.id) (return_steps f lot)) tt (back_with ram harts f (turns.End lot.id) lot h k tt)
 
 -- up to the way back of the destination
-abbrev there_steps : Fixed → ChanNo → ℕ → Lot → Lot → List Step
+abbrev there_steps : DriverConfig → ChanNo → ℕ → Lot → Lot → List Step
 there_steps f chan cfg src dst = (lend_steps f src ++ lend_steps f dst) ++ map (copy_step chan) (transfer chan (end_part f src) (end_part f dst) cfg)
 
 -- behind the claim
-abbrev claimed_steps : Fixed → ChanNo → ℕ → Lot → Lot → List Step
+abbrev claimed_steps : DriverConfig → ChanNo → ℕ → Lot → Lot → List Step
 claimed_steps f chan cfg src dst = (there_steps f chan cfg src dst ++ back_steps f dst) ++ back_steps f src
 
-claimed_plan : (ram harts : ℕ) (f : Fixed) (chan : ChanNo) (cfg : ℕ) (src dst : Lot) → IsFixed ram harts f → chan.0 < 4 → IsReady ram f src → IsReady ram f dst → IsPlan ram harts f (claimed_steps f chan cfg src dst)
+claimed_plan : (ram harts : ℕ) (f : DriverConfig) (chan : ChanNo) (cfg : ℕ) (src dst : Lot) → IsFixed ram harts f → chan.0 < 4 → IsReady ram f src → IsReady ram f dst → IsPlan ram harts f (claimed_steps f chan cfg src dst)
 claimed_plan ram harts f chan cfg src dst h lt s t =
     let lends = plan_join ram harts f (lend_steps f src) (lend_steps f dst) (lend_plan ram harts f src h s.is s.placed) (lend_plan ram harts f dst h t.is t.placed) in
     let transfers = transfer_plan ram harts f chan (end_part f src) (end_part f dst) cfg lt in
@@ -191,10 +191,10 @@ claimed_plan ram harts f chan cfg src dst h lt s t =
     let back = plan_join ram harts f (there_steps f chan cfg src dst) (back_steps f dst) there (back_plan ram harts f dst h t) in
     plan_join ram harts f (there_steps f chan cfg src dst ++ back_steps f dst) (back_steps f src) back (back_plan ram harts f src h s)
 
-abbrev copy_turns : Fixed → ChanNo → ℕ → Lot → Lot → List Turn
+abbrev copy_turns : DriverConfig → ChanNo → ℕ → Lot → Lot → List Turn
 copy_turns f chan cfg src dst = turns.Stay ∷ turns.Lend source ∷ turns.Lend target ∷ turns_of (claimed_steps f chan cfg src dst)
 
-source_owed : (f : Fixed) (chan : ChanNo) (cfg : ℕ) (src dst : Lot) → src.id ≡ source → IsOwedName (copy_turns f chan cfg src dst) source
+source_owed : (f : DriverConfig) (chan : ChanNo) (cfg : ℕ) (src dst : Lot) → src.id ≡ source → IsOwedName (copy_turns f chan cfg src dst) source
 source_owed f chan cfg src dst e =
     let end = in_turns_right (turns.End src.id) (there_steps f chan cfg src dst ++ back_steps f dst) (back_steps f src) (back_turn (turns.Return src.id) (turns.End src.id) f src) in
     record {
@@ -205,7 +205,7 @@ source_owed f chan cfg src dst e =
 ends_differ : ◌≡◌ {A = Option LotId} (Some source) (Some target) → ⊥
 ends_differ e = let same : source ≡ target = cc in let first : ◌≡◌ {A = ℕ} 0 1 = ap (λ (i : LotId). i.first) same in absurd (omega (arith, first))
 
-target_owed : (f : Fixed) (chan : ChanNo) (cfg : ℕ) (src dst : Lot) → dst.id ≡ target → IsOwedName (copy_turns f chan cfg src dst) target
+target_owed : (f : DriverConfig) (chan : ChanNo) (cfg : ℕ) (src dst : Lot) → dst.id ≡ target → IsOwedName (copy_turns f chan cfg src dst) target
 target_owed f chan cfg src dst e =
     let back = in_turns_right (turns.End dst.id) (there_steps f chan cfg src dst) (back_steps f dst) (back_turn (turns.Return dst.id) (turns.End dst.id) f dst) in
     let end = in_turns_left (turns.End dst.id) (there_steps f chan cfg src dst ++ back_steps f dst) (back_steps f src) back in
@@ -244,7 +244,7 @@ find_there p x [] k e = elim k [ ]
 find_there p x (y ∷ ys) (inl same) e = find_by p y ys (p y) (λ off. absurd (false≢true (sym off ∙ ap p same ∙ e)))
 find_there p x (y ∷ ys) (inr k) e = find_by p y ys (p y) (λ off. find_there p x ys k e)
 
-copy_opens : (ram harts : ℕ) (f : Fixed) (lots : List Lot) (o : Op) (chan : ChanNo) (cfg : ℕ) (src dst : Lot) → IsFixed ram harts f → chan.0 < 4 → AreMade o lots → source ∷ target ∷ [] ≡ made_names o
+copy_opens : (ram harts : ℕ) (f : DriverConfig) (lots : List Lot) (o : Op) (chan : ChanNo) (cfg : ℕ) (src dst : Lot) → IsFixed ram harts f → chan.0 < 4 → AreMade o lots → source ∷ target ∷ [] ≡ made_names o
     → Found (IsReady ram f) (is_lot source) src → Found (IsReady ram f) (is_lot target) dst → Opens ram harts f lots turns.Stay (copy_steps f chan cfg src dst)
 copy_opens ram harts f lots o chan cfg src dst h lt made names s t =
     let plan = claimed_plan ram harts f chan cfg src dst h lt s.is t.is in
@@ -258,7 +258,7 @@ copy_opens ram harts f lots o chan cfg src dst h lt made names s t =
       first = tt;
     }
 
-copy_is : (ram harts : ℕ) (f : Fixed) (lots : List Lot) (o : Op) (chan : ChanNo) (cfg : ℕ) → IsFixed ram harts f → chan.0 < 4 → All (IsReady ram f) lots → AreMade o lots → source ∷ target ∷ [] ≡ made_names o
+copy_is : (ram harts : ℕ) (f : DriverConfig) (lots : List Lot) (o : Op) (chan : ChanNo) (cfg : ℕ) → IsFixed ram harts f → chan.0 < 4 → All (IsReady ram f) lots → AreMade o lots → source ∷ target ∷ [] ≡ made_names o
     → Opens ram harts f lots turns.Stay (copy_steps_of f chan cfg (find (is_lot source) lots) (find (is_lot target) lots))
 copy_is ram harts f lots o chan cfg h lt all made names =
     let two = two_ends made.new (made.names ∙ sym names) in
@@ -272,7 +272,7 @@ copy_is ram harts f lots o chan cfg h lt all made names =
 
 -- ---- every operation
 
-plain_opens : (ram harts : ℕ) (f : Fixed) (lots : List Lot) (o : Op) (turn : Turn) (plan : List Step) → AreMade o lots → IsPlan ram harts f plan → TurnIsThere ram turn
+plain_opens : (ram harts : ℕ) (f : DriverConfig) (lots : List Lot) (o : Op) (turn : Turn) (plan : List Step) → AreMade o lots → IsPlan ram harts f plan → TurnIsThere ram turn
     → All (IsOwedName (turn ∷ turns_of plan)) (made_names o) → Opens ram harts f lots turn plan
 plain_opens ram harts f lots o turn plan made h th names = record {
   there = h.there;
@@ -283,17 +283,17 @@ plain_opens ram harts f lots o turn plan made h th names = record {
 }
 
 -- of an operation that makes no lot
-old_opens : (ram harts : ℕ) (f : Fixed) (lots : List Lot) (o : Op) (turn : Turn) (plan : List Step) → AreMade o lots → made_names o ≡ [] → IsPlan ram harts f plan → TurnIsThere ram turn → Opens ram harts f lots turn plan
+old_opens : (ram harts : ℕ) (f : DriverConfig) (lots : List Lot) (o : Op) (turn : Turn) (plan : List Step) → AreMade o lots → made_names o ≡ [] → IsPlan ram harts f plan → TurnIsThere ram turn → Opens ram harts f lots turn plan
 old_opens ram harts f lots o turn plan made none h th =
     plain_opens ram harts f lots o turn plan made h th (subst (λ (ids : List LotId). All (IsOwedName (turn ∷ turns_of plan)) ids) (sym none) (All-nil (IsOwedName (turn ∷ turns_of plan))))
 
 -- of one that lends the lot that it made
-lent_opens : (ram harts : ℕ) (f : Fixed) (lots : List Lot) (o : Op) (label : Label) (plan : List Step) → AreMade o lots → lot_id label 0 ∷ [] ≡ made_names o → FitsLabel label → IsPlan ram harts f plan → Opens ram harts f lots (turns.Lend (lot_id label 0)) plan
+lent_opens : (ram harts : ℕ) (f : DriverConfig) (lots : List Lot) (o : Op) (label : Label) (plan : List Step) → AreMade o lots → lot_id label 0 ∷ [] ≡ made_names o → FitsLabel label → IsPlan ram harts f plan → Opens ram harts f lots (turns.Lend (lot_id label 0)) plan
 lent_opens ram harts f lots o label plan made names fits h =
     plain_opens ram harts f lots o (turns.Lend (lot_id label 0)) plan made h tt
     (subst (λ (ids : List LotId). All (IsOwedName (turns.Lend (lot_id label 0) ∷ turns_of plan)) ids) names (lent_name label (turns_of plan) fits))
 
-pub opens : (ram harts : ℕ) (f : Fixed) (lots : List Lot) (o : Op) → IsFixed ram harts f → FitsOp harts (length f.buffers) o → has_start o ≡ true → All (IsReady ram f) lots → AreMade o lots → Opens ram harts f lots (opening f lots o) (plan_of f lots o)
+pub opens : (ram harts : ℕ) (f : DriverConfig) (lots : List Lot) (o : Op) → IsFixed ram harts f → FitsOp harts (length f.buffers) o → has_start o ≡ true → All (IsReady ram f) lots → AreMade o lots → Opens ram harts f lots (opening f lots o) (plan_of f lots o)
 unfolding opening plan_of meaning handing.hand mappings.map_single mappings.unmap_single mappings.sync_for_cpu mappings.sync_for_device lists.map_sg lists.unmap_sg areas.calloc areas.give_area areas.take_area areas.free_area copies.copy
 opens ram harts f lots (ops.Map label buf off len dir chan) h fits start all made =
     lent_opens ram harts f lots (ops.Map label buf off len dir chan) label (with_lot [] (lend_steps f) (lot_named lots label kinds.Single)) made refl fits.0

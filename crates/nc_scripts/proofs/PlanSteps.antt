@@ -26,7 +26,7 @@ use Rattle.nc_rules.specs.declared.lots.Lot.{Lot}
 use Rattle.nc_rules.specs.declared.steps.Step.{Step}
 use Rattle.nc_rules.specs.declared.steps.Turn.{Turn}
 use Rattle.nc_rules.specs.declared.steps.Turn.TheVariants as turns
-use Rattle.nc_rules.specs.Lots.{Fixed, parts}
+use Rattle.nc_rules.specs.Lots.{DriverConfig, parts}
 use Rattle.nc_rules.specs.Plans.{hart_step, op_steps, turning, ending, beginning, carried, token_steps, lending_end, lend_steps, return_steps}
 use Rattle.nc_rules.specs.Sound.{IsBlockIn, IsPieceIn}
 use Rattle.nc_scripts.specs.Scripts.{IsRangeIn}
@@ -38,7 +38,7 @@ use Rattle.nc_scripts.proofs.LotMoves.{IsPartIn, entry_part, placed_entries}
 -- ---- plans
 
 -- steps that fit whatever was loaded before them
-pub record IsPlan (ram harts : ℕ) (f : Fixed) (steps : List Step) : Type 0 where
+pub record IsPlan (ram harts : ℕ) (f : DriverConfig) (steps : List Step) : Type 0 where
   pub there : All (StepIsThere ram harts f) steps
   pub fits : (n : ℕ) → LoadsFit n steps
   pub free : ClaimsNothing steps
@@ -46,14 +46,14 @@ pub record IsPlan (ram harts : ℕ) (f : Fixed) (steps : List Step) : Type 0 whe
 abbrev IsFree : Step → Type 0
 IsFree s = is_claim s.act ≡ false
 
-pub no_plan : (ram harts : ℕ) (f : Fixed) → IsPlan ram harts f []
+pub no_plan : (ram harts : ℕ) (f : DriverConfig) → IsPlan ram harts f []
 no_plan ram harts f = record { there = All-nil (StepIsThere ram harts f); fits = λ n. tt; free = All-nil IsFree }
 
 fits_join : (n : ℕ) (xs ys : List Step) → LoadsFit n xs → ((m : ℕ) → LoadsFit m ys) → LoadsFit n (xs ++ ys)
 fits_join n [] ys h k = k n
 fits_join n (s ∷ xs) ys h k = (h.0, fits_join (loaded_by s.act n) xs ys h.1 k)
 
-pub plan_join : (ram harts : ℕ) (f : Fixed) (xs ys : List Step) → IsPlan ram harts f xs → IsPlan ram harts f ys → IsPlan ram harts f (xs ++ ys)
+pub plan_join : (ram harts : ℕ) (f : DriverConfig) (xs ys : List Step) → IsPlan ram harts f xs → IsPlan ram harts f ys → IsPlan ram harts f (xs ++ ys)
 plan_join ram harts f xs ys h k = record {
   there = All-append (StepIsThere ram harts f) xs ys h.there k.there;
   fits = λ n. fits_join n xs ys (h.fits n) k.fits;
@@ -61,32 +61,32 @@ plan_join ram harts f xs ys h k = record {
 }
 
 -- an operation with a turn
-pub turn_plan : (ram harts : ℕ) (f : Fixed) (op : HartOp) (t : Turn) → HartOpIsThere ram harts f op → ((n : ℕ) → FitsLast n op) → TurnIsThere ram t → IsPlan ram harts f (turning t (hart_step op) ∷ [])
+pub turn_plan : (ram harts : ℕ) (f : DriverConfig) (op : HartOp) (t : Turn) → HartOpIsThere ram harts f op → ((n : ℕ) → FitsLast n op) → TurnIsThere ram t → IsPlan ram harts f (turning t (hart_step op) ∷ [])
 turn_plan ram harts f op t h k th = record {
   there = All-cons (StepIsThere ram harts f) (turning t (hart_step op)) [] (record { act = h; first = tt; last = th }) (All-nil (StepIsThere ram harts f));
   fits = λ n. (k n, tt);
   free = All-cons IsFree (turning t (hart_step op)) [] refl (All-nil IsFree);
 }
 
-pub op_plan : (ram harts : ℕ) (f : Fixed) (op : HartOp) → HartOpIsThere ram harts f op → ((n : ℕ) → FitsLast n op) → IsPlan ram harts f (hart_step op ∷ [])
+pub op_plan : (ram harts : ℕ) (f : DriverConfig) (op : HartOp) → HartOpIsThere ram harts f op → ((n : ℕ) → FitsLast n op) → IsPlan ram harts f (hart_step op ∷ [])
 op_plan ram harts f op h k = turn_plan ram harts f op turns.Stay h k tt
 
-ops_join : (ram harts : ℕ) (f : Fixed) (xs ys : List HartOp) → IsPlan ram harts f (op_steps xs) → IsPlan ram harts f (op_steps ys) → IsPlan ram harts f (op_steps (xs ++ ys))
+ops_join : (ram harts : ℕ) (f : DriverConfig) (xs ys : List HartOp) → IsPlan ram harts f (op_steps xs) → IsPlan ram harts f (op_steps ys) → IsPlan ram harts f (op_steps (xs ++ ys))
 ops_join ram harts f xs ys h k = rw (map-append hart_step xs ys) (plan_join ram harts f (op_steps xs) (op_steps ys) h k)
 
-full_plan : (ram harts : ℕ) (f : Fixed) → IsPlan ram harts f (op_steps (full ∷ []))
+full_plan : (ram harts : ℕ) (f : DriverConfig) → IsPlan ram harts f (op_steps (full ∷ []))
 full_plan ram harts f = op_plan ram harts f full (λ m h d fits. tt) (λ n. tt)
 
 -- ---- blocks
 
-cbo_plan : (ram harts : ℕ) (f : Fixed) (op : CboOp) (bs : List ℕ) → All (IsBlockIn f.size ram) bs → IsPlan ram harts f (op_steps (map (cbo op) bs))
+cbo_plan : (ram harts : ℕ) (f : DriverConfig) (op : CboOp) (bs : List ℕ) → All (IsBlockIn f.size ram) bs → IsPlan ram harts f (op_steps (map (cbo op) bs))
 cbo_plan ram harts f op [] all = no_plan ram harts f
 cbo_plan ram harts f op (b ∷ bs) all =
     plan_join ram harts f (hart_step (cbo op b) ∷ []) (op_steps (map (cbo op) bs))
     (op_plan ram harts f (cbo op b) (λ m h d fits. rw (d.memory, d.block) (All-head (IsBlockIn f.size ram) b bs all)) (λ n. tt))
     (cbo_plan ram harts f op bs (All-tail (IsBlockIn f.size ram) b bs all))
 
-blocks_in : (ram harts : ℕ) (f : Fixed) (span : Span) → IsFixed ram harts f → IsRangeIn ram span → All (IsBlockIn f.size ram) (blocks f.size span)
+blocks_in : (ram harts : ℕ) (f : DriverConfig) (span : Span) → IsFixed ram harts f → IsRangeIn ram span → All (IsBlockIn f.size ram) (blocks f.size span)
 blocks_in ram harts f span h k =
     all_in (IsBlockIn f.size ram) (blocks f.size span) (λ b has.
     let x = (blocks_are_met f.size span h.sized).only b has in
@@ -94,7 +94,7 @@ blocks_in ram harts f span h k =
     let inside = whole_block ram x.0 h.sized (page_whole ram h.sized (inl h.ram_whole)) lt in
     subst (λ (b : ℕ). IsBlockIn f.size ram b) x.3 inside)
 
-cbos_plan : (ram harts : ℕ) (f : Fixed) (op : CboOp) (span : Span) → IsFixed ram harts f → IsRangeIn ram span → IsPlan ram harts f (op_steps (cbos op f.size span))
+cbos_plan : (ram harts : ℕ) (f : DriverConfig) (op : CboOp) (span : Span) → IsFixed ram harts f → IsRangeIn ram span → IsPlan ram harts f (op_steps (cbos op f.size span))
 cbos_plan ram harts f op span h k = cbo_plan ram harts f op (blocks f.size span) (blocks_in ram harts f span h k)
 
 -- ---- pieces
@@ -109,7 +109,7 @@ tiles_in ram at len (p ∷ ps) h le =
 pieces_in : (ram : ℕ) (span : Span) → IsRangeIn ram span → All (IsPieceIn ram) (pieces span)
 pieces_in ram span h = tiles_in ram span.at span.len (pieces span) (tiles span) h.ends
 
-load_plan : (ram harts : ℕ) (f : Fixed) (from to : ℕ) (p : Span) → IsPieceIn ram p → IsPieceIn ram (moved from to p) → IsPlan ram harts f (op_steps (copy_piece from to p))
+load_plan : (ram harts : ℕ) (f : DriverConfig) (from to : ℕ) (p : Span) → IsPieceIn ram p → IsPieceIn ram (moved from to p) → IsPlan ram harts f (op_steps (copy_piece from to p))
 load_plan ram harts f from to p h k = record {
   there =
       All-cons (StepIsThere ram harts f) (hart_step (hart.Load p Pma)) (hart_step (hart.Store (moved from to p) Pma Last) ∷ []) (record { act = λ m me d fits. rw d.memory h; first = tt; last = tt })
@@ -119,78 +119,78 @@ load_plan ram harts f from to p h k = record {
   free = All-cons IsFree (hart_step (hart.Load p Pma)) (hart_step (hart.Store (moved from to p) Pma Last) ∷ []) refl (All-cons IsFree (hart_step (hart.Store (moved from to p) Pma Last)) [] refl (All-nil IsFree));
 }
 
-pieces_plan : (ram harts : ℕ) (f : Fixed) (from to : ℕ) (ps : List Span) → All (IsPieceIn ram) ps → All (IsPieceIn ram) (map (moved from to) ps) → IsPlan ram harts f (op_steps (flat_map (copy_piece from to) ps))
+pieces_plan : (ram harts : ℕ) (f : DriverConfig) (from to : ℕ) (ps : List Span) → All (IsPieceIn ram) ps → All (IsPieceIn ram) (map (moved from to) ps) → IsPlan ram harts f (op_steps (flat_map (copy_piece from to) ps))
 pieces_plan ram harts f from to [] all moves = no_plan ram harts f
 pieces_plan ram harts f from to (p ∷ ps) all moves =
     plan_join ram harts f (op_steps (copy_piece from to p)) (op_steps (flat_map (copy_piece from to) ps))
     (load_plan ram harts f from to p (All-head (IsPieceIn ram) p ps all) (All-head (IsPieceIn ram) (moved from to p) (map (moved from to) ps) moves))
     (pieces_plan ram harts f from to ps (All-tail (IsPieceIn ram) p ps all) (All-tail (IsPieceIn ram) (moved from to p) (map (moved from to) ps) moves))
 
-copies_plan : (ram harts : ℕ) (f : Fixed) (from to : Span) → IsRangeIn ram from → IsRangeIn ram to → from.len ≡ to.len → from.at % 8 ≡ to.at % 8 → IsPlan ram harts f (op_steps (copies from to))
+copies_plan : (ram harts : ℕ) (f : DriverConfig) (from to : Span) → IsRangeIn ram from → IsRangeIn ram to → from.len ≡ to.len → from.at % 8 ≡ to.at % 8 → IsPlan ram harts f (op_steps (copies from to))
 copies_plan ram harts f from to h k e o =
     pieces_plan ram harts f from.at to.at (pieces from) (pieces_in ram from h)
     (subst (λ (ps : List Span). All (IsPieceIn ram) ps) (sym (pieces_move from to e o)) (pieces_in ram to k))
 
 -- ---- the parts of plans
 
-if_plan : (ram harts : ℕ) (f : Fixed) (t : Bool) (ops : List HartOp) → IsPlan ram harts f (op_steps ops) → IsPlan ram harts f (op_steps (if t then ops else []))
+if_plan : (ram harts : ℕ) (f : DriverConfig) (t : Bool) (ops : List HartOp) → IsPlan ram harts f (op_steps ops) → IsPlan ram harts f (op_steps (if t then ops else []))
 if_plan ram harts f true ops h = h
 if_plan ram harts f false ops h = no_plan ram harts f
 
-in_plan : (ram harts : ℕ) (f : Fixed) (p : Part) → IsPartIn ram p → IsPlan ram harts f (op_steps (copied_in p))
+in_plan : (ram harts : ℕ) (f : DriverConfig) (p : Part) → IsPartIn ram p → IsPlan ram harts f (op_steps (copied_in p))
 unfolding copied_in
 in_plan ram harts f p k = if_plan ram harts f (is_bounced p) (copies p.buffer p.device) (copies_plan ram harts f p.buffer p.device k.buffer k.device k.lengths k.offset)
 
-back_plan : (ram harts : ℕ) (f : Fixed) (p : Part) → IsPartIn ram p → IsPlan ram harts f (op_steps (copied_back p))
+back_plan : (ram harts : ℕ) (f : DriverConfig) (p : Part) → IsPartIn ram p → IsPlan ram harts f (op_steps (copied_back p))
 unfolding copied_back
 back_plan ram harts f p k = if_plan ram harts f (comes_back p.dir && is_bounced p) (copies p.device p.buffer) (copies_plan ram harts f p.device p.buffer k.device k.buffer (sym k.lengths) (sym k.offset))
 
-written_plan : (ram harts : ℕ) (f : Fixed) (p : Part) → IsFixed ram harts f → IsPartIn ram p → IsPlan ram harts f (op_steps (written_back f.effects f.size p))
+written_plan : (ram harts : ℕ) (f : DriverConfig) (p : Part) → IsFixed ram harts f → IsPartIn ram p → IsPlan ram harts f (op_steps (written_back f.effects f.size p))
 unfolding written_back
 written_plan ram harts f p h k = cbos_plan ram harts f (lend_op f.effects p.dir) p.device h k.device
 
-dropped_plan : (ram harts : ℕ) (f : Fixed) (p : Part) → IsFixed ram harts f → IsPartIn ram p → IsPlan ram harts f (op_steps (dropped f.effects f.size p))
+dropped_plan : (ram harts : ℕ) (f : DriverConfig) (p : Part) → IsFixed ram harts f → IsPartIn ram p → IsPlan ram harts f (op_steps (dropped f.effects f.size p))
 unfolding dropped
 dropped_plan ram harts f p h k = if_plan ram harts f (comes_back p.dir) (cbos (return_op f.effects) f.size p.device) (cbos_plan ram harts f (return_op f.effects) p.device h k.device)
 
-each_plan : (ram harts : ℕ) (f : Fixed) (g : Part → List HartOp) (ps : List Part) → All (IsPartIn ram) ps → ((p : Part) → IsPartIn ram p → IsPlan ram harts f (op_steps (g p))) → IsPlan ram harts f (op_steps (flat_map g ps))
+each_plan : (ram harts : ℕ) (f : DriverConfig) (g : Part → List HartOp) (ps : List Part) → All (IsPartIn ram) ps → ((p : Part) → IsPartIn ram p → IsPlan ram harts f (op_steps (g p))) → IsPlan ram harts f (op_steps (flat_map g ps))
 each_plan ram harts f g [] all h = no_plan ram harts f
 each_plan ram harts f g (p ∷ ps) all h = ops_join ram harts f (g p) (flat_map g ps) (h p (All-head (IsPartIn ram) p ps all)) (each_plan ram harts f g ps (All-tail (IsPartIn ram) p ps all) h)
 
 -- ---- lots
 
-pub parts_in : (ram harts : ℕ) (f : Fixed) (lot : Lot) → IsFixed ram harts f → IsLotIn ram f lot → IsPlaced lot → All (IsPartIn ram) (parts f lot)
+pub parts_in : (ram harts : ℕ) (f : DriverConfig) (lot : Lot) → IsFixed ram harts f → IsLotIn ram f lot → IsPlaced lot → All (IsPartIn ram) (parts f lot)
 parts_in ram harts f lot h k placed =
     All-map (IsPartIn ram) (part_of lot.list.dir f.slots_at) lot.list.entries
     (all_both (IsEntryIn ram f.slots) (λ e. waits e ≡ false) (λ e. IsPartIn ram (part_of lot.list.dir f.slots_at e)) lot.list.entries k.entries (placed_entries lot placed)
     (λ e is off. entry_part ram harts f lot.list.dir e h is off))
 
-carried_plan : (ram harts : ℕ) (f : Fixed) (ps : List Part) → IsFixed ram harts f → All (IsPartIn ram) ps → IsPlan ram harts f (op_steps (carried f.effects f.size ps))
+carried_plan : (ram harts : ℕ) (f : DriverConfig) (ps : List Part) → IsFixed ram harts f → All (IsPartIn ram) ps → IsPlan ram harts f (op_steps (carried f.effects f.size ps))
 carried_plan ram harts f ps h all =
     ops_join ram harts f (flat_map copied_in ps) (flat_map (written_back f.effects f.size) ps)
     (each_plan ram harts f copied_in ps all (in_plan ram harts f))
     (each_plan ram harts f (written_back f.effects f.size) ps all (λ p k. written_plan ram harts f p h k))
 
-token_plan : (ram harts : ℕ) (f : Fixed) (lot : Lot) → IsPlan ram harts f (token_steps lot)
+token_plan : (ram harts : ℕ) (f : DriverConfig) (lot : Lot) → IsPlan ram harts f (token_steps lot)
 token_plan ram harts f lot =
     plan_join ram harts f (hart_step (hart.Mark 1 4) ∷ []) (hart_step (hart.IoStore (io.Lend lot.id.label lot.id.first (length lot.list.entries))) ∷ [])
     (op_plan ram harts f (hart.Mark 1 4) (λ m h d fits. tt) (λ n. tt))
     (op_plan ram harts f (hart.IoStore (io.Lend lot.id.label lot.id.first (length lot.list.entries))) (λ m h d fits. tt) (λ n. tt))
 
-end_by : (ram harts : ℕ) (f : Fixed) (lot : Lot) (light : Bool) → IsPlan ram harts f (if light then token_steps lot else turning (turns.Give lot.id) (hart_step full) ∷ [])
+end_by : (ram harts : ℕ) (f : DriverConfig) (lot : Lot) (light : Bool) → IsPlan ram harts f (if light then token_steps lot else turning (turns.Give lot.id) (hart_step full) ∷ [])
 end_by ram harts f lot true = token_plan ram harts f lot
 end_by ram harts f lot false = turn_plan ram harts f full (turns.Give lot.id) (λ m h d fits. tt) (λ n. tt) tt
 
-pub lending_end_plan : (ram harts : ℕ) (f : Fixed) (lot : Lot) → IsPlan ram harts f (lending_end f lot)
+pub lending_end_plan : (ram harts : ℕ) (f : DriverConfig) (lot : Lot) → IsPlan ram harts f (lending_end f lot)
 lending_end_plan ram harts f lot = end_by ram harts f lot f.light
 
-pub lend_plan : (ram harts : ℕ) (f : Fixed) (lot : Lot) → IsFixed ram harts f → IsLotIn ram f lot → IsPlaced lot → IsPlan ram harts f (lend_steps f lot)
+pub lend_plan : (ram harts : ℕ) (f : DriverConfig) (lot : Lot) → IsFixed ram harts f → IsLotIn ram f lot → IsPlaced lot → IsPlan ram harts f (lend_steps f lot)
 lend_plan ram harts f lot h k placed =
     plan_join ram harts f (op_steps (carried f.effects f.size (parts f lot))) (lending_end f lot)
     (carried_plan ram harts f (parts f lot) h (parts_in ram harts f lot h k placed))
     (lending_end_plan ram harts f lot)
 
-pub return_plan : (ram harts : ℕ) (f : Fixed) (lot : Lot) → IsFixed ram harts f → IsLotIn ram f lot → IsPlaced lot → IsPlan ram harts f (return_steps f lot)
+pub return_plan : (ram harts : ℕ) (f : DriverConfig) (lot : Lot) → IsFixed ram harts f → IsLotIn ram f lot → IsPlaced lot → IsPlan ram harts f (return_steps f lot)
 unfolding returning
 return_plan ram harts f lot h k placed =
     let all = parts_in ram harts f lot h k placed in
@@ -198,7 +198,7 @@ return_plan ram harts f lot h k placed =
     (ops_join ram harts f (flat_map (dropped f.effects f.size) (parts f lot)) (full ∷ []) (each_plan ram harts f (dropped f.effects f.size) (parts f lot) all (λ p is. dropped_plan ram harts f p h is)) (full_plan ram harts f))
     (each_plan ram harts f copied_back (parts f lot) all (back_plan ram harts f))
 
-pub allocating_plan : (ram harts : ℕ) (f : Fixed) (span : Span) → IsFixed ram harts f → IsRangeIn ram span → IsPlan ram harts f (op_steps (allocating f.effects f.size span))
+pub allocating_plan : (ram harts : ℕ) (f : DriverConfig) (span : Span) → IsFixed ram harts f → IsRangeIn ram span → IsPlan ram harts f (op_steps (allocating f.effects f.size span))
 unfolding allocating
 allocating_plan ram harts f span h k =
     let zero_op = result_unwrap_or f.effects.zero cbo_ops.Zero in
@@ -209,7 +209,7 @@ allocating_plan ram harts f span h k =
 
 -- ---- turns at the ends
 
-ending_there : (ram harts : ℕ) (f : Fixed) (t : Turn) (steps : List Step) → TurnIsThere ram t → All (StepIsThere ram harts f) steps → All (StepIsThere ram harts f) (ending t steps)
+ending_there : (ram harts : ℕ) (f : DriverConfig) (t : Turn) (steps : List Step) → TurnIsThere ram t → All (StepIsThere ram harts f) steps → All (StepIsThere ram harts f) (ending t steps)
 ending_there ram harts f t [] th all = all
 ending_there ram harts f t (s ∷ []) th all =
     let h = All-head (StepIsThere ram harts f) s [] all in
@@ -228,14 +228,14 @@ ending_free t [] all = all
 ending_free t (s ∷ []) all = All-cons IsFree (turning t s) [] (All-head IsFree s [] all) (All-nil IsFree)
 ending_free t (s ∷ u ∷ rest) all = All-cons IsFree s (ending t (u ∷ rest)) (All-head IsFree s (u ∷ rest) all) (ending_free t (u ∷ rest) (All-tail IsFree s (u ∷ rest) all))
 
-pub ending_plan : (ram harts : ℕ) (f : Fixed) (t : Turn) (steps : List Step) → TurnIsThere ram t → IsPlan ram harts f steps → IsPlan ram harts f (ending t steps)
+pub ending_plan : (ram harts : ℕ) (f : DriverConfig) (t : Turn) (steps : List Step) → TurnIsThere ram t → IsPlan ram harts f steps → IsPlan ram harts f (ending t steps)
 ending_plan ram harts f t steps th h = record {
   there = ending_there ram harts f t steps th h.there;
   fits = λ n. ending_fits n t steps (h.fits n);
   free = ending_free t steps h.free;
 }
 
-beginning_there : (ram harts : ℕ) (f : Fixed) (t : Turn) (steps : List Step) → TurnIsThere ram t → All (StepIsThere ram harts f) steps → All (StepIsThere ram harts f) (beginning t steps)
+beginning_there : (ram harts : ℕ) (f : DriverConfig) (t : Turn) (steps : List Step) → TurnIsThere ram t → All (StepIsThere ram harts f) steps → All (StepIsThere ram harts f) (beginning t steps)
 beginning_there ram harts f t [] th all = all
 beginning_there ram harts f t (s ∷ rest) th all =
     let h = All-head (StepIsThere ram harts f) s rest all in
@@ -249,7 +249,7 @@ beginning_free : (t : Turn) (steps : List Step) → ClaimsNothing steps → Clai
 beginning_free t [] all = all
 beginning_free t (s ∷ rest) all = All-cons IsFree (record s { first = t }) rest (All-head IsFree s rest all) (All-tail IsFree s rest all)
 
-pub beginning_plan : (ram harts : ℕ) (f : Fixed) (t : Turn) (steps : List Step) → TurnIsThere ram t → IsPlan ram harts f steps → IsPlan ram harts f (beginning t steps)
+pub beginning_plan : (ram harts : ℕ) (f : DriverConfig) (t : Turn) (steps : List Step) → TurnIsThere ram t → IsPlan ram harts f steps → IsPlan ram harts f (beginning t steps)
 beginning_plan ram harts f t steps th h = record {
   there = beginning_there ram harts f t steps th h.there;
   fits = λ n. beginning_fits n t steps (h.fits n);
@@ -275,7 +275,7 @@ beginning_last : (t u : Turn) (steps : List Step) → In u (last_turns steps) �
 beginning_last t u [] h = h
 beginning_last t u (s ∷ rest) h = h
 
-some_returning : (f : Fixed) (lot : Lot) → 0 < length (return_steps f lot)
+some_returning : (f : DriverConfig) (lot : Lot) → 0 < length (return_steps f lot)
 unfolding returning
 some_returning f lot =
     let ps = parts f lot in
@@ -283,7 +283,7 @@ some_returning f lot =
     omega (arith, length-map (before ++ flat_map copied_back ps) hart_step, length-append before (flat_map copied_back ps), length-append (flat_map (dropped f.effects f.size) ps) (full ∷ []))
 
 -- of a lot's way back, with a turn at each end
-pub back_turn : (t u : Turn) (f : Fixed) (lot : Lot) → In u (turns_of (beginning t (ending u (return_steps f lot))))
+pub back_turn : (t u : Turn) (f : DriverConfig) (lot : Lot) → In u (turns_of (beginning t (ending u (return_steps f lot))))
 back_turn t u f lot =
     in_turns u (beginning t (ending u (return_steps f lot)))
     (beginning_last t u (ending u (return_steps f lot)) (ending_last u (return_steps f lot) (some_returning f lot)))
@@ -300,6 +300,6 @@ in_turns_right t (s ∷ xs) ys h = inr (inr (in_turns_right t xs ys h))
 
 -- ---- a plan claims nothing
 
-pub claims_none : (ram harts : ℕ) (f : Fixed) (lots : List Lot) (steps : List Step) → IsPlan ram harts f steps → ClaimsFirst lots steps
+pub claims_none : (ram harts : ℕ) (f : DriverConfig) (lots : List Lot) (steps : List Step) → IsPlan ram harts f steps → ClaimsFirst lots steps
 claims_none ram harts f lots [] h = tt
 claims_none ram harts f lots (s ∷ rest) h = (λ e. absurd (false≢true (sym (All-head IsFree s rest h.free) ∙ e)), All-tail IsFree s rest h.free)

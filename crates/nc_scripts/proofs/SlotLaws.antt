@@ -12,7 +12,7 @@ use Rattle.nc_rules.specs.declared.lots.Kind.{Kind}
 use Rattle.nc_rules.specs.declared.lots.Kind.TheVariants as kinds
 use Rattle.nc_rules.specs.declared.lots.Lot.{Lot}
 use Rattle.nc_rules.specs.declared.lots.LotId.{LotId}
-use Rattle.nc_rules.specs.Lots.{Fixed, is_lot, is_wanted, lot_waits, with_slot, slot_given}
+use Rattle.nc_rules.specs.Lots.{DriverConfig, is_lot, is_wanted, lot_waits, with_slot, slot_given}
 use Rattle.nc_rules.specs.Turns.{those}
 use Rattle.nc_scripts.specs.Drivers.{IsSlotOf, IsEntryIn, IsInPool, BouncesSo, FitsKind, IsLotIn, AreApart, IsSettled, AreMade}
 
@@ -42,7 +42,7 @@ kind_given pool k kinds.Copy id es h = (h.0, length-give_slot k es ∙ h.1)
 
 -- ---- lots
 
-lot_given : (ram : ℕ) (f : Fixed) (k : ℕ) (lot : Lot) → k < f.slots → IsLotIn ram f lot → IsLotIn ram f (with_slot k lot)
+lot_given : (ram : ℕ) (f : DriverConfig) (k : ℕ) (lot : Lot) → k < f.slots → IsLotIn ram f lot → IsLotIn ram f (with_slot k lot)
 lot_given ram f k lot lt h = record {
   few = omega (arith, length-give_slot k lot.list.entries, h.few);
   entries = all_given (IsEntryIn ram f.slots) k lot.list.entries h.entries (λ e is w. entry_given ram f.slots k e lt is w);
@@ -59,7 +59,7 @@ all_first : (P : Lot → Type 0) (k : ℕ) (lots : List Lot) → All P lots → 
 all_first P k [] all f = all
 all_first P k (lot ∷ lots) all f = first_by P k lot lots (lot_waits lot) (All-head P lot lots all) (f lot (All-head P lot lots all)) (All-tail P lot lots all) (all_first P k lots (All-tail P lot lots all) f)
 
-pub lots_given : (ram : ℕ) (f : Fixed) (k : ℕ) (lots : List Lot) → k < f.slots → All (IsLotIn ram f) lots → All (IsLotIn ram f) (slot_given k lots)
+pub lots_given : (ram : ℕ) (f : DriverConfig) (k : ℕ) (lots : List Lot) → k < f.slots → All (IsLotIn ram f) lots → All (IsLotIn ram f) (slot_given k lots)
 lots_given ram f k lots lt all = all_first (IsLotIn ram f) k lots all (λ lot h. lot_given ram f k lot lt h)
 
 names_by : (k : ℕ) (lot : Lot) (lots : List Lot) (t : Bool) → map (λ (l : Lot). l.id) (slot_given k lots) ≡ map (λ (l : Lot). l.id) lots

@@ -42,7 +42,7 @@ use Rattle.nc_rules.specs.declared.steps.Turn.{Turn}
 use Rattle.nc_rules.specs.declared.steps.Turn.TheVariants as turns
 use Rattle.nc_rules.specs.Machine.{MachineState, hart_of}
 use Rattle.nc_rules.specs.Calls.{issue_next}
-use Rattle.nc_rules.specs.Lots.{Fixed, reach_of, lot_id, is_lot, is_wanted, lot_waits, some_lot_waits}
+use Rattle.nc_rules.specs.Lots.{DriverConfig, reach_of, lot_id, is_lot, is_wanted, lot_waits, some_lot_waits}
 use Rattle.nc_rules.specs.Turns.{Moved, is_area, those}
 use Rattle.nc_rules.specs.Copies.{source, target}
 use Rattle.nc_rules.specs.Driver.{DriverState, Went, in_hand, next_of, started, told, done, lent}
@@ -53,7 +53,7 @@ use Rattle.nc_scripts.specs.Scripts.{IsRangeIn, IsDriven, is_act}
 -- ---- what a driver knows from the start
 
 -- in a scenario of so many bytes of RAM and so many harts
-pub record IsFixed (ram harts : ℕ) (f : Fixed) : Type 0 where
+pub record IsFixed (ram harts : ℕ) (f : DriverConfig) : Type 0 where
   pub ram_small : ram ≤ 1048576
   pub ram_whole : ram % 4096 ≡ 0
   pub me : f.me.0 < harts
@@ -79,7 +79,7 @@ pub record IsFixed (ram harts : ℕ) (f : Fixed) : Type 0 where
   pub reaches_pool : 0 < f.pool.len → All (λ r. f.pool.at + f.pool.len ≤ r) f.reach
 
 -- the pages are those of the driver's pool
-pub record ArePagesOf (f : Fixed) (pool : PageMap) : Type 0 where
+pub record ArePagesOf (f : DriverConfig) (pool : PageMap) : Type 0 where
   pub at : pool.at ≡ f.pool.at
   pub len : 4096 * length pool.free ≡ f.pool.len
 
@@ -124,10 +124,10 @@ FitsKind pool kinds.Area id entries = IsNamed id × (length entries ≡ 1) × Al
 FitsKind pool kinds.Copy id entries = IsEnd id × (length entries ≡ 1)
 
 -- an entry of a lot bounces where the rule says so, and one of an area never
-abbrev pub BouncesSo : Fixed → Kind → Dir → ChanNo → Entry → Type 0
+abbrev pub BouncesSo : DriverConfig → Kind → Dir → ChanNo → Entry → Type 0
 BouncesSo f kind dir chan e = e.bounced ≡ (not (is_area kind) && bounces e.span dir f.size (reach_of f chan))
 
-pub record IsLotIn (ram : ℕ) (f : Fixed) (lot : Lot) : Type 0 where
+pub record IsLotIn (ram : ℕ) (f : DriverConfig) (lot : Lot) : Type 0 where
   pub few : length lot.list.entries ≤ 16
   pub entries : All (IsEntryIn ram f.slots) lot.list.entries
   pub bounce : All (BouncesSo f lot.kind lot.list.dir lot.chan) lot.list.entries
@@ -203,11 +203,11 @@ LoadsFit n [] = Unit {0}
 LoadsFit n (s ∷ rest) = ActFitsLast n s.act × LoadsFit (loaded_by s.act n) rest
 
 -- an operation is there in every machine of the scenario's size, for a hart whose last load fits it
-abbrev pub HartOpIsThere : ℕ → ℕ → Fixed → HartOp → Type 0
+abbrev pub HartOpIsThere : ℕ → ℕ → DriverConfig → HartOp → Type 0
 HartOpIsThere ram harts f op =
     (m : MachineState) (h : ℕ) → IsDriven ram harts f m → FitsLast (length (hart_of m h).last) op → OpIsThere m h op
 
-abbrev pub ActIsThere : ℕ → ℕ → Fixed → Act → Type 0
+abbrev pub ActIsThere : ℕ → ℕ → DriverConfig → Act → Type 0
 ActIsThere ram harts f (acts.Op op) = HartOpIsThere ram harts f op
 ActIsThere ram harts f (acts.Claim chan) = chan.0 < 4
 ActIsThere ram harts f (acts.Poll chan) = chan.0 < 4
@@ -225,7 +225,7 @@ TurnIsThere ram (turns.Sync id) = Unit {0}
 TurnIsThere ram (turns.Settle id) = Unit {0}
 TurnIsThere ram (turns.End id) = Unit {0}
 
-pub record StepIsThere (ram harts : ℕ) (f : Fixed) (s : Step) : Type 0 where
+pub record StepIsThere (ram harts : ℕ) (f : DriverConfig) (s : Step) : Type 0 where
   pub act : ActIsThere ram harts f s.act
   pub first : TurnIsThere ram s.first
   pub last : TurnIsThere ram s.last
@@ -315,7 +315,7 @@ pub record IsDriver (ram harts : ℕ) (d : DriverState) : Type 0 where
 
 -- ---- what comes next
 
-abbrev pub NextIsThere : ℕ → ℕ → Fixed → Next → Type 0
+abbrev pub NextIsThere : ℕ → ℕ → DriverConfig → Next → Type 0
 NextIsThere ram harts f nexts.End = Unit {0}
 NextIsThere ram harts f nexts.Start = Unit {0}
 NextIsThere ram harts f (nexts.Search k) = k < f.slots
@@ -367,7 +367,7 @@ PageMoveIsIn pool (pages.Take span) = IsInPool pool span × (0 < span.len)
 PageMoveIsIn pool (pages.Give span) = IsInPool pool span × (0 < span.len)
 
 -- all that is moved is there, and is little enough to make room for before it
-pub record AreThere (ram : ℕ) (f : Fixed) (moves : Moved) : Type 0 where
+pub record AreThere (ram : ℕ) (f : DriverConfig) (moves : Moved) : Type 0 where
   pub transfers : All (λ t. IsRangeIn ram t.0) moves.transfers
   pub transfers_few : length moves.transfers ≤ 32
   pub grants : All (GrantIsIn ram f.me) moves.grants

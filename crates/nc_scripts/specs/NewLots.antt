@@ -9,7 +9,7 @@ use Rattle.nc_own.specs.Books.{owner_in}
 use Rattle.nc_coherent.specs.Pages.{PageMap, pages_of, page_count}
 use Rattle.nc_ops.specs.declared.ops.Op.{Op}
 use Rattle.nc_rules.specs.declared.lots.Lot.{Lot}
-use Rattle.nc_rules.specs.Lots.{Fixed, only_entry}
+use Rattle.nc_rules.specs.Lots.{DriverConfig, only_entry}
 use Rattle.nc_rules.specs.Turns.{is_area}
 use Rattle.nc_rules.specs.Operations.{begin}
 
@@ -41,4 +41,4 @@ pub record AreFree (me : HartNo) (owners : List Owner) (pool : PageMap) (new : L
 -- the law: what a start step makes lots of was free for it
 abbrev pub NewLotsAreFree : Type 0
 NewLotsAreFree =
-    (f : Fixed) (lots new : List Lot) (owners : List Owner) (pool : PageMap) (o : Op) → begin f lots owners pool o ≡ Ok new → AreFree f.me owners pool new
+    (f : DriverConfig) (lots new : List Lot) (owners : List Owner) (pool : PageMap) (o : Op) → begin f lots owners pool o ≡ Ok new → AreFree f.me owners pool new

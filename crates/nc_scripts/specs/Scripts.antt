@@ -10,7 +10,7 @@ use Rattle.nc_rules.specs.declared.steps.Step.{Step}
 use Rattle.nc_rules.specs.declared.steps.Turn.{Turn}
 use Rattle.nc_rules.specs.declared.steps.Turn.TheVariants as turns
 use Rattle.nc_rules.specs.Machine.{MachineState}
-use Rattle.nc_rules.specs.Lots.{Fixed}
+use Rattle.nc_rules.specs.Lots.{DriverConfig}
 use Rattle.nc_rules.specs.Sound.{OpIsThere}
 
 -- some bytes of a RAM of so many
@@ -19,14 +19,14 @@ pub record IsRangeIn (ram : ℕ) (range : Span) : Type 0 where
   pub ends : range.at + range.len ≤ ram
 
 -- a machine that the operations of a driver which knows this are for
-pub record IsDriven (ram harts : ℕ) (f : Fixed) (m : MachineState) : Type 0 where
+pub record IsDriven (ram harts : ℕ) (f : DriverConfig) (m : MachineState) : Type 0 where
   pub memory : length m.cache.ram ≡ ram
   pub block : m.size ≡ f.size
   pub processors : length m.harts ≡ harts
   pub boxes : length m.boxes ≡ length f.buffers
 
 -- what a step names is there
-abbrev pub ActIsThere : ℕ → ℕ → Fixed → Act → Type 0
+abbrev pub ActIsThere : ℕ → ℕ → DriverConfig → Act → Type 0
 ActIsThere ram harts f (acts.Op op) = (m : MachineState) (h : ℕ) → IsDriven ram harts f m → OpIsThere m h op
 ActIsThere ram harts f (acts.Claim chan) = chan.0 < 4
 ActIsThere ram harts f (acts.Poll chan) = chan.0 < 4
@@ -44,7 +44,7 @@ TurnIsThere ram (turns.Sync id) = ⊥
 TurnIsThere ram (turns.Settle id) = ⊥
 TurnIsThere ram (turns.End id) = ⊥
 
-pub record StepIsThere (ram harts : ℕ) (f : Fixed) (s : Step) : Type 0 where
+pub record StepIsThere (ram harts : ℕ) (f : DriverConfig) (s : Step) : Type 0 where
   pub act : ActIsThere ram harts f s.act
   pub first : TurnIsThere ram s.first
   pub last : TurnIsThere ram s.last

@@ -41,7 +41,7 @@ use Rattle.nc_rules.specs.declared.lots.Lot.{Lot}
 use Rattle.nc_rules.specs.declared.lots.LotId.{LotId}
 use Rattle.nc_rules.specs.declared.steps.Seen.{Seen}
 use Rattle.nc_rules.specs.declared.steps.Seen.TheVariants as seen
-use Rattle.nc_rules.specs.Lots.{Fixed, lot_named, map_id, some_lot_waits, lot_id, ranges_lot, only_entry, bus_of_lot}
+use Rattle.nc_rules.specs.Lots.{DriverConfig, lot_named, map_id, some_lot_waits, lot_id, ranges_lot, only_entry, bus_of_lot}
 use Rattle.nc_rules.specs.Refusals.{◌>>=◌, wanted, some_or, some_bytes, buffer_of, part_of, all_some, ranges_of, unused, named, owned_but, owned, owned_from, legal, planned, lendable, small_enough, slots_there, placeable}
 use Rattle.nc_rules.specs.Accesses as access
 use Rattle.nc_rules.specs.Accesses.{spot_at, piece_step}
@@ -97,7 +97,7 @@ all_clear : (es : List SgEntry) → Clear (all_some es)
 all_clear [] = refl
 all_clear (e ∷ es) = then_clear (some_bytes e.len) (λ _. all_some es) (some_clear e.len) (λ _. all_clear es)
 
-ranges_clear : (f : Fixed) (es : List SgEntry) → Clear (ranges_of f es)
+ranges_clear : (f : DriverConfig) (es : List SgEntry) → Clear (ranges_of f es)
 ranges_clear f [] = refl
 ranges_clear f (e ∷ es) =
     then_clear (part_of (buffer_of f e.buf) e.off e.len) (λ range. ranges_of f es >>= λ ranges. Ok (range ∷ ranges)) (part_clear (buffer_of f e.buf) e.off e.len)
@@ -132,7 +132,7 @@ slots_by : (n : ℕ) (t : Bool) → 0 < n → Clear (wanted refusals.NoSlot (not
 slots_by n true some = let off : (n == 0) ≡ false = grind (arith, nat_tests) in rw off refl
 slots_by n false some = refl
 
-place_clear : (f : Fixed) (lots : List Lot) → 0 < f.slots → Clear (placeable f lots)
+place_clear : (f : DriverConfig) (lots : List Lot) → 0 < f.slots → Clear (placeable f lots)
 place_clear f lots some =
     then_clear (small_enough lots) (λ _. slots_there f lots >>= λ _. Ok lots) (wanted_clear refusals.TooBig _ refl)
     (λ _. then_clear (slots_there f lots) (λ _. Ok lots) (slots_by f.slots (some_lot_waits lots) some) (λ _. refl))
@@ -142,7 +142,7 @@ place_clear f lots some =
 abbrev none : List Lot
 none = []
 
-map_clear : (f : Fixed) (lots : List Lot) (label : Label) (entry : SgEntry) (dir : Dir) (chan : ChanNo) (owners : List Owner) → 0 < f.slots → Clear (map_begin f lots label entry dir chan owners)
+map_clear : (f : DriverConfig) (lots : List Lot) (label : Label) (entry : SgEntry) (dir : Dir) (chan : ChanNo) (owners : List Owner) → 0 < f.slots → Clear (map_begin f lots label entry dir chan owners)
 map_clear f lots label entry dir chan owners some =
     then_clear (all_some (entry ∷ [])) _ (all_clear (entry ∷ []))
     (λ _. then_clear (ranges_of f (entry ∷ [])) _ (ranges_clear f (entry ∷ []))
@@ -150,7 +150,7 @@ map_clear f lots label entry dir chan owners some =
     (λ _. then_clear (owned_from f.me (lot_id label 0) 0 owners ranges) _ (from_clear f.me (lot_id label 0) 0 owners ranges)
     (λ _. then_clear (lendable f.effects dir) _ (planned_clear (effects.needs f.effects dir)) (λ _. place_clear f (ranges_lot f (lot_id label 0) kinds.Single dir chan ranges ∷ []) some)))))
 
-map_sg_clear : (f : Fixed) (lots : List Lot) (label : Label) (es : List SgEntry) (dir : Dir) (chan : ChanNo) (owners : List Owner) → 0 < f.slots → Clear (map_sg_begin f lots label es dir chan owners)
+map_sg_clear : (f : DriverConfig) (lots : List Lot) (label : Label) (es : List SgEntry) (dir : Dir) (chan : ChanNo) (owners : List Owner) → 0 < f.slots → Clear (map_sg_begin f lots label es dir chan owners)
 map_sg_clear f lots label es dir chan owners some =
     then_clear (lists.some_entries es) _ (wanted_clear refusals.Empty _ refl)
     (λ _. then_clear (all_some es) _ (all_clear es)
@@ -159,7 +159,7 @@ map_sg_clear f lots label es dir chan owners some =
     (λ _. then_clear (owned_from f.me (lot_id label 0) 0 owners ranges) _ (from_clear f.me (lot_id label 0) 0 owners ranges)
     (λ _. then_clear (lendable f.effects dir) _ (planned_clear (effects.needs f.effects dir)) (λ _. place_clear f (ranges_lot f (lot_id label 0) kinds.List dir chan ranges ∷ []) some))))))
 
-copy_clear : (f : Fixed) (src dst : SgEntry) (chan : ChanNo) (owners : List Owner) → 0 < f.slots → Clear (copy_begin f src dst chan owners)
+copy_clear : (f : DriverConfig) (src dst : SgEntry) (chan : ChanNo) (owners : List Owner) → 0 < f.slots → Clear (copy_begin f src dst chan owners)
 copy_clear f src dst chan owners some =
     then_clear (all_some (src ∷ dst ∷ [])) _ (all_clear (src ∷ dst ∷ []))
     (λ _. then_clear (ranges_of f (src ∷ dst ∷ [])) _ (ranges_clear f (src ∷ dst ∷ []))
@@ -167,7 +167,7 @@ copy_clear f src dst chan owners some =
     (λ _. then_clear (lendable f.effects ToDev) _ (planned_clear (effects.needs f.effects ToDev))
     (λ _. then_clear (lendable f.effects FromDev) _ (planned_clear (effects.needs f.effects FromDev)) (λ _. place_clear f (copies.ends_of f chan ranges) some)))))
 
-calloc_clear : (f : Fixed) (lots : List Lot) (label : Label) (count : ℕ) (chan : ChanNo) (pages : PageMap) → Clear (calloc_begin f lots label count chan pages)
+calloc_clear : (f : DriverConfig) (lots : List Lot) (label : Label) (count : ℕ) (chan : ChanNo) (pages : PageMap) → Clear (calloc_begin f lots label count chan pages)
 calloc_clear f lots label count chan pages =
     then_clear (wanted refusals.Empty (not (count == 0))) _ (wanted_clear refusals.Empty _ refl)
     (λ _. then_clear (unused lots label) _ (wanted_clear refusals.LabelUsed _ refl)
@@ -183,12 +183,12 @@ unmap_sg_clear lots label count =
     then_clear (named lots label kinds.List) _ (named_clear lots label kinds.List)
     (λ lot. then_clear (wanted (refusals.BadCount (length lot.list.entries)) (length lot.list.entries == count)) (λ _. Ok none) (wanted_clear (refusals.BadCount (length lot.list.entries)) (length lot.list.entries == count) refl) (λ _. refl))
 
-cfree_clear : (f : Fixed) (lots : List Lot) (label : Label) (owners : List Owner) → Clear (cfree_begin f lots label owners)
+cfree_clear : (f : DriverConfig) (lots : List Lot) (label : Label) (owners : List Owner) → Clear (cfree_begin f lots label owners)
 cfree_clear f lots label owners =
     then_clear (named lots label kinds.Area) _ (named_clear lots label kinds.Area)
     (λ lot. then_clear (owned f.me owners (only_entry lot).span) (λ _. Ok none) (owned_clear f.me owners (only_entry lot).span) (λ _. refl))
 
-pub begin_clear : (f : Fixed) (lots : List Lot) (owners : List Owner) (pages : PageMap) (o : Op) → 0 < f.slots → Clear (begin f lots owners pages o)
+pub begin_clear : (f : DriverConfig) (lots : List Lot) (owners : List Owner) (pages : PageMap) (o : Op) → 0 < f.slots → Clear (begin f lots owners pages o)
 unfolding begin meaning access.load access.store cache_ops.cache_operation cache_ops.fence mappings.map_single mappings.unmap_single mappings.sync_for_cpu mappings.sync_for_device lists.map_sg lists.unmap_sg areas.calloc areas.give_area areas.take_area areas.free_area handing.hand handing.take channels.claim channels.free channels.set_up channels.run channels.poll channels.read_register channels.write_register copies.copy
 begin_clear f lots owners pages (ops.Ld spot off len) some = refl
 begin_clear f lots owners pages (ops.St spot off bytes) some = refl
@@ -222,7 +222,7 @@ piece_clear (Ok None) = refl
 piece_clear (Ok (Some op)) = refl
 piece_clear (Err fault) = refl
 
-spot_clear : (f : Fixed) (lots : List Lot) (spot : Spot) (off len : ℕ) → Clear (spot_at f lots spot off len)
+spot_clear : (f : DriverConfig) (lots : List Lot) (spot : Spot) (off len : ℕ) → Clear (spot_at f lots spot off len)
 spot_clear f lots (spots.Buffer buf) off len =
     then_clear (some_bytes len) _ (some_clear len) (λ _. then_clear (part_of (buffer_of f buf) off len) (λ range. Ok (at.Ram range.at Pma)) (part_clear (buffer_of f buf) off len) (λ range. refl))
 spot_clear f lots spots.Virtual off len =
@@ -231,7 +231,7 @@ spot_clear f lots (spots.Area label) off len =
     then_clear (some_bytes len) _ (some_clear len)
     (λ _. then_clear (named lots label kinds.Area) _ (named_clear lots label kinds.Area) (λ lot. then_clear (part_of (only_entry lot).span off len) (λ range. Ok (at.Ram range.at Nc)) (part_clear (only_entry lot).span off len) (λ range. refl)))
 
-bus_clear : (f : Fixed) (lots : List Lot) (arg : BusArg) → Clear (bus_of f lots arg)
+bus_clear : (f : DriverConfig) (lots : List Lot) (arg : BusArg) → Clear (bus_of f lots arg)
 bus_clear f lots (bus.At n) = refl
 bus_clear f lots (bus.Map label) = then_clear (named lots label kinds.Single) (λ lot. Ok (bus_of_lot f lot)) (named_clear lots label kinds.Single) (λ lot. refl)
 bus_clear f lots (bus.Segment label n) =
@@ -242,7 +242,7 @@ bus_clear f lots (bus.Area label) = then_clear (named lots label kinds.Area) (λ
 known_clear : (off width : ℕ) → Clear (known off width)
 known_clear off width = wanted_clear (refusals.BadMmio off width) (is_some (register_at off width)) refl
 
-pub step_clear : (f : Fixed) (lots : List Lot) (o : Op) (n : ℕ) → Clear (step_at f lots o n)
+pub step_clear : (f : DriverConfig) (lots : List Lot) (o : Op) (n : ℕ) → Clear (step_at f lots o n)
 unfolding step_at meaning access.load access.store cache_ops.cache_operation cache_ops.fence mappings.map_single mappings.unmap_single mappings.sync_for_cpu mappings.sync_for_device lists.map_sg lists.unmap_sg areas.calloc areas.give_area areas.take_area areas.free_area handing.hand handing.take channels.claim channels.free channels.set_up channels.run channels.poll channels.read_register channels.write_register copies.copy
 step_clear f lots (ops.Ld spot off len) n = then_clear (spot_at f lots spot off len) _ (spot_clear f lots spot off len) (λ to. piece_clear _)
 step_clear f lots (ops.St spot off bytes) n = then_clear (spot_at f lots spot off (length bytes)) _ (spot_clear f lots spot off (length bytes)) (λ to. piece_clear _)
@@ -276,15 +276,15 @@ abbrev pub noslot_in : Option Answer → Bool
 noslot_in None = false
 noslot_in (Some a) = is_noslot a
 
-mapped_not : (f : Fixed) (o : Option Lot) → noslot_in (mapped_answer f o) ≡ false
+mapped_not : (f : DriverConfig) (o : Option Lot) → noslot_in (mapped_answer f o) ≡ false
 mapped_not f None = refl
 mapped_not f (Some lot) = refl
 
-segments_not : (f : Fixed) (o : Option Lot) → noslot_in (segments_answer f o) ≡ false
+segments_not : (f : DriverConfig) (o : Option Lot) → noslot_in (segments_answer f o) ≡ false
 segments_not f None = refl
 segments_not f (Some lot) = refl
 
-allocated_not : (f : Fixed) (o : Option Lot) → noslot_in (allocated_answer f o) ≡ false
+allocated_not : (f : DriverConfig) (o : Option Lot) → noslot_in (allocated_answer f o) ≡ false
 allocated_not f None = refl
 allocated_not f (Some lot) = refl
 
@@ -313,7 +313,7 @@ copied_not seen.Claimed = refl
 copied_not (seen.Busy g) = refl
 copied_not (seen.Value value) = refl
 
-pub good_not : (f : Fixed) (lots : List Lot) (o : Op) (saw : Seen) → noslot_in (good_answer f lots o saw) ≡ false
+pub good_not : (f : DriverConfig) (lots : List Lot) (o : Op) (saw : Seen) → noslot_in (good_answer f lots o saw) ≡ false
 unfolding good_answer meaning access.load access.store cache_ops.cache_operation cache_ops.fence mappings.map_single mappings.unmap_single mappings.sync_for_cpu mappings.sync_for_device lists.map_sg lists.unmap_sg areas.calloc areas.give_area areas.take_area areas.free_area handing.hand handing.take channels.claim channels.free channels.set_up channels.run channels.poll channels.read_register channels.write_register copies.copy
 good_not f lots (ops.Ld spot off len) saw = refl
 good_not f lots (ops.St spot off bytes) saw = refl
@@ -341,7 +341,7 @@ good_not f lots (ops.Regw chan off width value) saw = refl
 good_not f lots (ops.Copy chan src src_off dst dst_off len cfg) saw = copied_not saw
 
 -- a refusal is told as it is
-pub bad_is : (f : Fixed) (lots : List Lot) (o : Op) (r : Refusal) → is_noslot (bad_answer f lots o r) ≡ is_unslotted r
+pub bad_is : (f : DriverConfig) (lots : List Lot) (o : Op) (r : Refusal) → is_noslot (bad_answer f lots o r) ≡ is_unslotted r
 unfolding bad_answer meaning access.load access.store cache_ops.cache_operation cache_ops.fence mappings.map_single mappings.unmap_single mappings.sync_for_cpu mappings.sync_for_device lists.map_sg lists.unmap_sg areas.calloc areas.give_area areas.take_area areas.free_area handing.hand handing.take channels.claim channels.free channels.set_up channels.run channels.poll channels.read_register channels.write_register copies.copy
 bad_is f lots (ops.Ld spot off len) r = refl
 bad_is f lots (ops.St spot off bytes) r = refl

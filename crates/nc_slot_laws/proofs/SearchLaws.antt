@@ -25,7 +25,7 @@ use Rattle.nc_rules.specs.declared.steps.Next.TheVariants as nexts
 use Rattle.nc_rules.specs.declared.steps.Phase.TheVariants.{Steps}
 use Rattle.nc_rules.specs.declared.steps.Seen.TheVariants.{Nothing, Control}
 use Rattle.nc_rules.specs.Machine.{MachineState, grantee_of}
-use Rattle.nc_rules.specs.Calls.{issue_next, issue_answer, leaving, drain_next, fill_next, fill_answer, evict_next, evict_answer, chan_read_next, chan_read_told, chan_write_next, chan_write_told, control_of, claim_next, take_next}
+use Rattle.nc_rules.specs.Calls.{issue_next, issue_answer, leaving, drain_next, fill_next, fill_answer, evict_next, evict_answer, chan_read_next, chan_read_step, chan_write_next, chan_write_step, control_of, claim_next, take_next}
 use Rattle.nc_rules.specs.Driver.{DriverState, Went, next_of, searched, searching, is_script, waits_for, started, told, done, lent}
 use Rattle.nc_rules.specs.Events.{enabled, may_go_on, is_out}
 use Rattle.nc_rules.specs.Flat.{AreThere}
@@ -34,7 +34,7 @@ use Rattle.nc_rules.specs.Outcomes.{Outcome, goes, runs, seen_of, claim_seen, go
 use Rattle.nc_rules.specs.Records.{touch_records, op_records, drain_records, answer_records, read_records, write_records, try_records, told_records, told_answer, owner_records, back_records, answered}
 use Rattle.nc_rules.specs.Run as run
 use Rattle.nc_rules.specs.Start.{first_driver}
-use Rattle.nc_rules.specs.Watched.{issue_touch, poll_touch, drain_touch, transaction_touch}
+use Rattle.nc_rules.specs.EventTouches.{issue_touch, poll_touch, drain_touch, transaction_touch}
 use Rattle.nc_rules.specs.World.{WorldState, no_driver, driver_of, with_moves, hart, start}
 use Rattle.nc_holds.proofs.CallTold.{slot_there}
 use Rattle.nc_holds.proofs.EventGiven.{IsEvent}
@@ -427,11 +427,11 @@ outcome_kept sc w g seen (events.Fill h b) now is =
 outcome_kept sc w g seen (events.Evict h b) now is =
     runs_kept w g sc.slots seen (events.Evict h b) (evict_next w.machine h.0 b.0) None (answer_records w.machine.size (evict_answer w.machine h.0 b.0)) (driver_of w g.0) refl (plain_quiet (answer_records w.machine.size (evict_answer w.machine h.0 b.0)) (plain_answer w.machine.size (evict_answer w.machine h.0 b.0))) now.has
 outcome_kept sc w g seen (events.ChanRead chan) now is =
-    runs_kept w g sc.slots seen (events.ChanRead chan) (chan_read_next w.machine chan.0) (transaction_touch w chan Read (chan_read_told w.machine chan.0)) (read_records chan (chan_read_told w.machine chan.0)) (driver_of w g.0) refl
-    (plain_quiet (read_records chan (chan_read_told w.machine chan.0)) (plain_read chan (chan_read_told w.machine chan.0))) now.has
+    runs_kept w g sc.slots seen (events.ChanRead chan) (chan_read_next w.machine chan.0) (transaction_touch w chan Read (chan_read_step w.machine chan.0)) (read_records chan (chan_read_step w.machine chan.0)) (driver_of w g.0) refl
+    (plain_quiet (read_records chan (chan_read_step w.machine chan.0)) (plain_read chan (chan_read_step w.machine chan.0))) now.has
 outcome_kept sc w g seen (events.ChanWrite chan) now is =
-    runs_kept w g sc.slots seen (events.ChanWrite chan) (chan_write_next w.machine chan.0) (transaction_touch w chan Write (chan_write_told w.machine chan.0)) (write_records chan (chan_write_told w.machine chan.0)) (driver_of w g.0) refl
-    (plain_quiet (write_records chan (chan_write_told w.machine chan.0)) (plain_write chan (chan_write_told w.machine chan.0))) now.has
+    runs_kept w g sc.slots seen (events.ChanWrite chan) (chan_write_next w.machine chan.0) (transaction_touch w chan Write (chan_write_step w.machine chan.0)) (write_records chan (chan_write_step w.machine chan.0)) (driver_of w g.0) refl
+    (plain_quiet (write_records chan (chan_write_step w.machine chan.0)) (plain_write chan (chan_write_step w.machine chan.0))) now.has
 
 drivers_after : (w : WorldState) (o : Outcome) → (counted (after_outcome w o)).drivers ≡ o.drivers
 drivers_after w o = touched (with_moves (record w { machine = o.machine; drivers = o.drivers; slots = o.slots }) o.moves) o.touch

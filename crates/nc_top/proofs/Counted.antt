@@ -20,7 +20,7 @@ use Rattle.nc_rules.specs.Schedule.{sched}
 use Rattle.nc_rules.specs.World.{WorldState, start}
 use Rattle.nc_sched.specs.Stands.{Stand, first_stand, to_come, is_done}
 use Rattle.nc_world.proofs.Starts.{start_harts, start_size, start_ram}
-use Rattle.nc_world.specs.Shown.{Shown, answer}
+use Rattle.nc_world.specs.WorldView.{WorldView, answer}
 use Rattle.nc_world.specs.declared.world.Stepped.{Stepped}
 use Rattle.nc_world.specs.declared.world.Stepped.TheVariants.{Done, Skipped}
 use Rattle.nc_top.specs.declared.generated.Tally.{Tally}
@@ -72,7 +72,7 @@ at_end w0 w all left t none s =
 
 -- the world has the sizes of the scenario, no records are left, the events still to come are those of its schedule, and
 -- each answer came at most as often as events were tried
-pub record Counts (sc : Scenario) (w : Shown) (s : Stand) (last : Option Stepped) (t : Tally) : Type 0 where
+pub record Counts (sc : Scenario) (w : WorldView) (s : Stand) (last : Option Stepped) (t : Tally) : Type 0 where
   pub so_far : IsCounted (start sc) w.at (sched sc) (to_come sc s w.at (is_done last)) t
   pub few_done : t.done + s.left ≤ 400000
   pub few_missed : t.missed + s.left ≤ 400000
@@ -81,7 +81,7 @@ pub record Counts (sc : Scenario) (w : Shown) (s : Stand) (last : Option Stepped
   pub size : w.at.machine.size ≡ sc.block_size
   pub ram : length w.at.machine.cache.ram ≡ sc.ram
 
-pub count_start : (sc : Scenario) (w : Shown) (s : Stand) → IsAccepted sc → w.at ≡ start sc → w.records ≡ [] → s ≡ first_stand sc → to_come sc s (start sc) (is_done None) ≡ sched sc
+pub count_start : (sc : Scenario) (w : WorldView) (s : Stand) → IsAccepted sc → w.at ≡ start sc → w.records ≡ [] → s ≡ first_stand sc → to_come sc s (start sc) (is_done None) ≡ sched sc
     → Counts sc w s None (record { done = 0; missed = 0 })
 count_start sc w s a at none first whole =
     let left : s.left ≤ 400000 = omega (arith, ap (λ (v : Stand). v.left) first, a.limit) in
@@ -101,7 +101,7 @@ done_is : (t : Bool) → is_done (Some (if t then Done else Skipped)) ≡ t
 done_is true = refl
 done_is false = refl
 
-pub count_on : (sc : Scenario) (w v : Shown) (s u : Stand) (last : Option Stepped) (a : Stepped) (e : Event) (t n : Tally)
+pub count_on : (sc : Scenario) (w v : WorldView) (s u : Stand) (last : Option Stepped) (a : Stepped) (e : Event) (t n : Tally)
     → to_come sc s w.at (is_done last) ≡ e ∷ to_come sc u (next w.at e) (enabled w.at e)
     → v.at ≡ next w.at e → v.records ≡ [] → SameShape w.at.machine v.at.machine → a ≡ answer w.at e → n ≡ counted t (event_records w.at e) → u.left < s.left
     → Counts sc w s last t → Counts sc v u (Some a) n
@@ -122,7 +122,7 @@ count_on sc w v s u last a e t n here stepped none same answered tally fewer c =
     }
 
 -- the events are at their end
-pub count_end : (sc : Scenario) (w : Shown) (s : Stand) (last : Option Stepped) (t : Tally) → to_come sc s w.at (is_done last) ≡ [] → Counts sc w s last t
+pub count_end : (sc : Scenario) (w : WorldView) (s : Stand) (last : Option Stepped) (t : Tally) → to_come sc s w.at (is_done last) ≡ [] → Counts sc w s last t
     → (w.at ≡ after (start sc) (sched sc)) × (t ≡ tally_of (records (start sc) (sched sc)))
 count_end sc w s last t none c = at_end (start sc) w.at (sched sc) (to_come sc s w.at (is_done last)) t none c.so_far
 

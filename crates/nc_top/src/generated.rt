@@ -12,7 +12,7 @@ ghost use Rattle.nc_rules.specs.Next.{next, event_records};
 ghost use Rattle.nc_rules.specs.Run.{after, records};
 ghost use Rattle.nc_rules.specs.Schedule.{sched};
 ghost use Rattle.nc_rules.specs.World.{start};
-ghost use Rattle.nc_world.specs.Shown.{answer as stepped};
+ghost use Rattle.nc_world.specs.WorldView.{answer as stepped};
 ghost use Rattle.nc_top.specs.Due.{IsAnswer};
 ghost use Rattle.nc_top.specs.Tallies.{counted, tally_of};
 

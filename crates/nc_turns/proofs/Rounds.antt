@@ -12,7 +12,7 @@ use Rattle.nc_rules.specs.World.{WorldState, start, first_owners}
 use Rattle.nc_sched.specs.declared.sched.Phase.TheVariants as phases
 use Rattle.nc_sched.specs.Stands.{Stand, to_come, is_done, harts_of}
 use Rattle.nc_sched.proofs.Coming.{to_come-rounds}
-use Rattle.nc_world.specs.Shown.{answer}
+use Rattle.nc_world.specs.WorldView.{answer}
 use Rattle.nc_world.specs.declared.world.Stepped.{Stepped}
 use Rattle.nc_world.specs.declared.world.Stepped.TheVariants.{Done, Skipped}
 use Rattle.nc_turns.specs.Played.{finished}

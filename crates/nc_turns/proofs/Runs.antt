@@ -11,7 +11,7 @@ use Rattle.nc_rules.specs.Run.{after}
 use Rattle.nc_rules.specs.World.{WorldState, start}
 use Rattle.nc_flatness.specs.Flatness.{IsWorldOf}
 use Rattle.nc_flatness.specs.Steps.{WorldsStay}
-use Rattle.nc_world.specs.Shown.{Shown}
+use Rattle.nc_world.specs.WorldView.{WorldView}
 use Rattle.nc_turns.specs.declared.threads.Turner.{Turner}
 use Rattle.nc_turns.specs.States.{IsRun}
 use Rattle.nc_turns.specs.Threads.{belongs, made_by, most, world_of, ComesNext, IsThreaded}
@@ -26,14 +26,14 @@ after-push w (x ∷ es) e = after-push (next w x) es e
 pub world-push : (sc : Scenario) (es : List Event) (e : Event) → world_of sc (es ++ e ∷ []) ≡ next (world_of sc es) e
 world-push sc es e = after-push (start sc) es e
 
-pub shown_is : (w : Shown) (a : WorldState) → w.at ≡ a → w.records ≡ [] → w ≡ record { at = a; records = [] }
+pub shown_is : (w : WorldView) (a : WorldState) → w.at ≡ a → w.records ≡ [] → w ≡ record { at = a; records = [] }
 shown_is w a at none = ap (λ (v : WorldState). record { at = v; records = w.records }) at ∙ ap (λ rs. record { at = a; records = rs }) none
 
 -- one event more is one step more
-pub run-push : (sc : Scenario) (w v : Shown) (es : List Event) (e : Event) → WorldsStay → IsThere (length sc.harts) sc.block_size sc.ram e → length (es ++ e ∷ []) ≤ sc.limit
+pub run-push : (sc : Scenario) (w v : WorldView) (es : List Event) (e : Event) → WorldsStay → IsThere (length sc.harts) sc.block_size sc.ram e → length (es ++ e ∷ []) ≤ sc.limit
     → v.at ≡ next w.at e → v.records ≡ [] → IsRun sc w es → IsRun sc v (es ++ e ∷ [])
 run-push sc w v es e law there few at none r =
-    let here : v.at ≡ world_of sc (es ++ e ∷ []) = at ∙ ap (λ (u : Shown). next u.at e) r.world ∙ sym (world-push sc es e) in
+    let here : v.at ≡ world_of sc (es ++ e ∷ []) = at ∙ ap (λ (u : WorldView). next u.at e) r.world ∙ sym (world-push sc es e) in
     record {
       accepted = r.accepted;
       world = shown_is v (world_of sc (es ++ e ∷ [])) here none;

@@ -6,7 +6,7 @@ use Rattle.nc_scen.specs.declared.scenario.Scenario.{Scenario}
 use Rattle.nc_rules.specs.declared.steps.Next.{Next}
 use Rattle.nc_rules.specs.declared.steps.Next.TheVariants as nexts
 use Rattle.nc_rules.specs.Driver.{DriverState, next_of, searched, searching}
-use Rattle.nc_rules.specs.Lots.{Fixed}
+use Rattle.nc_rules.specs.Lots.{DriverConfig}
 use Rattle.nc_rules.specs.World.{WorldState, driver_of}
 use Rattle.nc_scripts.specs.Drivers.{NextIsThere, StaysDriver}
 use Rattle.nc_scripts.proofs.EveryDriver.{drivers_stay}
@@ -32,7 +32,7 @@ slot_below sc w h k is lt at =
     let harts = length w.machine.harts in
     let stays : StaysDriver ram harts d = drivers_stay ram harts d (is.holds.each h.0 (omega (arith, lt, is.of_scenario.harts))).driver in
     let few : k < d.fixed.slots = subst (NextIsThere ram harts d.fixed) (next_is d k at) stays.next_there in
-    subst (λ (f : Fixed). k < f.slots) (is.fixed h.0 lt) few
+    subst (λ (f : DriverConfig). k < f.slots) (is.fixed h.0 lt) few
 
 pub slots_below : (sc : Scenario) (w : WorldState) (h : HartNo) (o : Option ℕ) → IsWorldOf sc w → h.0 < length sc.harts → o ≡ searching (driver_of w h.0) → IfSome o (λ k. k < sc.slots)
 slots_below sc w h (Some k) is lt at = slot_below sc w h k is lt (sym at)

@@ -8,7 +8,7 @@ use Rattle.nc_rules.specs.Flat.{AreThere}
 use Rattle.nc_rules.specs.Schedule.{begun}
 use Rattle.nc_rules.specs.World.{hart}
 use Rattle.nc_sched.specs.Stands.{seed_of}
-use Rattle.nc_world.specs.Shown.{Shown}
+use Rattle.nc_world.specs.WorldView.{WorldView}
 use Rattle.nc_turns.specs.declared.counts.Counts.{Counts}
 use Rattle.nc_turns.specs.declared.draws.Draws.{Draws}
 use Rattle.nc_turns.specs.declared.threads.Turner.{Turner}
@@ -46,14 +46,14 @@ total es =
 -- ---- the two states
 
 -- the world is the run of the events on the scenario, and its records are dropped
-pub record IsRun (sc : Scenario) (w : Shown) (es : List Event) : Type 0 where
+pub record IsRun (sc : Scenario) (w : WorldView) (es : List Event) : Type 0 where
   pub accepted : IsAccepted sc
   pub world : w ≡ record { at = world_of sc es; records = [] }
   pub of_scenario : IsWorldOf sc (world_of sc es)
   pub there : AreThere sc es
   pub few : length es ≤ sc.limit
 
-pub record IsLive (sc : Scenario) (limit harts blocks : ℕ) (counts : Counts) (draws : Draws) (w : Shown) (es : List Event) : Type 0 where
+pub record IsLive (sc : Scenario) (limit harts blocks : ℕ) (counts : Counts) (draws : Draws) (w : WorldView) (es : List Event) : Type 0 where
   pub limit_is : limit ≡ sc.limit
   pub harts_is : harts ≡ length sc.harts
   pub blocks_is : blocks ≡ sc.ram / sc.block_size
@@ -63,7 +63,7 @@ pub record IsLive (sc : Scenario) (limit harts blocks : ℕ) (counts : Counts) (
   pub counts_are : AreCounts counts es
   pub draws_is : draws ≡ draw_from (after_draws (begun (seed_of sc.plan)) (made_by Caches es))
 
-pub record IsDone (sc : Scenario) (limit turns : ℕ) (w : Shown) (es : List Event) : Type 0 where
+pub record IsDone (sc : Scenario) (limit turns : ℕ) (w : WorldView) (es : List Event) : Type 0 where
   pub limit_is : limit ≡ sc.limit
   pub run : IsRun sc w es
   pub turns_few : turns ≤ length es

@@ -5,7 +5,7 @@ ghost use Rattle.nc_num.specs.declared.names.HartNo.{HartNo};
 ghost use Rattle.nc_scen.specs.Events.{IsThere};
 ghost use Rattle.nc_rules.specs.Flat.{AreThere};
 ghost use Rattle.nc_rules.specs.Schedule.{sched};
-ghost use Rattle.nc_world.specs.Shown.{answer as stepped};
+ghost use Rattle.nc_world.specs.WorldView.{answer as stepped};
 ghost use Rattle.nc_turns.specs.Played.{finished, IsLiveRun};
 ghost use Rattle.nc_turns.specs.States.{IsRun};
 ghost use Rattle.nc_turns.specs.Threads.{world_of, IsThreaded, AreThrough};

@@ -7,7 +7,7 @@ ghost use Rattle.nc_scen.specs.Events.{IsThere};
 ghost use Rattle.nc_rules.specs.Events.{enabled};
 ghost use Rattle.nc_rules.specs.Flat.{AreThere};
 ghost use Rattle.nc_world.specs.Looks.{is_ended};
-ghost use Rattle.nc_world.specs.Shown.{answer as stepped};
+ghost use Rattle.nc_world.specs.WorldView.{answer as stepped};
 ghost use Rattle.nc_turns.specs.Threads.{belongs, made_by, most, is_even, next_of, told_by, search_of, world_of, ComesNext, EndsWith, IsFree, IsThread, IsThreaded, AreFull, AreThrough};
 
 use crate::counts::Counts;

@@ -9,7 +9,7 @@ use Rattle.nc_pdma.specs.Steps as channels
 use Rattle.nc_pdma.proofs.Transactions.{each_read, each_write}
 use Rattle.nc_queue.specs.declared.entry.Entry.{Entry}
 use Rattle.nc_queue.specs.declared.entry.Entry.TheVariants as entries
-use Rattle.nc_rules.specs.Calls.{leaving, drain_next, drain_transfers, drain_answer, fill_next, fill_answer, evict_next, evict_answer, chan_read_told, chan_write_told}
+use Rattle.nc_rules.specs.Calls.{leaving, drain_next, drain_transfers, drain_answer, fill_next, fill_answer, evict_next, evict_answer, chan_read_step, chan_write_step}
 use Rattle.nc_model.specs.declared.owners.Access.{Access}
 use Rattle.nc_num.specs.declared.names.ChanNo.{ChanNo}
 use Rattle.nc_model.specs.declared.owners.Access.TheVariants.{Read, Write}
@@ -21,7 +21,7 @@ use Rattle.nc_rules.specs.Next.{event_records}
 use Rattle.nc_rules.specs.Outcomes.{outcome}
 use Rattle.nc_rules.specs.Records.{touch_records, read_records, write_records}
 use Rattle.nc_rules.specs.Events.{is_idle_step, enabled}
-use Rattle.nc_rules.specs.Watched.{transaction_touch}
+use Rattle.nc_rules.specs.EventTouches.{transaction_touch}
 use Rattle.nc_rules.specs.World.{WorldState}
 use Rattle.nc_rules.specs.Machine.{MachineState, channel_of}
 use Rattle.nc_rules.specs.Sound.{IsMachine, IsBlockIn, EntryIsThere}
@@ -100,10 +100,10 @@ write_by c size Idle is e = tt
 write_by c size (Moved span bytes done) is e = let w = each_write c size span bytes done is e in record { some = w.span.some; inside = w.span.inside }
 write_by c size (Error bus len) is e = tt
 
-pub read_inside : (m : MachineState) (c : ℕ) (t : ChanStep) → IsMachine m → c < 4 → t ≡ chan_read_told m c → IsTransactionIn (length m.cache.ram) t
+pub read_inside : (m : MachineState) (c : ℕ) (t : ChanStep) → IsMachine m → c < 4 → t ≡ chan_read_step m c → IsTransactionIn (length m.cache.ram) t
 read_inside m c t is lt e = read_by (channel_of m c) m.cache.ram t (is.granted c lt).channel (sym e)
 
-pub write_inside : (m : MachineState) (c : ℕ) (t : ChanStep) → IsMachine m → c < 4 → t ≡ chan_write_told m c → IsTransactionIn (length m.cache.ram) t
+pub write_inside : (m : MachineState) (c : ℕ) (t : ChanStep) → IsMachine m → c < 4 → t ≡ chan_write_step m c → IsTransactionIn (length m.cache.ram) t
 write_inside m c t is lt e = write_by (channel_of m c) (length m.cache.ram) t (is.granted c lt).channel (sym e)
 
 pub idle_is : (t : ChanStep) → is_idle_step t ≡ true → t ≡ Idle
@@ -121,7 +121,7 @@ pub ruleset transaction_rules = (transaction_is)
 
 -- ---- what a transaction records
 
-pub records_read : (w : WorldState) (c : ChanNo) (t : ChanStep) → t ≡ chan_read_told w.machine c.0 → is_idle_step t ≡ false
+pub records_read : (w : WorldState) (c : ChanNo) (t : ChanStep) → t ≡ chan_read_step w.machine c.0 → is_idle_step t ≡ false
     → event_records w (events.ChanRead c) ≡ records.Event (events.ChanRead c) ∷ (touch_records (transaction_touch_in w.owners w.grants c Read t) ++ read_records c t)
 unfolding event_records enabled outcome
 records_read w c t e moved =
@@ -129,7 +129,7 @@ records_read w c t e moved =
     ap all (sym e) ∙ ap (λ (b : Bool). if not b then records.Event (events.ChanRead c) ∷ (touch_records (transaction_touch w c Read t) ++ read_records c t) else []) moved
     ∙ ap (λ (touch : Option Touch). records.Event (events.ChanRead c) ∷ (touch_records touch ++ read_records c t)) (transaction_is w c Read t)
 
-pub records_write : (w : WorldState) (c : ChanNo) (t : ChanStep) → t ≡ chan_write_told w.machine c.0 → is_idle_step t ≡ false
+pub records_write : (w : WorldState) (c : ChanNo) (t : ChanStep) → t ≡ chan_write_step w.machine c.0 → is_idle_step t ≡ false
     → event_records w (events.ChanWrite c) ≡ records.Event (events.ChanWrite c) ∷ (touch_records (transaction_touch_in w.owners w.grants c Write t) ++ write_records c t)
 unfolding event_records enabled outcome
 records_write w c t e moved =

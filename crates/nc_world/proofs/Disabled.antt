@@ -11,7 +11,7 @@ use Rattle.nc_pdma.specs.declared.channel.ChanStep.{ChanStep}
 use Rattle.nc_pdma.specs.declared.channel.ChanStep.TheVariants.{Idle}
 use Rattle.nc_pdma.specs.Channel.{ChannelState, new_channel}
 use Rattle.nc_pdma.specs.Steps.{read_next, write_next, ram_after}
-use Rattle.nc_rules.specs.Calls.{leaving, drain_next, left_with, may_fill, fill_next, fill_answer, evict_next, evict_answer, chan_read_told, chan_read_next, chan_write_told, chan_write_next}
+use Rattle.nc_rules.specs.Calls.{leaving, drain_next, left_with, may_fill, fill_next, fill_answer, evict_next, evict_answer, chan_read_step, chan_read_next, chan_write_step, chan_write_next}
 use Rattle.nc_rules.specs.Driver.{searching}
 use Rattle.nc_rules.specs.Outcomes.{outcome}
 use Rattle.nc_num.specs.declared.names.HartNo.{HartNo}
@@ -21,7 +21,7 @@ use Rattle.nc_rules.specs.declared.records.Record.TheVariants as records
 use Rattle.nc_rules.specs.Events.{enabled}
 use Rattle.nc_rules.specs.Next.{next, counted, performed, event_records}
 use Rattle.nc_rules.specs.World.{WorldState, driver_of}
-use Rattle.nc_world.specs.Shown.{answer}
+use Rattle.nc_world.specs.WorldView.{answer}
 use Rattle.nc_world.specs.declared.world.Stepped.TheVariants.{Done, Skipped}
 use Rattle.nc_rules.specs.Machine.{MachineState, channel_of, with_cache, with_channel, with_ram}
 
@@ -75,12 +75,12 @@ fill_may_not m h b e = not_held_by_test (may_fill m h b) _ e
 set_same : (cs : List ChannelState) (c : ℕ) → slice_set cs c (slice_index_or cs c new_channel) ≡ cs
 set_same cs c = set-get_or cs c new_channel
 
-pub read_idle : (m : MachineState) (c : ℕ) → chan_read_told m c ≡ Idle → chan_read_next m c ≡ m
+pub read_idle : (m : MachineState) (c : ℕ) → chan_read_step m c ≡ Idle → chan_read_next m c ≡ m
 unfolding chan_read_next
 read_idle m c e =
     ap (λ (t : ChanStep). with_channel m c (read_next (channel_of m c) t)) e ∙ ap (λ (cs : List ChannelState). record m { channels = cs }) (set_same m.channels c)
 
-pub write_idle : (m : MachineState) (c : ℕ) → chan_write_told m c ≡ Idle → chan_write_next m c ≡ m
+pub write_idle : (m : MachineState) (c : ℕ) → chan_write_step m c ≡ Idle → chan_write_next m c ≡ m
 unfolding chan_write_next
 write_idle m c e =
     ap (λ (t : ChanStep). with_channel (with_ram m (ram_after m.cache.ram t)) c (write_next (channel_of m c) t)) e ∙ ap (λ (cs : List ChannelState). record m { channels = cs }) (set_same m.channels c)

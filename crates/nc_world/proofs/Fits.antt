@@ -5,7 +5,7 @@ use Rattle.nc_num.specs.declared.names.HartNo.{HartNo}
 use Rattle.nc_rules.specs.declared.steps.Next.{Next}
 use Rattle.nc_rules.specs.declared.steps.Next.TheVariants as nexts
 use Rattle.nc_rules.specs.Driver.{next_of, searching, searched}
-use Rattle.nc_rules.specs.Lots.{Fixed}
+use Rattle.nc_rules.specs.Lots.{DriverConfig}
 use Rattle.nc_rules.specs.Machine.{MachineState, hart_of, grantee_of}
 use Rattle.nc_rules.specs.Outcomes.{claim_seen, seen_of}
 use Rattle.nc_rules.specs.Calls.{issue_answer}
@@ -23,7 +23,7 @@ use Rattle.nc_world.specs.Steps.{NextFits, IsBeside, step_seen}
 driven_of : (w : WorldState) (h : ℕ) → DriverHolds w h → IsDriven (length w.machine.cache.ram) (length w.machine.harts) (driver_of w h).fixed w.machine
 driven_of w h is = record { memory = refl; block = is.setting.block; processors = refl; boxes = is.setting.boxes }
 
-fits_of : (ram harts : ℕ) (f : Fixed) (m : MachineState) (h : ℕ) (n : Next) → IsDriven ram harts f m → NextIsThere ram harts f n → NextFitsLast (length (hart_of m h).last) n → NextFits m h n
+fits_of : (ram harts : ℕ) (f : DriverConfig) (m : MachineState) (h : ℕ) (n : Next) → IsDriven ram harts f m → NextIsThere ram harts f n → NextFitsLast (length (hart_of m h).last) n → NextFits m h n
 fits_of ram harts f m h nexts.End is there last = tt
 fits_of ram harts f m h nexts.Start is there last = tt
 fits_of ram harts f m h (nexts.Search k) is there last = tt

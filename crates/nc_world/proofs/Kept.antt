@@ -25,7 +25,7 @@ use Rattle.nc_rules.specs.World.{WorldState, driver_of, start}
 use Rattle.nc_calls.specs.MachineLaws.{SameShape}
 use Rattle.nc_scripts.specs.Drivers.{EachStaysDriver}
 use Rattle.nc_holds.specs.Holds.{Holds, MayMove, StartHolds, EventsKeepHolding, MovesMayBeMade, mover}
-use Rattle.nc_world.specs.State.{IsKept}
+use Rattle.nc_world.specs.State.{WorldInvariant}
 use Rattle.nc_slots.specs.SlotWords.{holder_of, tried}
 use Rattle.nc_world.specs.Steps.{step_seen, went_on}
 use Rattle.nc_world.proofs.Parts.{parts_outcome, issue_outcome_is, may_is, next_may, going, try_goes, try_is, search_may, tell_goes, tell_is, tell_may, token_goes, token_is, drain_may}
@@ -40,11 +40,11 @@ may_move w e h o m law machine is there may by out moves =
 
 -- ---- the world after an event
 
-pub kept_next : (w u : WorldState) (e : Event) (bytes : ℕ) (range : Span) → EventsKeepHolding → EachStaysDriver → IsMachine w.machine → IsKept w bytes range → IsThere (length w.machine.harts) w.machine.size (length w.machine.cache.ram) e
-    → u ≡ next w e → IsKept u bytes range
+pub kept_next : (w u : WorldState) (e : Event) (bytes : ℕ) (range : Span) → EventsKeepHolding → EachStaysDriver → IsMachine w.machine → WorldInvariant w bytes range → IsThere (length w.machine.harts) w.machine.size (length w.machine.cache.ram) e
+    → u ≡ next w e → WorldInvariant u bytes range
 kept_next w u e bytes range law stays machine is there same =
     let shape : SameShape w.machine (next w e).machine = next_shape w e stays machine is.holds there in
-    subst (λ (v : WorldState). IsKept v bytes range) (sym same) (record {
+    subst (λ (v : WorldState). WorldInvariant v bytes range) (sym same) (record {
       holds = law w e machine is.holds there;
       size = is.size ∙ sym shape.size;
       pool = is.pool ∙ sym shape.pool;
@@ -64,9 +64,9 @@ pool_first : (sc : Scenario) → (first_machine sc).pool ≡ pool_of sc
 unfolding first_machine
 pool_first sc = refl
 
-pub kept_first : (sc : Scenario) (u : WorldState) (pool : Span) → StartHolds → IsAccepted sc → u ≡ start sc → pool ≡ pool_of sc → IsKept u sc.block_size pool
+pub kept_first : (sc : Scenario) (u : WorldState) (pool : Span) → StartHolds → IsAccepted sc → u ≡ start sc → pool ≡ pool_of sc → WorldInvariant u sc.block_size pool
 kept_first sc u pool law accepted same is =
-    subst (λ (v : WorldState). IsKept v sc.block_size pool) (sym same) (record {
+    subst (λ (v : WorldState). WorldInvariant v sc.block_size pool) (sym same) (record {
       holds = law sc accepted;
       size = sym (ap (λ (m : MachineState). m.size) (machine_first sc) ∙ size_first sc);
       pool = is ∙ sym (ap (λ (m : MachineState). m.pool) (machine_first sc) ∙ pool_first sc);

@@ -20,7 +20,7 @@ use Rattle.nc_rules.specs.declared.records.Record.TheVariants as records
 use Rattle.nc_rules.specs.declared.steps.Next.{Next}
 use Rattle.nc_rules.specs.declared.steps.Next.TheVariants as nexts
 use Rattle.nc_rules.specs.Machine.{MachineState, hart_of}
-use Rattle.nc_rules.specs.Calls.{issue_answer, leaving, drain_next, may_fill, fill_next, fill_answer, evict_next, evict_answer, chan_read_next, chan_read_told, chan_write_next, chan_write_told}
+use Rattle.nc_rules.specs.Calls.{issue_answer, leaving, drain_next, may_fill, fill_next, fill_answer, evict_next, evict_answer, chan_read_next, chan_read_step, chan_write_next, chan_write_step}
 use Rattle.nc_rules.specs.Driver.{next_of, searching, is_script, told, lent}
 use Rattle.nc_rules.specs.Turns.{Moved, moved}
 use Rattle.nc_rules.specs.Events.{may_go_on, may_issue_step, is_idle_step, enabled}
@@ -28,7 +28,7 @@ use Rattle.nc_rules.specs.Next.{touched_by, after_outcome, performed, counted, n
 use Rattle.nc_rules.specs.Outcomes.{Outcome, goes, runs, leaves, outcome, step_outcome, start_outcome, op_outcome, claim_outcome, poll_outcome, take_outcome, drain_outcome, try_outcome, told_outcome, at_word, got_word, told_slots}
 use Rattle.nc_rules.specs.Records.{op_records, mark_record, drain_records, try_records, told_records, answer_records, read_records, write_records}
 use Rattle.nc_rules.specs.Sound.{IsMachine, OpIsThere}
-use Rattle.nc_rules.specs.Watched.{drain_touch, transaction_touch}
+use Rattle.nc_rules.specs.EventTouches.{drain_touch, transaction_touch}
 use Rattle.nc_rules.specs.World.{WorldState, driver_of, with_moves, owners_moved, grants_added, grants_ended, slots_back, pages_moved, one_more}
 use Rattle.nc_log.specs.Logs.{OpHasPlace, IssuedHasPlaces, fence_record, issued_records}
 use Rattle.nc_world.specs.Looks.{touches_after, is_token, transaction_touch_in}
@@ -261,19 +261,19 @@ pub evict_is : (w : WorldState) (h : HartNo) (b : Block) → outcome w (events.E
 unfolding outcome
 evict_is w h b = refl
 
-pub read_may : (w : WorldState) (c : ChanNo) (t : ChanStep) → t ≡ chan_read_told w.machine c.0 → is_idle_step t ≡ false → enabled w (events.ChanRead c) ≡ true
+pub read_may : (w : WorldState) (c : ChanNo) (t : ChanStep) → t ≡ chan_read_step w.machine c.0 → is_idle_step t ≡ false → enabled w (events.ChanRead c) ≡ true
 unfolding enabled
 read_may w c t e moves = ap (λ (s : ChanStep). not (is_idle_step s)) (sym e) ∙ ap not moves
 
-pub read_is : (w : WorldState) (c : ChanNo) → outcome w (events.ChanRead c) ≡ runs w (chan_read_next w.machine c.0) (transaction_touch w c Read (chan_read_told w.machine c.0)) (read_records c (chan_read_told w.machine c.0))
+pub read_is : (w : WorldState) (c : ChanNo) → outcome w (events.ChanRead c) ≡ runs w (chan_read_next w.machine c.0) (transaction_touch w c Read (chan_read_step w.machine c.0)) (read_records c (chan_read_step w.machine c.0))
 unfolding outcome
 read_is w c = refl
 
-pub write_may : (w : WorldState) (c : ChanNo) (t : ChanStep) → t ≡ chan_write_told w.machine c.0 → is_idle_step t ≡ false → enabled w (events.ChanWrite c) ≡ true
+pub write_may : (w : WorldState) (c : ChanNo) (t : ChanStep) → t ≡ chan_write_step w.machine c.0 → is_idle_step t ≡ false → enabled w (events.ChanWrite c) ≡ true
 unfolding enabled
 write_may w c t e moves = ap (λ (s : ChanStep). not (is_idle_step s)) (sym e) ∙ ap not moves
 
-pub write_is : (w : WorldState) (c : ChanNo) → outcome w (events.ChanWrite c) ≡ runs w (chan_write_next w.machine c.0) (transaction_touch w c Write (chan_write_told w.machine c.0)) (write_records c (chan_write_told w.machine c.0))
+pub write_is : (w : WorldState) (c : ChanNo) → outcome w (events.ChanWrite c) ≡ runs w (chan_write_next w.machine c.0) (transaction_touch w c Write (chan_write_step w.machine c.0)) (write_records c (chan_write_step w.machine c.0))
 unfolding outcome
 write_is w c = refl
 

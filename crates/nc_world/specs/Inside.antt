@@ -1,8 +1,8 @@
 -- The world that its parts make.
 use Rattle.nc_rules.specs.World.{WorldState}
 use Rattle.nc_world.specs.declared.world.World.TheInside.{Inside}
-use Rattle.nc_world.specs.Shown.{Shown}
-use Rattle.nc_world.specs.State.{IsKept}
+use Rattle.nc_world.specs.WorldView.{WorldView}
+use Rattle.nc_world.specs.State.{WorldInvariant}
 
 abbrev pub state_of : Inside → WorldState
 state_of w = record {
@@ -16,8 +16,8 @@ state_of w = record {
   touches = w.touches;
 }
 
-abbrev pub shown : Inside → Shown
+abbrev pub shown : Inside → WorldView
 shown w = record { at = state_of w; records = w.log.records }
 
 abbrev pub IsSound : Inside → Type 0
-IsSound w = IsKept (state_of w) w.size w.pool
+IsSound w = WorldInvariant (state_of w) w.size w.pool

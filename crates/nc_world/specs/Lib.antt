@@ -1,4 +1,4 @@
-pub mod Shown
+pub mod WorldView
 pub mod State
 pub mod Inside
 pub mod Looks

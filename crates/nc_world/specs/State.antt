@@ -10,18 +10,18 @@ use Rattle.nc_rules.specs.declared.records.Record.{Record}
 use Rattle.nc_rules.specs.Driver.{DriverState}
 use Rattle.nc_rules.specs.World.{WorldState}
 use Rattle.nc_holds.specs.Holds.{Holds}
-use Rattle.nc_machine.specs.State.{MachineShown}
-use Rattle.nc_world.specs.Shown.{Shown}
+use Rattle.nc_machine.specs.State.{MachineView}
+use Rattle.nc_world.specs.WorldView.{WorldView}
 
 -- a world, with what it keeps of the machine: the bytes of a block, and the coherent pool
-pub record IsKept (w : WorldState) (bytes : ℕ) (range : Span) : Type 0 where
+pub record WorldInvariant (w : WorldState) (bytes : ℕ) (range : Span) : Type 0 where
   pub holds : Holds w
   pub size : bytes ≡ w.machine.size
   pub pool : range ≡ w.machine.pool
 
-abbrev pub state_code : Coded MachineShown → Coded DriverState → Coded Owner → Coded Grant → Coded (List (Option HartNo)) → Coded PageMap → Coded WorldState
+abbrev pub state_code : Coded MachineView → Coded DriverState → Coded Owner → Coded Grant → Coded (List (Option HartNo)) → Coded PageMap → Coded WorldState
 state_code machine driver owner grant slots pages =
-    code_by (MachineShown × (List DriverState × (List Owner × (List Grant × (List (Option HartNo) × (PageMap × (ℕ × ℕ)))))))
+    code_by (MachineView × (List DriverState × (List Owner × (List Grant × (List (Option HartNo) × (PageMap × (ℕ × ℕ)))))))
     (coded× machine (coded× (coded_list driver) (coded× (coded_list owner) (coded× (coded_list grant) (coded× slots (coded× pages (coded× coded_ℕ coded_ℕ)))))))
     (λ w. (record { machine = w.machine; spare = 0 }, (w.drivers, (w.owners, (w.grants, (w.slots, (w.pages, (w.events, w.touches))))))))
     (λ p. record {
@@ -36,5 +36,5 @@ state_code machine driver owner grant slots pages =
     })
     (λ _. refl)
 
-abbrev pub shown_code : Coded WorldState → Coded Record → Coded Shown
+abbrev pub shown_code : Coded WorldState → Coded Record → Coded WorldView
 shown_code state told = code_by (WorldState × List Record) (coded× state (coded_list told)) (λ s. (s.at, s.records)) (λ p. record { at = p.0; records = p.1 }) (λ _. refl)

@@ -16,7 +16,7 @@ use Rattle.nc_rules.specs.Machine.{MachineState, grantee_of}
 use Rattle.nc_rules.specs.Outcomes.{seen_of, claim_seen}
 use Rattle.nc_rules.specs.Records.{op_records}
 use Rattle.nc_rules.specs.Sound.{OpIsThere}
-use Rattle.nc_rules.specs.Watched.{issue_touch, poll_touch}
+use Rattle.nc_rules.specs.EventTouches.{issue_touch, poll_touch}
 use Rattle.nc_rules.specs.World.{WorldState, driver_of}
 use Rattle.nc_scripts.specs.Drivers.{ArePagesOf}
 use Rattle.nc_driver.specs.Kept.{IsOver}

@@ -3,7 +3,7 @@
 ghost use Rattle.std.specs.Prelude.{◌≡◌, ◌≤◌, ◌<◌, ◌+◌, ◌==◌, ◌++◌, true, false, length, All, IsTrue, IfNone, IfSome, Some, None};
 ghost use Rattle.std.specs.List.{list_all};
 ghost use Rattle.nc_cache.specs.Cache.{line_at, held_by};
-ghost use Rattle.nc_rules.specs.Calls.{may_issue, issue_next, issue_answer, leaving, drain_next, drain_transfers, may_fill, fill_next, fill_answer, evict_next, evict_answer, chan_read_next, chan_read_told, chan_write_next, chan_write_told};
+ghost use Rattle.nc_rules.specs.Calls.{may_issue, issue_next, issue_answer, leaving, drain_next, drain_transfers, may_fill, fill_next, fill_answer, evict_next, evict_answer, chan_read_next, chan_read_step, chan_write_next, chan_write_step};
 ghost use Rattle.nc_rules.specs.Events.{is_over, is_idle_step};
 ghost use Rattle.nc_calls.specs.MachineLaws.{SameShape};
 ghost use Rattle.nc_rules.specs.Outcomes.{seen_of};
@@ -194,7 +194,7 @@ pub(crate) fn evict(machine: &mut Machine, h: HartNo, b: Block) -> Option<BusLis
 pub(crate) fn chan_read(machine: &mut Machine, c: ChanNo) -> ChanStep
     requires { c.0 < 4 }
     ensures state { machine.new.machine ≡ chan_read_next machine.old.machine c.0 }
-    ensures told { result ≡ chan_read_told machine.old.machine c.0 }
+    ensures told { result ≡ chan_read_step machine.old.machine c.0 }
     ensures inside { IsTransactionIn (length machine.old.machine.cache.ram) result }
     ensures same { IsTrue (is_idle_step result) → machine.new.machine ≡ machine.old.machine }
     ensures shape { SameShape machine.old.machine machine.new.machine }
@@ -208,7 +208,7 @@ pub(crate) fn chan_read(machine: &mut Machine, c: ChanNo) -> ChanStep
 pub(crate) fn chan_write(machine: &mut Machine, c: ChanNo) -> ChanStep
     requires { c.0 < 4 }
     ensures state { machine.new.machine ≡ chan_write_next machine.old.machine c.0 }
-    ensures told { result ≡ chan_write_told machine.old.machine c.0 }
+    ensures told { result ≡ chan_write_step machine.old.machine c.0 }
     ensures inside { IsTransactionIn (length machine.old.machine.cache.ram) result }
     ensures same { IsTrue (is_idle_step result) → machine.new.machine ≡ machine.old.machine }
     ensures shape { SameShape machine.old.machine machine.new.machine }

@@ -10,7 +10,7 @@ ghost use Rattle.nc_rules.specs.World.{no_driver, owners_moved, grants_added, gr
 ghost use Rattle.nc_scripts.specs.Drivers.{IsSeenAt, IsLentAt};
 ghost use Rattle.nc_scripts.specs.Scripts.{is_act, IsRangeIn};
 ghost use Rattle.nc_holds.specs.Holds.{CanAddAll, AreBack, MayMovePages};
-ghost use Rattle.nc_moves.specs.Shown.{seen_as};
+ghost use Rattle.nc_moves.specs.MovesView.{moves_view};
 ghost use Rattle.nc_world.specs.Looks.{touches_after, IsTransactionIn, transaction_touch_in};
 ghost use Rattle.nc_world.specs.Steps.{IsBeside, is_going, went_on};
 
@@ -47,7 +47,7 @@ pub(crate) fn reserve(machine: &mut Machine, book: &mut Book, log: &mut Log) -> 
 // ---- a driver goes on
 
 /// The driver of hart h makes its next step, which saw this.
-pub(crate) fn go_on(
+pub(crate) fn issue_step(
     drivers: &mut Vec<Driver>,
     h: HartNo,
     next: &Next,
@@ -61,7 +61,7 @@ pub(crate) fn go_on(
     requires seen { IsSeenAt next.now saw }
     requires beside { IsBeside (slice_index_or drivers.old.items h.0 no_driver) book.now.owners pages.now }
     ensures driver { IfOk result (λ m. drivers.new.items ≡ slice_set drivers.old.items h.0 (went_on (slice_index_or drivers.old.items h.0 no_driver) book.now.owners pages.now next.now saw).driver) }
-    ensures moves { IfOk result (λ m. seen_as m ≡ (went_on (slice_index_or drivers.old.items h.0 no_driver) book.now.owners pages.now next.now saw).moves) }
+    ensures moves { IfOk result (λ m. moves_view m ≡ (went_on (slice_index_or drivers.old.items h.0 no_driver) book.now.owners pages.now next.now saw).moves) }
     ensures err { OnErr result (drivers.new.items ≡ drivers.old.items) }
 {
     match next {
@@ -82,7 +82,7 @@ fn start(
     requires next { due.next_of (slice_index_or drivers.old.items h.0 no_driver) ≡ nexts.Start }
     requires beside { IsBeside (slice_index_or drivers.old.items h.0 no_driver) book.now.owners pages.now }
     ensures driver { IfOk result (λ m. drivers.new.items ≡ slice_set drivers.old.items h.0 (due.started (slice_index_or drivers.old.items h.0 no_driver) book.now.owners pages.now).driver) }
-    ensures moves { IfOk result (λ m. seen_as m ≡ (due.started (slice_index_or drivers.old.items h.0 no_driver) book.now.owners pages.now).moves) }
+    ensures moves { IfOk result (λ m. moves_view m ≡ (due.started (slice_index_or drivers.old.items h.0 no_driver) book.now.owners pages.now).moves) }
     ensures err { OnErr result (drivers.new.items ≡ drivers.old.items) }
 {
     let driver = &mut drivers[usize::from(h.0)];
@@ -95,7 +95,7 @@ fn done(drivers: &mut Vec<Driver>, h: HartNo, saw: Seen) -> Result<Moves, NoMemo
     requires next { is_act (due.next_of (slice_index_or drivers.old.items h.0 no_driver)) ≡ true }
     requires seen { IsSeenAt (due.next_of (slice_index_or drivers.old.items h.0 no_driver)) saw }
     ensures driver { IfOk result (λ m. drivers.new.items ≡ slice_set drivers.old.items h.0 (due.done (slice_index_or drivers.old.items h.0 no_driver) saw).driver) }
-    ensures moves { IfOk result (λ m. seen_as m ≡ (due.done (slice_index_or drivers.old.items h.0 no_driver) saw).moves) }
+    ensures moves { IfOk result (λ m. moves_view m ≡ (due.done (slice_index_or drivers.old.items h.0 no_driver) saw).moves) }
     ensures err { OnErr result (drivers.new.items ≡ drivers.old.items) }
 {
     let driver = &mut drivers[usize::from(h.0)];
@@ -106,7 +106,7 @@ fn done(drivers: &mut Vec<Driver>, h: HartNo, saw: Seen) -> Result<Moves, NoMemo
 pub(crate) fn told(drivers: &mut Vec<Driver>, h: HartNo, got: bool) -> Result<Moves, NoMemory>
     requires { h.0 < length drivers.old.items }
     ensures driver { IfOk result (λ m. drivers.new.items ≡ slice_set drivers.old.items h.0 (due.told (slice_index_or drivers.old.items h.0 no_driver) got).driver) }
-    ensures moves { IfOk result (λ m. seen_as m ≡ (due.told (slice_index_or drivers.old.items h.0 no_driver) got).moves) }
+    ensures moves { IfOk result (λ m. moves_view m ≡ (due.told (slice_index_or drivers.old.items h.0 no_driver) got).moves) }
     ensures err { OnErr result (drivers.new.items ≡ drivers.old.items) }
 {
     let driver = &mut drivers[usize::from(h.0)];
@@ -124,7 +124,7 @@ pub(crate) fn lent(
     requires hart { h.0 < length drivers.old.items }
     requires lent { IsLentAt (slice_index_or drivers.old.items h.0 no_driver).lots (lot_id label first) }
     ensures driver { IfOk result (λ m. drivers.new.items ≡ slice_set drivers.old.items h.0 (due.lent (slice_index_or drivers.old.items h.0 no_driver) label first).driver) }
-    ensures moves { IfOk result (λ m. seen_as m ≡ (due.lent (slice_index_or drivers.old.items h.0 no_driver) label first).moves) }
+    ensures moves { IfOk result (λ m. moves_view m ≡ (due.lent (slice_index_or drivers.old.items h.0 no_driver) label first).moves) }
     ensures err { OnErr result (drivers.new.items ≡ drivers.old.items) }
 {
     let driver = &mut drivers[usize::from(h.0)];

@@ -15,10 +15,10 @@ ghost use Rattle.nc_calls.specs.MachineLaws.{SameShape};
 ghost use Rattle.nc_rules.specs.Next.{next, event_records};
 ghost use Rattle.nc_rules.specs.Sound.{IsMachine, OpIsThere, EntryIsThere, IsBlockIn, IsPieceIn};
 ghost use Rattle.nc_rules.specs.View.{bytes_of};
-ghost use Rattle.nc_rules.specs.Watched.{owner_of, issue_touch, op_touch, cbo_touch, drain_touch};
+ghost use Rattle.nc_rules.specs.EventTouches.{owner_of, issue_touch, op_touch, cbo_touch, drain_touch};
 ghost use Rattle.nc_rules.specs.World.{start, driver_of};
 ghost use Rattle.nc_world.specs.Looks.{is_ended, is_token};
-ghost use Rattle.nc_world.specs.Shown.{answer};
+ghost use Rattle.nc_world.specs.WorldView.{answer};
 ghost use Rattle.nc_scripts.specs.Drivers.{EachStaysDriver};
 ghost use Rattle.nc_holds.specs.Holds.{Holds, EventsKeepHolding, MovesMayBeMade};
 ghost use Rattle.nc_world.specs.Steps.{NextFits, step_touch};
@@ -68,7 +68,7 @@ pub struct World {
 }
 
 impl Model for World {
-    ghost use Rattle.nc_world.specs.Shown.{Shown};
+    ghost use Rattle.nc_world.specs.WorldView.{WorldView};
     ghost use Rattle.nc_world.specs.State.{state_code, shown_code};
     ghost use Rattle.nc_machine.specs.contracts.machine.Machine as machine_type;
     ghost use Rattle.nc_driver.specs.contracts.driver.Driver as driver_type;
@@ -78,7 +78,7 @@ impl Model for World {
     ghost use Rattle.nc_coherent.specs.contracts.pages.PagePool as pages_type;
     ghost use Rattle.nc_rules.specs.contracts.records.Record as record_type;
 
-    ghost Value = { Shown };
+    ghost Value = { WorldView };
 
     ghost coded = { shown_code (state_code machine_type.the_row.coded driver_type.the_row.coded owner_type.the_row.coded grant_type.the_row.coded slots_type.the_row.coded pages_type.the_row.coded) record_type.the_row.coded };
 
@@ -135,7 +135,7 @@ impl World {
         ensures err { OnErr result (self.new ≡ self.old) }
     {
         self.sound();
-        self.make(e)
+        self.dispatch(e)
     }
 
     // ---- looks
@@ -325,7 +325,7 @@ impl World {
     }
 
     /// The touch that an operation of hart h's script is.
-    #[tactic(auto, unfolding(nc_rules::specs::Watched::op_touch))]
+    #[tactic(auto, unfolding(nc_rules::specs::EventTouches::op_touch))]
     fn op_touch(&self, h: HartNo, op: &HartOp) -> Option<Touch>
         requires there { OpIsThere self.now.at.machine h.0 op.now }
         ensures { result ≡ op_touch self.now.at h op.now }
@@ -435,7 +435,7 @@ impl World {
     }
 
     /// The event by its kind.
-    fn make(&mut self, e: Event) -> Result<Stepped, NoMemory>
+    fn dispatch(&mut self, e: Event) -> Result<Stepped, NoMemory>
         requires there { IsThere (length self.old.at.machine.harts) self.old.at.machine.size (length self.old.at.machine.cache.ram) e }
         ensures answer { IfOk result (λ s. s ≡ answer self.old.at e) }
         ensures next { OnOk result (self.new.at ≡ next self.old.at e) }
@@ -443,7 +443,7 @@ impl World {
         ensures err { OnErr result (self.new ≡ self.old) }
     {
         match e {
-            Event::Issue(h) => self.go_on(h),
+            Event::Issue(h) => self.issue_step(h),
             Event::Try(h) => self.try_word(h),
             Event::Told(h, got) => self.tell_word(h, got),
             Event::Drain(h, i) => self.drain(h, i),
@@ -455,7 +455,7 @@ impl World {
     }
 
     /// The driver of hart h goes on, where it may.
-    fn go_on(&mut self, h: HartNo) -> Result<Stepped, NoMemory>
+    fn issue_step(&mut self, h: HartNo) -> Result<Stepped, NoMemory>
         requires { h.0 < length self.old.at.machine.harts }
         ensures answer { IfOk result (λ s. s ≡ answer self.old.at (Event.Issue h)) }
         ensures next { OnOk result (self.new.at ≡ next self.old.at (Event.Issue h)) }
@@ -472,7 +472,7 @@ impl World {
         let by_script = self.is_script(h);
         let saw = acts::seen(&self.machine, h, &next);
         steps::reserve(&mut self.machine, &mut self.book, &mut self.log)?;
-        let moves = steps::go_on(&mut self.drivers, h, &next, saw, &self.book, &self.pages)?;
+        let moves = steps::issue_step(&mut self.drivers, h, &next, saw, &self.book, &self.pages)?;
         self.log.push(&Record::Event(Event::Issue(h)));
         self.log.touch(touch);
         acts::act(

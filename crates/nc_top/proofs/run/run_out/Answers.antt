@@ -1,6 +1,6 @@
 use Rattle.std.proofs.Common.{◌∙◌, ap, arith}
 use Rattle.std.proofs.lemmas.Result.{err_from_is_err_and}
-use Rattle.nc_world.specs.Shown.{Shown}
+use Rattle.nc_world.specs.WorldView.{WorldView}
 use Rattle.nc_top.proofs.SoFar.{go_start, go_on, go_stopped, go_paused, go_cut, go_done, go_status}
 use Rattle.nc_top.proofs.run.run_out.Goals as goal
 
@@ -12,7 +12,7 @@ pub running-preserved : goal.running-preserved
 running-preserved g c =
     let held = g.K.Sink.held in (
       go_on (held c.args.out.now) (held c.running.out) (held c.step_out.new.out) c.args.sc.now c.running.w c.step_out.new.w c.running.sched c.next.new.self c.running.last c.in_ok-stepped.stepped c.in-Some.e
-          c.in-Some.ensures.event (ap (λ (s : Shown). s.at) c.in_ok-stepped.ensures.world) (ap (λ (s : Shown). s.records) c.in_ok-stepped.ensures.world) c.in_ok-stepped.ensures.shape
+          c.in-Some.ensures.event (ap (λ (s : WorldView). s.at) c.in_ok-stepped.ensures.world) (ap (λ (s : WorldView). s.records) c.in_ok-stepped.ensures.world) c.in_ok-stepped.ensures.shape
           c.in_ok-stepped.ensures.answer c.in_ok-stepped.ensures.written c.running.invariant.0,
       omega (arith, c.running.invariant.1, c.in_ok-stepped.ensures.later),
     )

@@ -4,7 +4,7 @@ use Rattle.nc_rules.specs.declared.lots.Lot.{Lot}
 use Rattle.nc_rules.specs.Driver.{Went}
 use Rattle.nc_rules.specs.Operations as rules
 use Rattle.nc_checks.specs.Due.{ok_as}
-use Rattle.nc_moves.specs.Shown.{seen_as}
+use Rattle.nc_moves.specs.MovesView.{moves_view}
 use Rattle.nc_driver.specs.Kept.{state, IsSound}
 use Rattle.nc_driver.proofs.KeptLaws.{begun_placed, begun_refused, same_op, start_at}
 use Rattle.nc_driver.proofs.SoundLaws.{started_sound, begun_named, kept_fit}
@@ -68,7 +68,7 @@ returns-in-Ok-clause-moves c = λ o e.
     let hand = c.in-Some.ensures.op in
     let is = sym (ap (λ (ls : List Lot). rules.begin d.fixed ls ws pages p) c.deref.ensures.value) ∙ sym c.in_ok-new.ensures ∙ ap (λ (r : Result (Vec Lot Global) Refusal). ok_as r (λ v. v.items)) c.in-Ok.is in
     let made = begun_placed d ws pages p c.in-Ok.new.items hand (c.requires.start p hand) is in
-    subst (λ (w : Went). IfOk c.add.result (λ m. seen_as m ≡ w.moves)) (sym made) (c.add.ensures.moves p hand)
+    subst (λ (w : Went). IfOk c.add.result (λ m. moves_view m ≡ w.moves)) (sym made) (c.add.ensures.moves p hand)
 
 pub returns-in-Err-clause-driver : goal.returns-in-Err-clause-driver
 returns-in-Err-clause-driver c = λ o e.
@@ -90,4 +90,4 @@ returns-in-Err-clause-moves c = λ o e.
     let hand = c.in-Some.ensures.op in
     let is = sym (ap (λ (ls : List Lot). rules.begin d.fixed ls ws pages p) c.deref.ensures.value) ∙ sym c.in_ok-new.ensures ∙ ap (λ (r : Result (Vec Lot Global) Refusal). ok_as r (λ v. v.items)) c.in-Err.is in
     let made = begun_refused d ws pages p c.in-Err.refusal hand (c.requires.start p hand) is in
-    subst (λ (w : Went). IfOk c.give_up.result (λ m. seen_as m ≡ w.moves)) (sym made) (c.give_up.ensures.moves p hand)
+    subst (λ (w : Went). IfOk c.give_up.result (λ m. moves_view m ≡ w.moves)) (sym made) (c.give_up.ensures.moves p hand)

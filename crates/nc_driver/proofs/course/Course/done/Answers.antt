@@ -2,7 +2,7 @@ use Rattle.std.proofs.Common.{◌≡◌, ◌∙◌, sym, ap, subst, IfOk}
 use Rattle.nc_rules.specs.declared.steps.Phase.TheVariants.{Steps, Work}
 use Rattle.nc_rules.specs.declared.steps.Seen.{Seen}
 use Rattle.nc_rules.specs.Driver.{Went, done_in}
-use Rattle.nc_moves.specs.Shown.{seen_as}
+use Rattle.nc_moves.specs.MovesView.{moves_view}
 use Rattle.nc_driver.specs.Kept.{state, IsSound}
 use Rattle.nc_driver.proofs.KeptLaws.{act_here, act_hand, not_searching, done_busy, done_made}
 use Rattle.nc_driver.proofs.SoundLaws.{done_sound}
@@ -29,7 +29,7 @@ returns-in-Some-clause-moves c =
     let d = state c.args.self.now in
     let hand = act_hand d c.requires.next in
     let is = done_busy d c.args.seen hand.0 c.in-Some.refusal hand.1 (sym c.busy.ensures ∙ c.in-Some.is) in
-    subst (λ (w : Went). IfOk c.give_up.result (λ m. seen_as m ≡ w.moves)) (sym is) (c.give_up.ensures.moves hand.0 hand.1)
+    subst (λ (w : Went). IfOk c.give_up.result (λ m. moves_view m ≡ w.moves)) (sym is) (c.give_up.ensures.moves hand.0 hand.1)
 
 pub step-requires-clause-sound : goal.step-requires-clause-sound
 step-requires-clause-sound c = λ o e.
@@ -58,7 +58,7 @@ returns-in-Steps-clause-moves c =
     let d = state c.args.self.now in
     let hand = act_hand d c.requires.next in
     let is = ap (λ (s : Seen). done_in d hand.0 s (Steps c.in-Steps.n)) c.kept-saw.ensures ∙ sym (done_made d c.args.seen hand.0 (Steps c.in-Steps.n) hand.1 (sym c.busy.ensures ∙ c.in_default.is) c.in-Steps.is) in
-    subst (λ (w : Went). IfOk c.step.result (λ m. seen_as m ≡ w.moves)) is (c.step.ensures.moves hand.0 hand.1)
+    subst (λ (w : Went). IfOk c.step.result (λ m. moves_view m ≡ w.moves)) is (c.step.ensures.moves hand.0 hand.1)
 
 pub returns-in-Search-clause-driver : goal.returns-in-Search-clause-driver
 returns-in-Search-clause-driver c = absurd (not_searching (state c.args.self.now) c.in-Search.field-0 c.requires.next c.in-Search.is)
@@ -78,4 +78,4 @@ returns-in-Work-clause-moves c =
     let d = state c.args.self.now in
     let hand = act_hand d c.requires.next in
     let is = ap (λ (s : Seen). done_in d hand.0 s Work) c.kept-saw.ensures ∙ sym (done_made d c.args.seen hand.0 Work hand.1 (sym c.busy.ensures ∙ c.in_default.is) c.in-Work.is) in
-    subst (λ (w : Went). IfOk c.work.result (λ m. seen_as m ≡ w.moves)) is (c.work.ensures.moves hand.0 hand.1)
+    subst (λ (w : Went). IfOk c.work.result (λ m. moves_view m ≡ w.moves)) is (c.work.ensures.moves hand.0 hand.1)

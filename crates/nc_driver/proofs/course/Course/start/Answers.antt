@@ -1,6 +1,6 @@
 use Rattle.std.proofs.Common.{◌≡◌, ◌∙◌, sym, ap, subst, IfOk}
 use Rattle.nc_rules.specs.Driver.{Went}
-use Rattle.nc_moves.specs.Shown.{seen_as}
+use Rattle.nc_moves.specs.MovesView.{moves_view}
 use Rattle.nc_driver.specs.Kept.{state, IsSound}
 use Rattle.nc_driver.proofs.KeptLaws.{start_ends, start_stays, start_refused, due_start, same_op}
 use Rattle.nc_driver.proofs.SoundLaws.{started_sound}
@@ -49,4 +49,4 @@ returns-in-Err-clause-moves c =
     let hand = c.in-Some.ensures.op in
     let is = due_start d c.in-Some.op.now c.args.self.now.due c.requires.ready.kept hand c.requires.next c.requires.ready.due ∙ c.in-Err.is in
     let gone = start_refused d c.args.book.now.owners c.args.pages.now c.in-Some.op.now c.in-Err.refusal hand (sym c.has_start.ensures ∙ c.if-has_start.false) is in
-    subst (λ (w : Went). IfOk c.give_up.result (λ m. seen_as m ≡ w.moves)) (sym gone) (c.give_up.ensures.moves c.in-Some.op.now hand)
+    subst (λ (w : Went). IfOk c.give_up.result (λ m. moves_view m ≡ w.moves)) (sym gone) (c.give_up.ensures.moves c.in-Some.op.now hand)

@@ -1,6 +1,6 @@
 use Rattle.std.proofs.Common.{◌≡◌, ◌∙◌, sym, ap, subst, IfOk}
 use Rattle.nc_rules.specs.Driver.{Went, told}
-use Rattle.nc_moves.specs.Shown.{seen_as}
+use Rattle.nc_moves.specs.MovesView.{moves_view}
 use Rattle.nc_driver.specs.Kept.{state, IsSound}
 use Rattle.nc_driver.proofs.KeptLaws.{told_ends, told_steps, told_work, told_got, told_missed}
 use Rattle.nc_driver.proofs.SoundLaws.{told_sound, searching_at, given_named}
@@ -43,7 +43,7 @@ returns-in-Search-clause-moves c =
     let o = c.in-Some._op.now in
     let e = c.in-Some.ensures.op in
     let is = ap (told d) c.if-got.true ∙ told_got d o c.in-Search.k e c.in-Search.is in
-    subst (λ (w : Went). IfOk c.take_slot.result (λ m. seen_as m ≡ w.moves)) (sym is) (c.take_slot.ensures.moves o e)
+    subst (λ (w : Went). IfOk c.take_slot.result (λ m. moves_view m ≡ w.moves)) (sym is) (c.take_slot.ensures.moves o e)
 
 pub returns-in-Search-2-clause-driver : goal.returns-in-Search-2-clause-driver
 returns-in-Search-2-clause-driver c =
@@ -59,7 +59,7 @@ returns-in-Search-2-clause-moves c =
     let o = c.in-Some._op.now in
     let e = c.in-Some.ensures.op in
     let is = ap (told d) c.if-got.false ∙ told_missed d o c.in-Search-2.k e c.in-Search-2.is in
-    subst (λ (w : Went). IfOk c.miss.result (λ m. seen_as m ≡ w.moves)) (sym is) (c.miss.ensures.moves o e)
+    subst (λ (w : Went). IfOk c.miss.result (λ m. moves_view m ≡ w.moves)) (sym is) (c.miss.ensures.moves o e)
 
 pub returns-in-Steps-clause-driver : goal.returns-in-Steps-clause-driver
 returns-in-Steps-clause-driver c = sym (ap (λ (w : Went). w.driver) (told_steps (state c.args.self.now) c.args.got c.in-Steps.field-0 c.in-Steps.is))

@@ -1,7 +1,7 @@
 use Rattle.std.proofs.Common.{◌≡◌, ◌<◌, ap, sym, subst, length, ◌∙◌}
 use Rattle.nc_rules.specs.Machine.{MachineState}
 use Rattle.nc_machine.specs.Inside.{machine_of}
-use Rattle.nc_machine.specs.State.{MachineShown}
+use Rattle.nc_machine.specs.State.{MachineView}
 use Rattle.nc_machine.proofs.machine.Machine.bring.Goals as goal
 use Rattle.nc_num.specs.Places.{block_at}
 use Rattle.nc_cache.specs.Cache.{load}
@@ -15,7 +15,7 @@ invariant_of-self c =
     let m = machine_of c.self.inside in
     let h = c.args.h.0 in
     let b = block_at c.args.span.at m.size in
-    let same : c.args.self.now.machine ≡ m = ap (λ (s : MachineShown). s.machine) (sym c.self.view_is) in
+    let same : c.args.self.now.machine ≡ m = ap (λ (s : MachineView). s.machine) (sym c.self.view_is) in
     let lt = subst (λ (t : MachineState). h < length t.harts) same c.requires.hart in
     let piece = subst (λ (t : MachineState). IsPieceIn (length t.cache.ram) c.args.span) same c.requires.piece in
     let whole = whole_load m.size (length m.harts) (length m.cache.ram) m.cache h b c.self.invariant.machine.cache lt (piece_block m c.args.span c.self.invariant.machine piece) in

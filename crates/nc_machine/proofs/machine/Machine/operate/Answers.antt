@@ -2,7 +2,7 @@ use Rattle.std.proofs.Common.{◌≡◌, ◌<◌, ap, sym, subst, length}
 use Rattle.nc_rules.specs.Machine.{MachineState}
 use Rattle.nc_rules.specs.Sound.{IsBlockIn}
 use Rattle.nc_machine.specs.Inside.{machine_of}
-use Rattle.nc_machine.specs.State.{MachineShown}
+use Rattle.nc_machine.specs.State.{MachineView}
 use Rattle.nc_machine.proofs.machine.Machine.operate.Goals as goal
 use Rattle.nc_cache.specs.Cache.{clean, flush, inval, zero_block}
 use Rattle.nc_cache.proofs.Wholes.{whole_clean, whole_flush, whole_inval, whole_zero}
@@ -11,7 +11,7 @@ use Rattle.nc_machine.proofs.Keeps.{kept_cache}
 pub invariant_of-self : goal.invariant_of-self
 invariant_of-self c =
     let m = machine_of c.self.inside in
-    let same : c.args.self.now.machine ≡ m = ap (λ (s : MachineShown). s.machine) (sym c.self.view_is) in
+    let same : c.args.self.now.machine ≡ m = ap (λ (s : MachineView). s.machine) (sym c.self.view_is) in
     let there = subst (λ (t : MachineState). IsBlockIn t.size (length t.cache.ram) c.args.block.0) same c.requires.there in
     let whole = whole_clean m.size (length m.harts) (length m.cache.ram) m.cache c.args.block.0 c.self.invariant.machine.cache there in
     let e = c.clean.ensures in
@@ -20,7 +20,7 @@ invariant_of-self c =
 pub invariant_of-self-in-Flush : goal.invariant_of-self-in-Flush
 invariant_of-self-in-Flush c =
     let m = machine_of c.self.inside in
-    let same : c.args.self.now.machine ≡ m = ap (λ (s : MachineShown). s.machine) (sym c.self.view_is) in
+    let same : c.args.self.now.machine ≡ m = ap (λ (s : MachineView). s.machine) (sym c.self.view_is) in
     let there = subst (λ (t : MachineState). IsBlockIn t.size (length t.cache.ram) c.args.block.0) same c.requires.there in
     let whole = whole_flush m.size (length m.harts) (length m.cache.ram) m.cache c.args.block.0 c.self.invariant.machine.cache there in
     let e = c.flush.ensures in
@@ -36,7 +36,7 @@ invariant_of-self-in-Inval c =
 pub invariant_of-self-in-Zero : goal.invariant_of-self-in-Zero
 invariant_of-self-in-Zero c =
     let m = machine_of c.self.inside in
-    let same : c.args.self.now.machine ≡ m = ap (λ (s : MachineShown). s.machine) (sym c.self.view_is) in
+    let same : c.args.self.now.machine ≡ m = ap (λ (s : MachineView). s.machine) (sym c.self.view_is) in
     let lt = subst (λ (t : MachineState). c.args.h.0 < length t.harts) same c.requires.hart in
     let whole = whole_zero m.size (length m.harts) (length m.cache.ram) m.cache c.args.h.0 c.args.block.0 c.self.invariant.machine.cache lt in
     let e = c.zero.ensures in

@@ -1,7 +1,7 @@
 use Rattle.std.proofs.Common.{◌≡◌, ◌<◌, ap, sym, subst, length}
 use Rattle.nc_rules.specs.Machine.{MachineState, hart_of, with_hart}
 use Rattle.nc_machine.specs.Inside.{machine_of}
-use Rattle.nc_machine.specs.State.{MachineShown}
+use Rattle.nc_machine.specs.State.{MachineView}
 use Rattle.nc_machine.proofs.machine.Machine.put.Goals as goal
 use Rattle.nc_hart.specs.Issue.{issued}
 use Rattle.nc_rules.specs.Sound.{OpIsThere, IsMachine}
@@ -15,7 +15,7 @@ invariant_of-self c =
     let m = machine_of c.self.inside in
     let h = c.args.h.0 in
     let op = c.args.op in
-    let same : c.args.self.now.machine ≡ m = ap (λ (s : MachineShown). s.machine) (sym c.self.view_is) in
+    let same : c.args.self.now.machine ≡ m = ap (λ (s : MachineView). s.machine) (sym c.self.view_is) in
     let lt = subst (λ (t : MachineState). h < length t.harts) same c.requires.hart in
     let there = subst (λ (t : MachineState). OpIsThere t h op) same c.requires.there in
     let can = subst (λ (t : MachineState). IsTrue (may_issue t h op)) same c.requires.can in

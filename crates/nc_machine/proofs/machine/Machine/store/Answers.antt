@@ -1,7 +1,7 @@
 use Rattle.std.proofs.Common.{◌≡◌, ◌<◌, ◌≤◌, ◌+◌, ap, sym, subst, length, ◌∙◌}
 use Rattle.nc_rules.specs.Machine.{MachineState}
 use Rattle.nc_machine.specs.Inside.{machine_of}
-use Rattle.nc_machine.specs.State.{MachineShown}
+use Rattle.nc_machine.specs.State.{MachineView}
 use Rattle.nc_machine.proofs.machine.Machine.store.Goals as goal
 use Rattle.nc_num.specs.declared.names.MemType.TheVariants.{Pma}
 use Rattle.nc_cache.specs.Cache.{store}
@@ -16,7 +16,7 @@ pub invariant_of-self : goal.invariant_of-self
 unfolding performed
 invariant_of-self c =
     let m = machine_of c.self.inside in
-    let same : c.args.self.now.machine ≡ m = ap (λ (s : MachineShown). s.machine) (sym c.self.view_is) in
+    let same : c.args.self.now.machine ≡ m = ap (λ (s : MachineView). s.machine) (sym c.self.view_is) in
     let lt = subst (λ (t : MachineState). c.args.h.0 < length t.harts) same c.requires.hart in
     let fits = subst (λ (t : MachineState). StoreFits t.size c.args.span c.args.bytes.now) same c.requires.fits in
     let there = subst (λ (t : MachineState). c.args.span.at + c.args.span.len ≤ length t.cache.ram) same c.requires.there in

@@ -8,6 +8,6 @@ use Rattle.nc_world.proofs.world.World.step.Goals as goal
 pub returns-clause-shape : goal.returns-clause-shape
 returns-clause-shape c =
     let w = c.args.self.now.at in
-    let v = c.make.new.self.at in
-    on_ok c.make.result (v ≡ next w c.args.e) (SameShape w.machine v.machine)
-    (λ is. subst (λ (u : WorldState). SameShape w.machine u.machine) (sym is) (next_shape w c.args.e c.sound.ensures.stays c.sound.ensures.machine c.sound.ensures.holds c.requires.there)) c.make.ensures.next
+    let v = c.dispatch.new.self.at in
+    on_ok c.dispatch.result (v ≡ next w c.args.e) (SameShape w.machine v.machine)
+    (λ is. subst (λ (u : WorldState). SameShape w.machine u.machine) (sym is) (next_shape w c.args.e c.sound.ensures.stays c.sound.ensures.machine c.sound.ensures.holds c.requires.there)) c.dispatch.ensures.next

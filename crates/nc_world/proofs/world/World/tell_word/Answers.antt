@@ -15,9 +15,9 @@ use Rattle.nc_rules.specs.Turns.{Moved}
 use Rattle.nc_rules.specs.World.{driver_of, owners_moved, grants_added, grants_ended, slots_back}
 use Rattle.nc_scripts.specs.Scripts.{IsRangeIn}
 use Rattle.nc_holds.specs.Holds.{CanAddAll, AreBack}
-use Rattle.nc_moves.specs.Shown.{seen_as}
+use Rattle.nc_moves.specs.MovesView.{moves_view}
 use Rattle.nc_world.specs.Inside.{state_of}
-use Rattle.nc_world.specs.Shown.{Shown}
+use Rattle.nc_world.specs.WorldView.{WorldView}
 use Rattle.nc_scen.specs.declared.events.Event.TheVariants.{Told}
 use Rattle.nc_world.proofs.Fits.{word_there}
 use Rattle.nc_world.proofs.Kept.{tell_moves, kept_next}
@@ -32,9 +32,9 @@ take_word-requires c =
     let k = c.in-Some.k in
     let d = driver_of w h.0 in
     let back = sym c.self.view_is in
-    let lt : h.0 < length w.machine.harts = subst (λ (v : Shown). h.0 < length v.at.machine.harts) back c.requires in
-    let sound : IsMachine w.machine = subst (λ (v : Shown). IsMachine v.at.machine) back c.laws.ensures.machine in
-    let at : searching d ≡ Some k = sym (subst (λ (v : Shown). c.searching.result ≡ searching (driver_of v.at h.0)) back c.searching.ensures) ∙ c.in-Some.is in
+    let lt : h.0 < length w.machine.harts = subst (λ (v : WorldView). h.0 < length v.at.machine.harts) back c.requires in
+    let sound : IsMachine w.machine = subst (λ (v : WorldView). IsMachine v.at.machine) back c.laws.ensures.machine in
+    let at : searching d ≡ Some k = sym (subst (λ (v : WorldView). c.searching.result ≡ searching (driver_of v.at h.0)) back c.searching.ensures) ∙ c.in-Some.is in
     word_there w h.0 k c.laws.ensures.stays c.self.invariant.holds lt at
 
 pub carry-requires-clause-inside : goal.carry-requires-clause-inside
@@ -45,13 +45,13 @@ carry-requires-clause-inside c =
     let k = c.in-Some.k in
     let d = driver_of w h.0 in
     let back = sym c.self.view_is in
-    let lt : h.0 < length w.machine.harts = subst (λ (v : Shown). h.0 < length v.at.machine.harts) back c.requires in
-    let sound : IsMachine w.machine = subst (λ (v : Shown). IsMachine v.at.machine) back c.laws.ensures.machine in
-    let at : searching d ≡ Some k = sym (subst (λ (v : Shown). c.searching.result ≡ searching (driver_of v.at h.0)) back c.searching.ensures) ∙ c.in-Some.is in
-    let moves : seen_as c.in_ok-moves.moves ≡ (told d (got_word got (holder_of w.slots k))).moves =
+    let lt : h.0 < length w.machine.harts = subst (λ (v : WorldView). h.0 < length v.at.machine.harts) back c.requires in
+    let sound : IsMachine w.machine = subst (λ (v : WorldView). IsMachine v.at.machine) back c.laws.ensures.machine in
+    let at : searching d ≡ Some k = sym (subst (λ (v : WorldView). c.searching.result ≡ searching (driver_of v.at h.0)) back c.searching.ensures) ∙ c.in-Some.is in
+    let moves : moves_view c.in_ok-moves.moves ≡ (told d (got_word got (holder_of w.slots k))).moves =
     c.in_ok-moves.ensures.moves ∙ ap (λ (b : Bool). (told d b).moves) (c.is_got.ensures ∙ ap (got_word got) c.holder-holder.ensures) in
-    let may = tell_moves w h got k (seen_as c.in_ok-moves.moves) c.laws.ensures.may sound c.self.invariant.holds lt at moves in
-    subst (λ (os : List Owner). All (λ t. IsRangeIn (length os) t.0) (seen_as c.in_ok-moves.moves).transfers) (sym c.in_ok-reserve.ensures.owners) may.transfers
+    let may = tell_moves w h got k (moves_view c.in_ok-moves.moves) c.laws.ensures.may sound c.self.invariant.holds lt at moves in
+    subst (λ (os : List Owner). All (λ t. IsRangeIn (length os) t.0) (moves_view c.in_ok-moves.moves).transfers) (sym c.in_ok-reserve.ensures.owners) may.transfers
 
 pub carry-requires-clause-grants : goal.carry-requires-clause-grants
 carry-requires-clause-grants c =
@@ -61,14 +61,14 @@ carry-requires-clause-grants c =
     let k = c.in-Some.k in
     let d = driver_of w h.0 in
     let back = sym c.self.view_is in
-    let lt : h.0 < length w.machine.harts = subst (λ (v : Shown). h.0 < length v.at.machine.harts) back c.requires in
-    let sound : IsMachine w.machine = subst (λ (v : Shown). IsMachine v.at.machine) back c.laws.ensures.machine in
-    let at : searching d ≡ Some k = sym (subst (λ (v : Shown). c.searching.result ≡ searching (driver_of v.at h.0)) back c.searching.ensures) ∙ c.in-Some.is in
-    let moves : seen_as c.in_ok-moves.moves ≡ (told d (got_word got (holder_of w.slots k))).moves =
+    let lt : h.0 < length w.machine.harts = subst (λ (v : WorldView). h.0 < length v.at.machine.harts) back c.requires in
+    let sound : IsMachine w.machine = subst (λ (v : WorldView). IsMachine v.at.machine) back c.laws.ensures.machine in
+    let at : searching d ≡ Some k = sym (subst (λ (v : WorldView). c.searching.result ≡ searching (driver_of v.at h.0)) back c.searching.ensures) ∙ c.in-Some.is in
+    let moves : moves_view c.in_ok-moves.moves ≡ (told d (got_word got (holder_of w.slots k))).moves =
     c.in_ok-moves.ensures.moves ∙ ap (λ (b : Bool). (told d b).moves) (c.is_got.ensures ∙ ap (got_word got) c.holder-holder.ensures) in
-    let may = tell_moves w h got k (seen_as c.in_ok-moves.moves) c.laws.ensures.may sound c.self.invariant.holds lt at moves in
-    subst (λ (gs : List Grant). CanAddAll (length c.reserve.new.book.owners) gs (seen_as c.in_ok-moves.moves).grants) (sym c.in_ok-reserve.ensures.grants)
-    (subst (λ (os : List Owner). CanAddAll (length os) w.grants (seen_as c.in_ok-moves.moves).grants) (sym c.in_ok-reserve.ensures.owners) may.grants)
+    let may = tell_moves w h got k (moves_view c.in_ok-moves.moves) c.laws.ensures.may sound c.self.invariant.holds lt at moves in
+    subst (λ (gs : List Grant). CanAddAll (length c.reserve.new.book.owners) gs (moves_view c.in_ok-moves.moves).grants) (sym c.in_ok-reserve.ensures.grants)
+    (subst (λ (os : List Owner). CanAddAll (length os) w.grants (moves_view c.in_ok-moves.moves).grants) (sym c.in_ok-reserve.ensures.owners) may.grants)
 
 pub carry-requires-clause-backs : goal.carry-requires-clause-backs
 carry-requires-clause-backs c =
@@ -78,13 +78,13 @@ carry-requires-clause-backs c =
     let k = c.in-Some.k in
     let d = driver_of w h.0 in
     let back = sym c.self.view_is in
-    let lt : h.0 < length w.machine.harts = subst (λ (v : Shown). h.0 < length v.at.machine.harts) back c.requires in
-    let sound : IsMachine w.machine = subst (λ (v : Shown). IsMachine v.at.machine) back c.laws.ensures.machine in
-    let at : searching d ≡ Some k = sym (subst (λ (v : Shown). c.searching.result ≡ searching (driver_of v.at h.0)) back c.searching.ensures) ∙ c.in-Some.is in
-    let moves : seen_as c.in_ok-moves.moves ≡ (told d (got_word got (holder_of w.slots k))).moves =
+    let lt : h.0 < length w.machine.harts = subst (λ (v : WorldView). h.0 < length v.at.machine.harts) back c.requires in
+    let sound : IsMachine w.machine = subst (λ (v : WorldView). IsMachine v.at.machine) back c.laws.ensures.machine in
+    let at : searching d ≡ Some k = sym (subst (λ (v : WorldView). c.searching.result ≡ searching (driver_of v.at h.0)) back c.searching.ensures) ∙ c.in-Some.is in
+    let moves : moves_view c.in_ok-moves.moves ≡ (told d (got_word got (holder_of w.slots k))).moves =
     c.in_ok-moves.ensures.moves ∙ ap (λ (b : Bool). (told d b).moves) (c.is_got.ensures ∙ ap (got_word got) c.holder-holder.ensures) in
-    let may = tell_moves w h got k (seen_as c.in_ok-moves.moves) c.laws.ensures.may sound c.self.invariant.holds lt at moves in
-    subst (λ (ss : List (Option HartNo)). AreBack h ss (seen_as c.in_ok-moves.moves).backs) (sym (c.take_word.ensures)) may.backs
+    let may = tell_moves w h got k (moves_view c.in_ok-moves.moves) c.laws.ensures.may sound c.self.invariant.holds lt at moves in
+    subst (λ (ss : List (Option HartNo)). AreBack h ss (moves_view c.in_ok-moves.moves).backs) (sym (c.take_word.ensures)) may.backs
 
 pub carry-requires-clause-pages : goal.carry-requires-clause-pages
 carry-requires-clause-pages c =
@@ -94,12 +94,12 @@ carry-requires-clause-pages c =
     let k = c.in-Some.k in
     let d = driver_of w h.0 in
     let back = sym c.self.view_is in
-    let lt : h.0 < length w.machine.harts = subst (λ (v : Shown). h.0 < length v.at.machine.harts) back c.requires in
-    let sound : IsMachine w.machine = subst (λ (v : Shown). IsMachine v.at.machine) back c.laws.ensures.machine in
-    let at : searching d ≡ Some k = sym (subst (λ (v : Shown). c.searching.result ≡ searching (driver_of v.at h.0)) back c.searching.ensures) ∙ c.in-Some.is in
-    let moves : seen_as c.in_ok-moves.moves ≡ (told d (got_word got (holder_of w.slots k))).moves =
+    let lt : h.0 < length w.machine.harts = subst (λ (v : WorldView). h.0 < length v.at.machine.harts) back c.requires in
+    let sound : IsMachine w.machine = subst (λ (v : WorldView). IsMachine v.at.machine) back c.laws.ensures.machine in
+    let at : searching d ≡ Some k = sym (subst (λ (v : WorldView). c.searching.result ≡ searching (driver_of v.at h.0)) back c.searching.ensures) ∙ c.in-Some.is in
+    let moves : moves_view c.in_ok-moves.moves ≡ (told d (got_word got (holder_of w.slots k))).moves =
     c.in_ok-moves.ensures.moves ∙ ap (λ (b : Bool). (told d b).moves) (c.is_got.ensures ∙ ap (got_word got) c.holder-holder.ensures) in
-    let may = tell_moves w h got k (seen_as c.in_ok-moves.moves) c.laws.ensures.may sound c.self.invariant.holds lt at moves in
+    let may = tell_moves w h got k (moves_view c.in_ok-moves.moves) c.laws.ensures.may sound c.self.invariant.holds lt at moves in
     may.pages
 
 pub invariant_of-self-2 : goal.invariant_of-self-2
@@ -110,16 +110,16 @@ invariant_of-self-2 c =
     let k = c.in-Some.k in
     let d = driver_of w h.0 in
     let back = sym c.self.view_is in
-    let lt : h.0 < length w.machine.harts = subst (λ (v : Shown). h.0 < length v.at.machine.harts) back c.requires in
-    let sound : IsMachine w.machine = subst (λ (v : Shown). IsMachine v.at.machine) back c.laws.ensures.machine in
-    let at : searching d ≡ Some k = sym (subst (λ (v : Shown). c.searching.result ≡ searching (driver_of v.at h.0)) back c.searching.ensures) ∙ c.in-Some.is in
-    let moves : seen_as c.in_ok-moves.moves ≡ (told d (got_word got (holder_of w.slots k))).moves =
+    let lt : h.0 < length w.machine.harts = subst (λ (v : WorldView). h.0 < length v.at.machine.harts) back c.requires in
+    let sound : IsMachine w.machine = subst (λ (v : WorldView). IsMachine v.at.machine) back c.laws.ensures.machine in
+    let at : searching d ≡ Some k = sym (subst (λ (v : WorldView). c.searching.result ≡ searching (driver_of v.at h.0)) back c.searching.ensures) ∙ c.in-Some.is in
+    let moves : moves_view c.in_ok-moves.moves ≡ (told d (got_word got (holder_of w.slots k))).moves =
     c.in_ok-moves.ensures.moves ∙ ap (λ (b : Bool). (told d b).moves) (c.is_got.ensures ∙ ap (got_word got) c.holder-holder.ensures) in
-    let same = same_next w _ (Told h got) (tell_goes w h got k) (seen_as c.in_ok-moves.moves) (tell_may w h got k at) (tell_is w h got k at) moves
+    let same = same_next w _ (Told h got) (tell_goes w h got k) (moves_view c.in_ok-moves.moves) (tell_may w h got k at) (tell_is w h got k at) moves
     c.in_ok-reserve.ensures.machine (c.in_ok-moves.ensures.driver ∙ ap (λ (b : Bool). slice_set w.drivers h.0 (told d b).driver) (c.is_got.ensures ∙ ap (got_word got) c.holder-holder.ensures))
-    (c.carry.ensures.owners ∙ ap (λ (os : List Owner). owners_moved os (seen_as c.in_ok-moves.moves).transfers) c.in_ok-reserve.ensures.owners)
-    (c.carry.ensures.grants ∙ ap (λ (gs : List Grant). grants_ended (grants_added gs (seen_as c.in_ok-moves.moves).grants) (seen_as c.in_ok-moves.moves).ended) c.in_ok-reserve.ensures.grants)
-    c.one_more-self-inside.ensures refl (c.carry.ensures.slots ∙ ap (λ (ss : List (Option HartNo)). slots_back ss (seen_as c.in_ok-moves.moves).backs) (c.take_word.ensures)) c.carry.ensures.pages in
+    (c.carry.ensures.owners ∙ ap (λ (os : List Owner). owners_moved os (moves_view c.in_ok-moves.moves).transfers) c.in_ok-reserve.ensures.owners)
+    (c.carry.ensures.grants ∙ ap (λ (gs : List Grant). grants_ended (grants_added gs (moves_view c.in_ok-moves.moves).grants) (moves_view c.in_ok-moves.moves).ended) c.in_ok-reserve.ensures.grants)
+    c.one_more-self-inside.ensures refl (c.carry.ensures.slots ∙ ap (λ (ss : List (Option HartNo)). slots_back ss (moves_view c.in_ok-moves.moves).backs) (c.take_word.ensures)) c.carry.ensures.pages in
     kept_next w _ (Told h got) c.self.inside.size c.self.inside.pool c.laws.ensures.keeps c.laws.ensures.stays sound c.self.invariant lt same
 
 pub returns-clause-next : goal.returns-clause-next
@@ -130,17 +130,17 @@ returns-clause-next c =
     let k = c.in-Some.k in
     let d = driver_of w h.0 in
     let back = sym c.self.view_is in
-    let lt : h.0 < length w.machine.harts = subst (λ (v : Shown). h.0 < length v.at.machine.harts) back c.requires in
-    let sound : IsMachine w.machine = subst (λ (v : Shown). IsMachine v.at.machine) back c.laws.ensures.machine in
-    let at : searching d ≡ Some k = sym (subst (λ (v : Shown). c.searching.result ≡ searching (driver_of v.at h.0)) back c.searching.ensures) ∙ c.in-Some.is in
-    let moves : seen_as c.in_ok-moves.moves ≡ (told d (got_word got (holder_of w.slots k))).moves =
+    let lt : h.0 < length w.machine.harts = subst (λ (v : WorldView). h.0 < length v.at.machine.harts) back c.requires in
+    let sound : IsMachine w.machine = subst (λ (v : WorldView). IsMachine v.at.machine) back c.laws.ensures.machine in
+    let at : searching d ≡ Some k = sym (subst (λ (v : WorldView). c.searching.result ≡ searching (driver_of v.at h.0)) back c.searching.ensures) ∙ c.in-Some.is in
+    let moves : moves_view c.in_ok-moves.moves ≡ (told d (got_word got (holder_of w.slots k))).moves =
     c.in_ok-moves.ensures.moves ∙ ap (λ (b : Bool). (told d b).moves) (c.is_got.ensures ∙ ap (got_word got) c.holder-holder.ensures) in
-    let same = same_next w _ (Told h got) (tell_goes w h got k) (seen_as c.in_ok-moves.moves) (tell_may w h got k at) (tell_is w h got k at) moves
+    let same = same_next w _ (Told h got) (tell_goes w h got k) (moves_view c.in_ok-moves.moves) (tell_may w h got k at) (tell_is w h got k at) moves
     c.in_ok-reserve.ensures.machine (c.in_ok-moves.ensures.driver ∙ ap (λ (b : Bool). slice_set w.drivers h.0 (told d b).driver) (c.is_got.ensures ∙ ap (got_word got) c.holder-holder.ensures))
-    (c.carry.ensures.owners ∙ ap (λ (os : List Owner). owners_moved os (seen_as c.in_ok-moves.moves).transfers) c.in_ok-reserve.ensures.owners)
-    (c.carry.ensures.grants ∙ ap (λ (gs : List Grant). grants_ended (grants_added gs (seen_as c.in_ok-moves.moves).grants) (seen_as c.in_ok-moves.moves).ended) c.in_ok-reserve.ensures.grants)
-    c.one_more-self-inside.ensures refl (c.carry.ensures.slots ∙ ap (λ (ss : List (Option HartNo)). slots_back ss (seen_as c.in_ok-moves.moves).backs) (c.take_word.ensures)) c.carry.ensures.pages in
-    same ∙ ap (λ (v : Shown). next v.at (Told h got)) c.self.view_is
+    (c.carry.ensures.owners ∙ ap (λ (os : List Owner). owners_moved os (moves_view c.in_ok-moves.moves).transfers) c.in_ok-reserve.ensures.owners)
+    (c.carry.ensures.grants ∙ ap (λ (gs : List Grant). grants_ended (grants_added gs (moves_view c.in_ok-moves.moves).grants) (moves_view c.in_ok-moves.moves).ended) c.in_ok-reserve.ensures.grants)
+    c.one_more-self-inside.ensures refl (c.carry.ensures.slots ∙ ap (λ (ss : List (Option HartNo)). slots_back ss (moves_view c.in_ok-moves.moves).backs) (c.take_word.ensures)) c.carry.ensures.pages in
+    same ∙ ap (λ (v : WorldView). next v.at (Told h got)) c.self.view_is
 
 pub returns-clause-records : goal.returns-clause-records
 returns-clause-records c =
@@ -150,16 +150,16 @@ returns-clause-records c =
     let k = c.in-Some.k in
     let d = driver_of w h.0 in
     let back = sym c.self.view_is in
-    let lt : h.0 < length w.machine.harts = subst (λ (v : Shown). h.0 < length v.at.machine.harts) back c.requires in
-    let sound : IsMachine w.machine = subst (λ (v : Shown). IsMachine v.at.machine) back c.laws.ensures.machine in
-    let at : searching d ≡ Some k = sym (subst (λ (v : Shown). c.searching.result ≡ searching (driver_of v.at h.0)) back c.searching.ensures) ∙ c.in-Some.is in
-    let moves : seen_as c.in_ok-moves.moves ≡ (told d (got_word got (holder_of w.slots k))).moves =
+    let lt : h.0 < length w.machine.harts = subst (λ (v : WorldView). h.0 < length v.at.machine.harts) back c.requires in
+    let sound : IsMachine w.machine = subst (λ (v : WorldView). IsMachine v.at.machine) back c.laws.ensures.machine in
+    let at : searching d ≡ Some k = sym (subst (λ (v : WorldView). c.searching.result ≡ searching (driver_of v.at h.0)) back c.searching.ensures) ∙ c.in-Some.is in
+    let moves : moves_view c.in_ok-moves.moves ≡ (told d (got_word got (holder_of w.slots k))).moves =
     c.in_ok-moves.ensures.moves ∙ ap (λ (b : Bool). (told d b).moves) (c.is_got.ensures ∙ ap (got_word got) c.holder-holder.ensures) in
-    let number : c.number-n.result ≡ d.op = subst (λ (v : Shown). c.number-n.result ≡ (driver_of v.at h.0).op) back c.number-n.ensures in
+    let number : c.number-n.result ≡ d.op = subst (λ (v : WorldView). c.number-n.result ≡ (driver_of v.at h.0).op) back c.number-n.ensures in
     let start = c.self.inside.log.records in
     let x = records.Event (Told h got) in
     let pushed = c.push.ensures.records ∙ ap (λ (l : List Record). l ++ x ∷ []) c.in_ok-reserve.ensures.records in
     let looked = c.told-2.ensures.records ∙ ap (λ (o : Option HartNo). c.push.new.self.records ++ told_records h k got o) c.holder-holder.ensures in
-    let all = c.moves.ensures.records ∙ ap (λ (j : ℕ). c.told-2.new.self.records ++ moves_records h j (seen_as c.in_ok-moves.moves)) number ∙ ap (λ (v : Moved). c.told-2.new.self.records ++ moves_records h d.op v) moves in
+    let all = c.moves.ensures.records ∙ ap (λ (j : ℕ). c.told-2.new.self.records ++ moves_records h j (moves_view c.in_ok-moves.moves)) number ∙ ap (λ (v : Moved). c.told-2.new.self.records ++ moves_records h d.op v) moves in
     let sum = searched_records start _ _ _ _ _ x pushed looked all ∙ ap (λ (l : List Record). start ++ l) (sym (told_by w (Told h got) (tell_goes w h got k) (tell_may w h got k at) (tell_is w h got k at))) in
-    subst (λ (v : Shown). c.moves.new.self.records ≡ v.records ++ event_records v.at (Told h got)) c.self.view_is sum
+    subst (λ (v : WorldView). c.moves.new.self.records ≡ v.records ++ event_records v.at (Told h got)) c.self.view_is sum

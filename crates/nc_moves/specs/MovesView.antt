@@ -3,8 +3,8 @@ use Rattle.std.specs.Prelude.{◌≤◌, length}
 use Rattle.nc_rules.specs.Turns.{Moved}
 use Rattle.nc_moves.specs.declared.moves.Moves.{Moves}
 
-abbrev pub seen_as : Moves → Moved
-seen_as m = record { transfers = m.transfers; grants = m.grants; ended = m.ended; backs = m.backs; pages = m.pages; answer = m.answer }
+abbrev pub moves_view : Moves → Moved
+moves_view m = record { transfers = m.transfers; grants = m.grants; ended = m.ended; backs = m.backs; pages = m.pages; answer = m.answer }
 
 -- no list of it is longer than a step's
 pub record IsFew (m : Moved) : Type 0 where

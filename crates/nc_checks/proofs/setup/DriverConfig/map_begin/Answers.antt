@@ -4,7 +4,7 @@ use Rattle.nc_rules.specs.declared.answers.Refusal.{Refusal}
 use Rattle.nc_rules.specs.declared.lots.Lot.{Lot}
 use Rattle.nc_checks.specs.Due.{ok_as}
 use Rattle.nc_checks.proofs.RangeLaws.{map_is}
-use Rattle.nc_checks.proofs.setup.Setup.map_begin.Goals as goal
+use Rattle.nc_checks.proofs.setup.DriverConfig.map_begin.Goals as goal
 
 pub returns : goal.returns
 returns c =

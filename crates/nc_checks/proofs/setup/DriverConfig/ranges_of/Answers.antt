@@ -2,7 +2,7 @@ use Rattle.std.proofs.Common.{◌+◌, get_or, ap, ◌∙◌, arith}
 use Rattle.nc_num.specs.declared.places.Span.{Span}
 use Rattle.nc_rules.specs.Refusals.{part_of}
 use Rattle.nc_checks.proofs.RangeLaws.{ranges_on, parts_more, buffer_ends}
-use Rattle.nc_checks.proofs.setup.Setup.ranges_of.Goals as goal
+use Rattle.nc_checks.proofs.setup.DriverConfig.ranges_of.Goals as goal
 
 pub loop-entry-preserved : goal.loop-entry-preserved
 loop-entry-preserved c =

@@ -4,7 +4,7 @@ use Rattle.nc_num.specs.declared.places.Span.{Span}
 use Rattle.nc_rules.specs.Copies.{ends_of, no_span}
 use Rattle.nc_checks.specs.Due.{may_copy, AreParts}
 use Rattle.nc_checks.proofs.RangeLaws.{copy_done}
-use Rattle.nc_checks.proofs.setup.Setup.copy_begin.Goals as goal
+use Rattle.nc_checks.proofs.setup.DriverConfig.copy_begin.Goals as goal
 
 pub returns : goal.returns
 returns c =

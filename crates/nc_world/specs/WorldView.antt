@@ -8,7 +8,7 @@ use Rattle.nc_world.specs.declared.world.Stepped.{Stepped}
 use Rattle.nc_world.specs.declared.world.Stepped.TheVariants.{Done, Skipped}
 
 -- the state, and the records since they were last taken
-pub record Shown : Type 0 where
+pub record WorldView : Type 0 where
   pub at : WorldState
   pub records : List Record
 
