@@ -45,10 +45,11 @@ use Rattle.nc_transfers.proofs.Stages.{copies_go_on}
 use Rattle.nc_flatness.specs.Books.{mapping_in}
 use Rattle.nc_flatness.specs.Copying.{CopyOp, is_poll, polls, claims, transfers, is_register, registers, registers_coming, span_of, IsOneRange, AreItsEnds, IsEndAt, IsUnderWay, IsItsOwn, SawDone, IsBegun, CopyStands}
 use Rattle.nc_flatness.specs.Flatness.{Flatness}
-use Rattle.nc_flatness.specs.Plans.{IsCopyEnd, StepGoes, Loads, Stores, WritesBack, Drops, Gives, Fences, Ends, Zeroes, Flushes, Settles, GivesArea, TakesBack, Marks, Posts, Claims, Registers, Polls, TakesTarget, TakesSource, PlanGoes}
+use Rattle.nc_flatness.specs.Plans.{IsCopyEnd, StepGoes, PlanGoes}
 use Rattle.nc_flatness.specs.Steps.{OfLots, kind_of_act}
 use Rattle.nc_flatness.proofs.Copies.{copy_idle, ends_same}
 use Rattle.nc_flatness.proofs.Loans.{one_lot}
+use Rattle.nc_flatness.proofs.Rests.{poll_step, plan_next}
 
 -- ---- what turns leave of a lot
 
@@ -147,13 +148,6 @@ pub record BothAreThere (lots : List Lot) : Type 0 where
   pub source_is : IsCopyEnd lots reads source ToDev chan
   pub target_is : IsCopyEnd lots writes target FromDev chan
 
-no_poll : (s t : Step) → s ≡ t → is_poll t.act ≡ false → is_poll s.act ≡ true → ⊥
-no_poll s t is off on = false≢true (sym off ∙ sym (ap (λ (k : Step). is_poll k.act) is) ∙ on)
-
-abbrev first_polls : List Step → Bool
-first_polls [] = false
-first_polls (s ∷ rest) = is_poll s.act
-
 -- the step is its poll, behind which comes the release
 pub record IsItsPoll (lots : List Lot) (s : Step) (rest : List Step) : Type 0 where
   pub both : BothAreThere lots
@@ -161,26 +155,9 @@ pub record IsItsPoll (lots : List Lot) (s : Step) (rest : List Step) : Type 0 wh
   pub release : rest ≡ control_step both.chan 0 ∷ more
 
 pub poll_is : (f : DriverConfig) (lots : List Lot) (s : Step) (rest : List Step) → StepGoes f lots s rest → is_poll s.act ≡ true → IsItsPoll lots s rest
-poll_is f lots s rest (Polls is) on =
+poll_is f lots s rest goes on =
+    let is = poll_step f lots s rest goes on in
     record { both = record { chan = is.chan; reads = is.reads; writes = is.writes; source_is = is.source_is; target_is = is.target_is }; more = is.more; release = is.release }
-poll_is f lots s rest (Loads is) on = absurd (no_poll s _ is.step refl on)
-poll_is f lots s rest (Stores is) on = absurd (false≢true (sym (ap is_poll is.act) ∙ on))
-poll_is f lots s rest (WritesBack is) on = absurd (no_poll s _ is.step refl on)
-poll_is f lots s rest (Drops is) on = absurd (no_poll s _ is.step refl on)
-poll_is f lots s rest (Gives is) on = absurd (no_poll s _ is.step refl on)
-poll_is f lots s rest (Fences is) on = absurd (no_poll s _ is.step refl on)
-poll_is f lots s rest (Ends is) on = absurd (no_poll s _ is.step refl on)
-poll_is f lots s rest (Zeroes is) on = absurd (no_poll s _ is.step refl on)
-poll_is f lots s rest (Flushes is) on = absurd (no_poll s _ is.step refl on)
-poll_is f lots s rest (Settles is) on = absurd (no_poll s _ is.step refl on)
-poll_is f lots s rest (GivesArea is) on = absurd (no_poll s _ is.step refl on)
-poll_is f lots s rest (TakesBack is) on = absurd (no_poll s _ is.step refl on)
-poll_is f lots s rest (Marks is) on = absurd (no_poll s _ is.step refl on)
-poll_is f lots s rest (Posts is) on = absurd (no_poll s _ is.step refl on)
-poll_is f lots s rest (Claims is) on = absurd (false≢true (sym (ap first_polls is.steps) ∙ on))
-poll_is f lots s rest (Registers is) on = absurd (no_poll s _ is.step refl on)
-poll_is f lots s rest (TakesTarget is) on = absurd (false≢true (sym (ap (λ (k : Step). is_poll k.act) is.goes.step) ∙ on))
-poll_is f lots s rest (TakesSource is) on = absurd (false≢true (sym (ap (λ (k : Step). is_poll k.act) is.goes.step) ∙ on))
 
 end_from : (first last : Turn) (lots : List Lot) (now : Lot) (id : LotId) (dir : Dir) (chan : ChanNo) → IsCopyEnd (lots_after_both first last lots) now id dir chan → (lot : Lot) × IsCopyEnd lots lot id dir chan
 end_from first last lots now id dir chan e =
@@ -194,7 +171,7 @@ ends_there f lots (s ∷ rest) goes on = elim (cases_Bool (is_poll s.act)) [
   | inl here ↦ (poll_is f lots s rest goes.0 here).both
   | inr off ↦
       let later : polls rest ≡ true = sym (ap (λ (b : Bool). b || polls rest) off) ∙ on in
-      let b = ends_there f (lots_after_both s.first s.last lots) rest goes.1 later in
+      let b = ends_there f (lots_after_both s.first s.last lots) rest (plan_next f lots s rest goes off) later in
       let reads = end_from s.first s.last lots b.reads source ToDev b.chan b.source_is in
       let writes = end_from s.first s.last lots b.writes target FromDev b.chan b.target_is in
       record { chan = b.chan; reads = reads.0; writes = writes.0; source_is = reads.1; target_is = writes.1 }
@@ -217,7 +194,7 @@ more_registers f lots (s ∷ rest) goes on =
       | inl here ↦
           let p = poll_is f lots s rest goes.0 here in
           record { first = entries.Reg p.both.chan 0 4 0; others = registers_coming p.more; is = ap registers_coming p.release }
-      | inr off ↦ more_registers f (lots_after_both s.first s.last lots) rest goes.1 (sym (ap (λ (b : Bool). b || polls rest) off) ∙ on)
+      | inr off ↦ more_registers f (lots_after_both s.first s.last lots) rest (plan_next f lots s rest goes off) (sym (ap (λ (b : Bool). b || polls rest) off) ∙ on)
     ] in
     subst (λ (q : List QueueEntry). HasMore q) (sym (coming_by s rest)) (append_more (registers (act_coming s.act)) (registers_coming rest) later)
 
@@ -262,7 +239,7 @@ under_step sc f g w v h s rest k from to e flat c now fixed lots left on u =
     let d = driver_of w h in
     let ls = lots_after_both s.first s.last d.lots in
     let its = of_lots s.act c.kind in
-    let there = ends_there d.fixed ls rest c.goes.1 on in
+    let there = ends_there d.fixed ls rest (plan_next d.fixed d.lots s rest c.goes its.polls) on in
     let chan = c.channels k.chan.0 u.granted in
     let seen : (id : LotId) (dir : Dir) (range device : Span) → IsEndAt d.fixed ls id dir k.chan range device → IsEndAt (driver_of v h).fixed (driver_of v h).lots id dir k.chan range device =
     λ id dir range device is.

@@ -1,8 +1,8 @@
 -- The drain of a token: the lot is its channel's, and what its hart's driver is still to do goes on as it stood.
 use Rattle.std.proofs.Common.{◌≡◌, ℕ, cond, Bool, true, false, List, [], ◌∷◌, refl, sym, ap, ◌∙◌, inl, inr, subst, Option, Some, None}
-use Rattle.std.specs.Prelude.{◌⊎◌, ◌==◌, not, All, filter}
+use Rattle.std.specs.Prelude.{◌⊎◌, ◌==◌, ◌||◌, not, All, filter, map}
 use Rattle.std.specs.List.{list_any}
-use Rattle.std.proofs.lemmas.Bool.{and_parts, and_from, or_parts, or_left, cond-true, cond-false, eqb-true, eq-eqb, false_from_ne_true, false≢true}
+use Rattle.std.proofs.lemmas.Bool.{cases_Bool, and_parts, and_from, or_parts, or_left, cond-true, cond-false, eqb-true, eq-eqb, false_from_ne_true, false≢true}
 use Rattle.std.proofs.lemmas.List.Elements.{All-nil, All-cons, All-head, All-tail}
 use Rattle.nc_num.specs.declared.names.ChanNo.{ChanNo}
 use Rattle.nc_num.specs.declared.names.Dir.{Dir}
@@ -17,6 +17,7 @@ use Rattle.nc_rules.specs.declared.lots.Lot.{Lot}
 use Rattle.nc_rules.specs.declared.lots.LotId.{LotId}
 use Rattle.nc_rules.specs.declared.lots.Side.{Side}
 use Rattle.nc_rules.specs.declared.lots.Side.TheVariants as sides
+use Rattle.nc_rules.specs.declared.steps.Act.{Act}
 use Rattle.nc_rules.specs.declared.steps.Phase.{Phase}
 use Rattle.nc_rules.specs.declared.steps.Phase.TheVariants.{Steps, Search, Work}
 use Rattle.nc_rules.specs.declared.steps.Step.{Step}
@@ -25,15 +26,20 @@ use Rattle.nc_rules.specs.declared.steps.Turn.TheVariants as turns
 use Rattle.nc_rules.specs.Driver.{DriverState, in_hand, with_lots}
 use Rattle.nc_rules.specs.Copies.{source, target}
 use Rattle.nc_rules.specs.Lots.{DriverConfig, is_lot}
-use Rattle.nc_rules.specs.Turns.{is_area, with_side, set_side, lots_after}
-use Rattle.nc_scripts.proofs.Lists.{all_filtered}
+use Rattle.nc_rules.specs.Turns.{is_area, with_side, set_side, lots_after, lots_after_both}
+use Rattle.nc_scripts.specs.Drivers.{AreApart}
+use Rattle.nc_scripts.proofs.Lists.{all_in, all_filtered}
 use Rattle.nc_scripts.proofs.LotLaws.{its_name}
 use Rattle.nc_holds.specs.Held.{IsEntryOf}
 use Rattle.nc_holds.proofs.ListsA.{all_at}
-use Rattle.nc_rows.specs.Ahead.{same_lot, turns_lot, stores_io, tokens_lot, ends}
-use Rattle.nc_flatness.specs.Plans.{IsStill, StillDevice, IsBeside, IsInHand, HasEnd, GoesIn, ComesOut, IsCopied, IsDrop, IsEnd, IsCopyEnd, IsTaken, token_step, StepGoes, Loads, Stores, WritesBack, Drops, Gives, Fences, Ends, Zeroes, Flushes, Settles, GivesArea, TakesBack, Marks, Posts, Claims, Registers, Polls, TakesTarget, TakesSource, PlanGoes}
+use Rattle.nc_holds.proofs.OwnerLots.{same_named}
+use Rattle.nc_rows.specs.Ahead.{same_lot, turns_lot, gives_lot, settles_lot, stores_io, tokens_lot}
+use Rattle.nc_flatness.specs.Plans.{IsStill, StillDevice, IsBeside, IsInHand, HasLend, GoesIn, ComesOut, IsCopied, IsBack, IsDrop, IsEnd, IsAreaBack, IsCopyEnd, IsTaken, token_step, StepGoes, Loads, Stores, WritesBack, Drops, Gives, Fences, Ends, Zeroes, Flushes, Settles, GivesArea, TakesBack, Marks, Posts, Claims, Registers, Polls, TakesTarget, TakesSource, given_now, lots_behind, PlanGoes}
+use Rattle.nc_flatness.specs.Copying.{is_poll}
+use Rattle.nc_flatness.specs.Tokens.{is_lending_side, ends_lending, is_sent}
 use Rattle.nc_flatness.specs.Flatness.{IsMapping, IsStillOrMade, PlanLeft, PlanIs, PlanOf, StandsAt, Drives}
-use Rattle.nc_flatness.proofs.Rests.{kept_in, settling_ends, same_id, behind, by_turn, by_token, turn_name, first_ends}
+use Rattle.nc_flatness.proofs.Rests.{kept_in, lend_behind, settling_lends, give_lends, settle_lends, token_lends, turn_name, lots_unpolled, lots_polled, plan_next}
+use Rattle.nc_flatness.proofs.Tokens.{sent_side, sent_unlent}
 
 -- ---- a side that lots of a name get
 
@@ -168,16 +174,16 @@ named_id id lot is =
 
 -- ---- a step, of another lot
 
--- the lot that a step is of is taken back, or lent with its end still to come
+-- the lot that a step is of is taken back, or lent with the end of that still to come
 abbrev IsMoving : List Step → Lot → Type 0
-IsMoving steps lot = ((lot.side ≡ sides.Lending) × HasEnd lot.id steps) ⊎ (lot.side ≡ sides.Returning)
+IsMoving steps lot = ((lot.side ≡ sides.Lending) × HasLend lot.id steps) ⊎ (lot.side ≡ sides.Returning)
 
 abbrev IsApart : LotId → List Lot → List Step → Type 0
 IsApart id lots steps = (lot : Lot) → In lot lots → IsMoving steps lot → is_lot id lot ≡ false
 
 copied_apart : (f : DriverConfig) (lots : List Lot) (s : Step) (rest : List Step) (from to : Span) (id : LotId) → (c : IsCopied f lots rest from to) → IsApart id lots (s ∷ rest) → is_lot id c.lot ≡ false
 copied_apart f lots s rest from to id c apart = elim c.way [
-  | inl goes ↦ apart c.lot c.here.lot_in (inl (goes.hand.side_is, behind c.lot.id s rest goes.later))
+  | inl goes ↦ apart c.lot c.here.lot_in (inl (goes.hand.side_is, lend_behind c.lot.id s rest goes.later))
   | inr comes ↦ apart c.lot c.here.lot_in (inr comes.hand.side_is)
 ]
 
@@ -205,10 +211,10 @@ end_lent : (f : DriverConfig) (lots : List Lot) (s : Step) (rest : List Step) (i
 end_lent f lots s rest id is off = record { lot = is.lot; hand = hand_lent f lots is.lot false sides.Returning id is.hand off; turn = is.turn; is_back = is.is_back; step = is.step; next = is.next; straight = is.straight }
 
 -- an end of a copy stays one
-both_lent : (lots : List Lot) (lot : Lot) (id : LotId) → In lot lots → In (with_side sides.Device id lot) (lent id lots)
+pub both_lent : (lots : List Lot) (lot : Lot) (id : LotId) → In lot lots → In (with_side sides.Device id lot) (lent id lots)
 both_lent lots lot id here = in_map {Y = Lot} (with_side sides.Device id) lot lots here
 
-end_by : (lots : List Lot) (lot : Lot) (end : LotId) (dir : Dir) (chan : ChanNo) (id : LotId) (t : Bool) → is_lot id lot ≡ t → IsCopyEnd lots lot end dir chan → IsCopyEnd (lent id lots) (with_side sides.Device id lot) end dir chan
+pub end_by : (lots : List Lot) (lot : Lot) (end : LotId) (dir : Dir) (chan : ChanNo) (id : LotId) (t : Bool) → is_lot id lot ≡ t → IsCopyEnd lots lot end dir chan → IsCopyEnd (lent id lots) (with_side sides.Device id lot) end dir chan
 end_by lots lot end dir chan id true is e =
     let same : with_side sides.Device id lot ≡ record lot { side = sides.Device } = cond-true (is_lot id lot) (record lot { side = sides.Device }) lot is in record {
       here = both_lent lots lot id e.here;
@@ -226,7 +232,7 @@ end_by lots lot end dir chan id false is e =
       chan_is = ap (λ (l : Lot). l.chan) same ∙ e.chan_is;
     }
 
-kept_end : (lots : List Lot) (lot : Lot) (end : LotId) (dir : Dir) (chan : ChanNo) (id : LotId) → is_lot id lot ≡ false → IsCopyEnd lots lot end dir chan → IsCopyEnd (lent id lots) lot end dir chan
+pub kept_end : (lots : List Lot) (lot : Lot) (end : LotId) (dir : Dir) (chan : ChanNo) (id : LotId) → is_lot id lot ≡ false → IsCopyEnd lots lot end dir chan → IsCopyEnd (lent id lots) lot end dir chan
 kept_end lots lot end dir chan id off e = record { here = kept_in sides.Device id lots lot off e.here; id_is = e.id_is; kind = e.kind; dir_is = e.dir_is; chan_is = e.chan_is }
 
 -- a lot of another side is none of those that are being lent
@@ -275,11 +281,11 @@ step_lent f lots s rest id (Stores is) all apart =
       last = is.last;
     })
 step_lent f lots s rest id (WritesBack is) all apart =
-    let off = apart is.lot is.hand.here (inl (is.hand.side_is, behind is.lot.id s rest is.later)) in
+    let off = apart is.lot is.hand.here (inl (is.hand.side_is, lend_behind is.lot.id s rest is.later)) in
     WritesBack (record { lot = is.lot; hand = hand_lent f lots is.lot false sides.Lending id is.hand off; op = is.op; block = is.block; step = is.step; writes = is.writes; later = is.later; next = is.next })
 step_lent f lots s rest id (Drops is) all apart = Drops (drop_lent f lots s rest id is (apart is.lot is.hand.here (inr is.hand.side_is)))
 step_lent f lots s rest id (Gives is) all apart =
-    let off = apart is.lot is.hand.here (inl (is.hand.side_is, by_turn is.lot.id s rest (turns.Give is.lot.id) (ap (λ (t : Step). t.last) is.step) (same_id is.lot.id))) in
+    let off = apart is.lot is.hand.here (inl (is.hand.side_is, give_lends is.lot.id s rest (ap (λ (t : Step). t.last) is.step))) in
     Gives (record { lot = is.lot; hand = hand_lent f lots is.lot false sides.Lending id is.hand off; step = is.step; next = is.next })
 step_lent f lots s rest id (Fences is) all apart =
     let off = apart is.lot is.hand.here (inr is.hand.side_is) in
@@ -293,7 +299,7 @@ step_lent f lots s rest id (Fences is) all apart =
     })
 step_lent f lots s rest id (Ends is) all apart = Ends (end_lent f lots s rest id is (apart is.lot is.hand.here (inr is.hand.side_is)))
 step_lent f lots s rest id (Zeroes is) all apart =
-    let off = apart is.lot is.hand.here (inl (is.hand.side_is, behind is.lot.id s rest (settling_ends is.lot.id rest is.settles))) in
+    let off = apart is.lot is.hand.here (inl (is.hand.side_is, lend_behind is.lot.id s rest (settling_lends is.lot.id rest is.settles))) in
     Zeroes (record {
       lot = is.lot;
       hand = hand_lent f lots is.lot true sides.Lending id is.hand off;
@@ -308,25 +314,25 @@ step_lent f lots s rest id (Zeroes is) all apart =
       next = is.next;
     })
 step_lent f lots s rest id (Flushes is) all apart =
-    let off = apart is.lot is.hand.here (inl (is.hand.side_is, behind is.lot.id s rest (settling_ends is.lot.id rest is.settles))) in
+    let off = apart is.lot is.hand.here (inl (is.hand.side_is, lend_behind is.lot.id s rest (settling_lends is.lot.id rest is.settles))) in
     Flushes (record { lot = is.lot; hand = hand_lent f lots is.lot true sides.Lending id is.hand off; block = is.block; step = is.step; settles = is.settles; next = is.next })
 step_lent f lots s rest id (Settles is) all apart =
-    let off = apart is.lot is.hand.here (inl (is.hand.side_is, by_turn is.lot.id s rest (turns.Settle is.lot.id) (ap (λ (t : Step). t.last) is.step) (same_id is.lot.id))) in
+    let off = apart is.lot is.hand.here (inl (is.hand.side_is, settle_lends is.lot.id s rest (ap (λ (t : Step). t.last) is.step))) in
     Settles (record { lot = is.lot; hand = hand_lent f lots is.lot true sides.Lending id is.hand off; step = is.step; over = is.over })
 step_lent f lots s rest id (GivesArea is) all apart =
-    let off = apart is.lot is.hand.here (inl (is.hand.side_is, by_turn is.lot.id s rest (turns.Give is.lot.id) (ap (λ (t : Step). t.last) is.step) (same_id is.lot.id))) in
+    let off = apart is.lot is.hand.here (inl (is.hand.side_is, give_lends is.lot.id s rest (ap (λ (t : Step). t.last) is.step))) in
     GivesArea (record { lot = is.lot; hand = hand_lent f lots is.lot true sides.Lending id is.hand off; step = is.step; over = is.over })
 step_lent f lots s rest id (TakesBack is) all apart =
     let off = apart is.lot is.hand.here (inr is.hand.side_is) in
     TakesBack (record { lot = is.lot; hand = hand_lent f lots is.lot true sides.Returning id is.hand off; turn = is.turn; is_back = is.is_back; step = is.step; over = is.over })
 step_lent f lots s rest id (Marks is) all apart =
-    let ended : HasEnd is.lot.id rest = ap (list_any (ends is.lot.id)) is.left ∙ or_left (ends is.lot.id (token_step is.lot)) false (by_token is.lot) in
-    let off = apart is.lot is.hand.here (inl (is.hand.side_is, behind is.lot.id s rest ended)) in
-    Marks (record { lot = is.lot; hand = hand_lent f lots is.lot (is_area is.lot.kind) sides.Lending id is.hand off; light = is.light; step = is.step; left = is.left })
+    let lends : HasLend is.lot.id rest = ap (list_any (ends_lending is.lot.id)) is.left ∙ or_left (ends_lending is.lot.id (token_step is.lot)) (list_any (ends_lending is.lot.id) is.more) (token_lends is.lot) in
+    let off = apart is.lot is.hand.here (inl (is.hand.side_is, lend_behind is.lot.id s rest lends)) in
+    Marks (record { lot = is.lot; hand = hand_lent f lots is.lot (is_area is.lot.kind) sides.Lending id is.hand off; light = is.light; step = is.step; more = is.more; left = is.left })
 step_lent f lots s rest id (Posts is) all apart =
-    let ended : HasEnd is.lot.id (s ∷ rest) = or_left (ends is.lot.id s) (list_any (ends is.lot.id) rest) (ap (ends is.lot.id) is.step ∙ by_token is.lot) in
-    let off = apart is.lot is.hand.here (inl (is.hand.side_is, ended)) in
-    Posts (record { lot = is.lot; hand = hand_lent f lots is.lot (is_area is.lot.kind) sides.Lending id is.hand off; light = is.light; step = is.step; over = is.over })
+    let lends : HasLend is.lot.id (s ∷ rest) = or_left (ends_lending is.lot.id s) (list_any (ends_lending is.lot.id) rest) (ap (ends_lending is.lot.id) is.step ∙ token_lends is.lot) in
+    let off = apart is.lot is.hand.here (inl (is.hand.side_is, lends)) in
+    Posts (record { lot = is.lot; hand = hand_lent f lots is.lot (is_area is.lot.kind) sides.Lending id is.hand off; light = is.light; step = is.step; lent = is.lent; next = is.next; quiet = is.quiet; over = is.over })
 step_lent f lots s rest id (Claims is) all apart =
     let reads = unlent_off id lots is.reads sides.Wanted all is.source_is.here is.wanted.0 (λ e. absurd (cc)) in
     let writes = unlent_off id lots is.writes sides.Wanted all is.target_is.here is.wanted.1 (λ e. absurd (cc)) in
@@ -357,6 +363,7 @@ step_lent f lots s rest id (Polls is) all apart =
       target_is = end_by lots is.writes target FromDev is.chan id (is_lot id is.writes) refl is.target_is;
       more = is.more;
       release = is.release;
+      lent = is.lent;
     })
 step_lent f lots s rest id (TakesTarget is) all apart =
     let off = unlent_off id lots is.lot sides.Device all is.taken.here is.taken.side (λ e. absurd (cc)) in
@@ -386,39 +393,152 @@ step_lent f lots s rest id (TakesSource is) all apart =
       last = is.last;
     })
 
--- a first turn is of no lot that is being lent
-first_off : (f : DriverConfig) (lots : List Lot) (s : Step) (rest : List Step) (id : LotId) → StepGoes f lots s rest → list_any (ends id) (s ∷ rest) ≡ false → turns_lot id s.first ≡ false
-first_off f lots s rest id goes none = false_from_ne_true (turns_lot id s.first) (λ turns. false≢true (sym none ∙ first_ends f lots s rest id goes turns))
+-- ---- the turns of a step are of no lot that is being lent, but for one that it gives
+
+-- a lot of another side
+far_side : (id : LotId) (lots : List Lot) (lot : Lot) (side : Side) → AreLending id lots → In lot lots → lot.side ≡ side → (side ≡ sides.Lending → ⊥) → same_lot id lot.id ≡ false
+far_side id lots lot side all here is other = unnamed_off id lot (unlent_off id lots lot side all here is other)
+
+far_end : (id end : LotId) (dir : Dir) (chan : ChanNo) (lots : List Lot) (lot : Lot) → AreLending id lots → IsCopyEnd lots lot end dir chan → lot.side ≡ sides.Wanted → same_lot id end ≡ false
+far_end id end dir chan lots lot all is wanted = subst (λ (k : LotId). same_lot id k ≡ false) is.id_is (far_side id lots lot sides.Wanted all is.here wanted (λ e. absurd (cc)))
+
+far_back : (id : LotId) (lots : List Lot) (lot : Lot) → AreLending id lots → In lot lots → lot.side ≡ sides.Returning → same_lot id lot.id ≡ false
+far_back id lots lot all here is = far_side id lots lot sides.Returning all here is (λ e. absurd (cc))
+
+far_device : (id : LotId) (lots : List Lot) (lot : Lot) → AreLending id lots → In lot lots → lot.side ≡ sides.Device → same_lot id lot.id ≡ false
+far_device id lots lot all here is = far_side id lots lot sides.Device all here is (λ e. absurd (cc))
+
+abbrev first_turn : List Step → Turn
+first_turn [] = turns.Stay
+first_turn (s ∷ rest) = s.first
+
+abbrev last_turn : List Step → Turn
+last_turn [] = turns.Stay
+last_turn (s ∷ rest) = s.last
+
+pub first_off : (f : DriverConfig) (lots : List Lot) (s : Step) (rest : List Step) (id : LotId) → StepGoes f lots s rest → AreLending id lots → turns_lot id s.first ≡ false
+first_off f lots s rest id (Loads is) all = ap (λ (t : Step). turns_lot id t.first) is.step
+first_off f lots s rest id (WritesBack is) all = ap (λ (t : Step). turns_lot id t.first) is.step
+first_off f lots s rest id (Drops is) all = ap (λ (t : Step). turns_lot id t.first) is.step
+first_off f lots s rest id (Gives is) all = ap (λ (t : Step). turns_lot id t.first) is.step
+first_off f lots s rest id (Fences is) all = ap (λ (t : Step). turns_lot id t.first) is.step
+first_off f lots s rest id (Ends is) all = ap (λ (t : Step). turns_lot id t.first) is.step
+first_off f lots s rest id (Zeroes is) all = ap (λ (t : Step). turns_lot id t.first) is.step
+first_off f lots s rest id (Flushes is) all = ap (λ (t : Step). turns_lot id t.first) is.step
+first_off f lots s rest id (Settles is) all = ap (λ (t : Step). turns_lot id t.first) is.step
+first_off f lots s rest id (GivesArea is) all = ap (λ (t : Step). turns_lot id t.first) is.step
+first_off f lots s rest id (TakesBack is) all = ap (λ (t : Step). turns_lot id t.first) is.step
+first_off f lots s rest id (Marks is) all = ap (λ (t : Step). turns_lot id t.first) is.step
+first_off f lots s rest id (Posts is) all = ap (λ (t : Step). turns_lot id t.first) is.step
+first_off f lots s rest id (Registers is) all = ap (λ (t : Step). turns_lot id t.first) is.step
+first_off f lots s rest id (Polls is) all = ap (λ (t : Step). turns_lot id t.first) is.step
+first_off f lots s rest id (Stores is) all = ap (turns_lot id) is.first
+first_off f lots s rest id (Claims is) all = ap (λ (r : List Step). turns_lot id (first_turn r)) is.steps ∙ far_end id source ToDev is.chan lots is.reads all is.source_is is.wanted.0
+first_off f lots s rest id (TakesTarget is) all = ap (turns_lot id) is.taken.first ∙ far_device id lots is.lot all is.taken.here is.taken.side
+first_off f lots s rest id (TakesSource is) all = ap (turns_lot id) is.taken.first ∙ far_device id lots is.lot all is.taken.here is.taken.side
+
+back_off : (id to : LotId) (t : Turn) → IsBack to t → same_lot id to ≡ false → turns_lot id t ≡ false
+back_off id to t (inl sync) off = ap (turns_lot id) sync ∙ off
+back_off id to t (inr end) off = ap (turns_lot id) end ∙ off
+
+area_back_off : (id to : LotId) (t : Turn) → IsAreaBack to t → same_lot id to ≡ false → turns_lot id t ≡ false
+area_back_off id to t (inl settle) off = ap (turns_lot id) settle ∙ off
+area_back_off id to t (inr end) off = ap (turns_lot id) end ∙ off
+
+pub last_off : (f : DriverConfig) (lots : List Lot) (s : Step) (rest : List Step) (id : LotId) → StepGoes f lots s rest → AreLending id lots → ends_lending id s ≡ false → turns_lot id s.last ≡ false
+last_off f lots s rest id (Loads is) all none = ap (λ (t : Step). turns_lot id t.last) is.step
+last_off f lots s rest id (WritesBack is) all none = ap (λ (t : Step). turns_lot id t.last) is.step
+last_off f lots s rest id (Drops is) all none = ap (λ (t : Step). turns_lot id t.last) is.step
+last_off f lots s rest id (Fences is) all none = ap (λ (t : Step). turns_lot id t.last) is.step
+last_off f lots s rest id (Zeroes is) all none = ap (λ (t : Step). turns_lot id t.last) is.step
+last_off f lots s rest id (Flushes is) all none = ap (λ (t : Step). turns_lot id t.last) is.step
+last_off f lots s rest id (Marks is) all none = ap (λ (t : Step). turns_lot id t.last) is.step
+last_off f lots s rest id (Posts is) all none = ap (λ (t : Step). turns_lot id t.last) is.step
+last_off f lots s rest id (Registers is) all none = ap (λ (t : Step). turns_lot id t.last) is.step
+last_off f lots s rest id (Polls is) all none = ap (λ (t : Step). turns_lot id t.last) is.step
+last_off f lots s rest id (Stores is) all none = elim is.last [
+  | inl stay ↦ ap (turns_lot id) stay
+  | inr back ↦ back_off id is.copied.lot.id s.last back.0 (far_back id lots is.copied.lot all is.copied.here.lot_in back.1)
+]
+last_off f lots s rest id (Gives is) all none =
+    ap (λ (t : Step). turns_lot id t.last) is.step ∙ sym (ap (λ (t : Step). gives_lot id t.last) is.step) ∙ (or_parts (gives_lot id s.last) (settles_lot id s.last || stores_io (tokens_lot id) s.act) none).0
+last_off f lots s rest id (GivesArea is) all none =
+    ap (λ (t : Step). turns_lot id t.last) is.step ∙ sym (ap (λ (t : Step). gives_lot id t.last) is.step) ∙ (or_parts (gives_lot id s.last) (settles_lot id s.last || stores_io (tokens_lot id) s.act) none).0
+last_off f lots s rest id (Settles is) all none =
+    ap (λ (t : Step). turns_lot id t.last) is.step ∙ sym (ap (λ (t : Step). settles_lot id t.last) is.step)
+    ∙ (or_parts (settles_lot id s.last) (stores_io (tokens_lot id) s.act) (or_parts (gives_lot id s.last) (settles_lot id s.last || stores_io (tokens_lot id) s.act) none).1).0
+last_off f lots s rest id (Ends is) all none = ap (λ (t : Step). turns_lot id t.last) is.step ∙ back_off id is.lot.id is.turn is.is_back (far_back id lots is.lot all is.hand.here is.hand.side_is)
+last_off f lots s rest id (TakesBack is) all none = ap (λ (t : Step). turns_lot id t.last) is.step ∙ area_back_off id is.lot.id is.turn is.is_back (far_back id lots is.lot all is.hand.here is.hand.side_is)
+last_off f lots s rest id (Claims is) all none = ap (λ (r : List Step). turns_lot id (last_turn r)) is.steps ∙ far_end id target FromDev is.chan lots is.writes all is.target_is is.wanted.1
+last_off f lots s rest id (TakesTarget is) all none = ap (λ (t : Step). turns_lot id t.last) is.goes.step
+last_off f lots s rest id (TakesSource is) all none = ap (turns_lot id) is.last ∙ far_device id lots is.lot all is.taken.here is.taken.side
+
+-- so a lot that is sent is of no turn of the next step
+only_lending : (lots : List Lot) (lot : Lot) → AreApart lots → In lot lots → lot.side ≡ sides.Lending → AreLending lot.id lots
+only_lending lots lot apart here side =
+    all_in (λ (l : Lot). is_lot lot.id l ≡ true → l.side ≡ sides.Lending) lots (λ l there named. ap (λ (k : Lot). k.side) (same_named lots lot.id l lot apart there here named (its_name lot lot.id refl)) ∙ side)
+
+pub first_unsent : (f : DriverConfig) (lots : List Lot) (s : Step) (rest : List Step) (lot : Lot) → AreApart lots → StepGoes f lots s rest → In lot lots → turns_lot lot.id s.first ≡ true → is_sent (s ∷ rest) lot ≡ false
+first_unsent f lots s rest lot apart goes here turns =
+    false_from_ne_true (is_sent (s ∷ rest) lot) (λ sent. false≢true (sym (first_off f lots s rest lot.id goes (only_lending lots lot apart here (sent_side (s ∷ rest) lot sent))) ∙ turns))
+
+pub last_unsent : (f : DriverConfig) (lots : List Lot) (s : Step) (rest : List Step) (lot : Lot) → AreApart lots → StepGoes f lots s rest → In lot lots → turns_lot lot.id s.last ≡ true → is_sent (s ∷ rest) lot ≡ false
+last_unsent f lots s rest lot apart goes here turns =
+    false_from_ne_true (is_sent (s ∷ rest) lot)
+    (λ sent.
+    let none = (or_parts (ends_lending lot.id s) (list_any (ends_lending lot.id) rest) (sent_unlent (s ∷ rest) lot sent)).0 in
+    false≢true (sym (last_off f lots s rest lot.id goes (only_lending lots lot apart here (sent_side (s ∷ rest) lot sent)) none) ∙ turns))
 
 -- ---- what is left of a plan
 
-moves_apart : (id : LotId) (lots : List Lot) (steps : List Step) → list_any (ends id) steps ≡ false → AreLending id lots → IsApart id lots steps
+moves_apart : (id : LotId) (lots : List Lot) (steps : List Step) → list_any (ends_lending id) steps ≡ false → AreLending id lots → IsApart id lots steps
 moves_apart id lots steps none all lot here (inl lends) =
-    false_from_ne_true (is_lot id lot) (λ named. false≢true (sym none ∙ subst (λ (k : LotId). HasEnd k steps) (named_id id lot named) lends.1))
+    false_from_ne_true (is_lot id lot) (λ named. false≢true (sym none ∙ subst (λ (k : LotId). HasLend k steps) (named_id id lot named) lends.1))
 moves_apart id lots steps none all lot here (inr returns) =
     false_from_ne_true (is_lot id lot) (λ named. let both : sides.Returning ≡ sides.Lending = sym returns ∙ all_at (λ (l : Lot). is_lot id l ≡ true → l.side ≡ sides.Lending) lots lot all here named in absurd (cc))
 
-pub plan_lent : (f : DriverConfig) (lots : List Lot) (rest : List Step) (id : LotId) → PlanGoes f lots rest → list_any (ends id) rest ≡ false → AreLending id lots → PlanGoes f (lent id lots) rest
+-- a poll gives it, be it given before or not
+given_hit : (id : LotId) (lot : Lot) (t : Bool) → is_lot id lot ≡ t → (t ≡ true → lot.side ≡ sides.Lending) → given_now (with_side sides.Device id lot) ≡ given_now lot
+given_hit id lot true is lending =
+    ap given_now (hit sides.Device id lot is) ∙ sym (cond-true (is_lending_side lot.side) (record lot { side = sides.Device }) lot (ap is_lending_side (lending refl)))
+given_hit id lot false off lending = ap given_now (miss sides.Device id lot off)
+
+given_lent : (id : LotId) (lots : List Lot) → AreLending id lots → map given_now (lent id lots) ≡ map given_now lots
+given_lent id [] all = refl
+given_lent id (lot ∷ lots) all =
+    let P : Lot → Type 0 = λ (l : Lot). is_lot id l ≡ true → l.side ≡ sides.Lending in
+    ap (λ (l : Lot). l ∷ map given_now (lent id lots)) (given_hit id lot (is_lot id lot) refl (All-head P lot lots all)) ∙ ap (λ (ls : List Lot). given_now lot ∷ ls) (given_lent id lots (All-tail P lot lots all))
+
+polled_lent : (a : Act) (id : LotId) (lots : List Lot) → is_poll a ≡ true → AreLending id lots → lots_behind a (lent id lots) ≡ lots_behind a lots
+polled_lent a id lots on all = lots_polled a (lent id lots) on ∙ given_lent id lots all ∙ sym (lots_polled a lots on)
+
+pub plan_lent : (f : DriverConfig) (lots : List Lot) (rest : List Step) (id : LotId) → PlanGoes f lots rest → list_any (ends_lending id) rest ≡ false → AreLending id lots → PlanGoes f (lent id lots) rest
 plan_lent f lots [] id goes none all = still_lent f id lots goes
-plan_lent f lots (s ∷ rest) id goes none all =
-    let off = or_parts (ends id s) (list_any (ends id) rest) none in
-    let turn = (or_parts (turns_lot id s.last) (stores_io (tokens_lot id) s.act) off.0).0 in
-    let first = first_off f lots s rest id goes.0 none in
-    let lots_now = lots_after s.first lots in
-    let all_now = turn_lending id s.first lots first all in
-    let more = plan_lent f (lots_after s.last lots_now) rest id goes.1 off.1 (turn_lending id s.last lots_now turn all_now) in
-    let same : lots_after s.last (lots_after s.first (lent id lots)) ≡ lent id (lots_after s.last lots_now) = ap (lots_after s.last) (turn_lent id s.first lots first) ∙ turn_lent id s.last lots_now turn in
-    (step_lent f lots s rest id goes.0 all (moves_apart id lots (s ∷ rest) none all), subst (λ (ls : List Lot). PlanGoes f ls rest) (sym same) more)
+plan_lent f lots (s ∷ rest) id goes none all = (
+  step_lent f lots s rest id goes.0 all (moves_apart id lots (s ∷ rest) none all),
+  elim (cases_Bool (is_poll s.act)) [
+    | inl polls ↦ subst (λ (ls : List Lot). PlanGoes f (lots_after_both s.first s.last ls) rest) (sym (polled_lent s.act id lots polls all)) goes.1
+    | inr unpolled ↦
+        let off = or_parts (ends_lending id s) (list_any (ends_lending id) rest) none in
+        let turn = last_off f lots s rest id goes.0 all off.0 in
+        let first = first_off f lots s rest id goes.0 all in
+        let lots_now = lots_after s.first lots in
+        let all_now = turn_lending id s.first lots first all in
+        let more = plan_lent f (lots_after s.last lots_now) rest id (plan_next f lots s rest goes unpolled) off.1 (turn_lending id s.last lots_now turn all_now) in
+        let same : lots_after s.last (lots_after s.first (lent id lots)) ≡ lent id (lots_after s.last lots_now) = ap (lots_after s.last) (turn_lent id s.first lots first) ∙ turn_lent id s.last lots_now turn in
+        subst (λ (ls : List Lot). PlanGoes f (lots_after_both s.first s.last ls) rest) (sym (lots_unpolled s.act (lent id lots) unpolled)) (subst (λ (ls : List Lot). PlanGoes f ls rest) (sym same) more)
+  ],
+)
 
 -- ---- the driver
 
 abbrev now : DriverState → LotId → DriverState
 now d id = with_lots d (lent id d.lots)
 
-left_lent : (d : DriverState) (id : LotId) → list_any (ends id) d.rest ≡ false → AreLending id d.lots → PlanLeft d → PlanLeft (now d id)
+left_lent : (d : DriverState) (id : LotId) → list_any (ends_lending id) d.rest ≡ false → AreLending id d.lots → PlanLeft d → PlanLeft (now d id)
 left_lent d id none all left = record { goes = plan_lent d.fixed d.lots d.rest id left.goes none all; one = left.one }
 
-op_lent : (d : DriverState) (o : Op) (id : LotId) → list_any (ends id) d.rest ≡ false → AreLending id d.lots → PlanIs d o → PlanIs (now d id) o
+op_lent : (d : DriverState) (o : Op) (id : LotId) → list_any (ends_lending id) d.rest ≡ false → AreLending id d.lots → PlanIs d o → PlanIs (now d id) o
 op_lent d (ops.Hand buf to) id none all is = record { left = is.left; still = still_lent d.fixed id d.lots is.still }
 op_lent d (ops.Map label buf off len dir chan) id none all is = left_lent d id none all is
 op_lent d (ops.Unmap label) id none all is = left_lent d id none all is
@@ -444,16 +564,16 @@ op_lent d (ops.Regr chan off width) id none all is = absurd is
 op_lent d (ops.Regw chan off width value) id none all is = absurd is
 op_lent d (ops.Copy chan src src_off dst dst_off len cfg) id none all is = left_lent d id none all is
 
-hand_of_lent : (d : DriverState) (o : Option Op) (id : LotId) → list_any (ends id) d.rest ≡ false → AreLending id d.lots → PlanOf d o → PlanOf (now d id) o
+hand_of_lent : (d : DriverState) (o : Option Op) (id : LotId) → list_any (ends_lending id) d.rest ≡ false → AreLending id d.lots → PlanOf d o → PlanOf (now d id) o
 hand_of_lent d None id none all is = absurd is
 hand_of_lent d (Some o) id none all is = op_lent d o id none all is
 
-phase_lent : (d : DriverState) (p : Phase) (id : LotId) → list_any (ends id) d.rest ≡ false → AreLending id d.lots → StandsAt d p → StandsAt (now d id) p
+phase_lent : (d : DriverState) (p : Phase) (id : LotId) → list_any (ends_lending id) d.rest ≡ false → AreLending id d.lots → StandsAt d p → StandsAt (now d id) p
 phase_lent d (Steps n) id none all is = still_lent d.fixed id d.lots is
 phase_lent d (Search k) id none all is =
     all_sided (IsStillOrMade d.fixed (in_hand d)) (IsStillOrMade d.fixed (in_hand d)) sides.Device id d.lots is (λ lot made hit. inl (StillDevice refl)) (λ lot made miss. made)
 phase_lent d Work id none all is = hand_of_lent d (in_hand d) id none all is
 
--- a lot of which the rest has no end, and which is being lent, is given
-pub drives_lent : (d : DriverState) (id : LotId) → list_any (ends id) d.rest ≡ false → AreLending id d.lots → Drives d → Drives (with_lots d (lots_after (turns.Give id) d.lots))
+-- a lot that the rest lends no more, and which is being lent, is given
+pub drives_lent : (d : DriverState) (id : LotId) → list_any (ends_lending id) d.rest ≡ false → AreLending id d.lots → Drives d → Drives (with_lots d (lots_after (turns.Give id) d.lots))
 drives_lent d id none all is = record { lots = sides_mapping d.fixed sides.Device id d.lots is.lots; stands = phase_lent d d.phase id none all is.stands; idle = is.idle }

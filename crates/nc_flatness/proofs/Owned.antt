@@ -29,7 +29,6 @@ use Rattle.nc_holds.specs.Holds.{Holds}
 use Rattle.nc_holds.proofs.ListsA.{all_at, at_get}
 use Rattle.nc_holds.proofs.OwnerLots.{below}
 use Rattle.nc_rows.specs.Rows.{Loan}
-use Rattle.nc_flatness.specs.Covered.{is_covered_op, IsCovered, IsCoveredScript}
 use Rattle.nc_flatness.specs.Books.{book_of, mapping_in, LiesIn}
 use Rattle.nc_flatness.specs.Flatness.{IsWorldOf, Flatness}
 use Rattle.nc_flatness.proofs.Loans.{IsLoan, hart_of_lot, lot_in, loan_is}
@@ -108,26 +107,3 @@ owned_ram sc f w x n flat e = elim (cases_lt x sc.ram) [
   | inl lt ↦ lt
   | inr past ↦ let none : mapping_in (owner_of w x) ≡ None = ap mapping_in (owner_past sc f w x flat past) in let both = sym none ∙ e in absurd (cc)
 ]
-
--- ---- the script of a hart
-
-covered_by : (script : List Op) (k : ℕ) (o : Op) → All (λ o. is_covered_op o ≡ true) script → slice_get script k ≡ Some o → is_covered_op o ≡ true
-covered_by script k o all e = all_at (λ (o : Op). is_covered_op o ≡ true) script o all (at_get script k o e)
-
-script_by : (specs : List HartSpec) (h : ℕ) → All IsCoveredScript specs → h < length specs → IsCoveredScript (slice_index_or specs h no_hart_spec)
-script_by [] h all lt = absurd (omega (arith, lt))
-script_by (s ∷ specs) zero all lt = All-head IsCoveredScript s specs all
-script_by (s ∷ specs) (suc h) all lt = script_by specs h (All-tail IsCoveredScript s specs all) (omega (arith, lt))
-
--- with light fences the operation in hand is covered
-pub covered_op : (sc : Scenario) (w : WorldState) (h : ℕ) (o : Op) → IsCovered sc → IsWorldOf sc w → h < length sc.harts → in_hand (driver_of w h) ≡ Some o → (driver_of w h).fixed.light ≡ true → is_covered_op o ≡ true
-covered_op sc w h o c world lt e light =
-    let fixed = world.fixed h lt in
-    covered_by (hart_spec sc h).script (driver_of w h).op o (script_by sc.harts h (c.scripts (sym (ap (λ (f : DriverConfig). f.light) fixed) ∙ light)) lt)
-    (ap (λ (f : DriverConfig). slice_get f.script (driver_of w h).op) (sym fixed) ∙ e)
-
--- so a hart that has a copy in hand has full fences
-pub copy_full : (sc : Scenario) (w : WorldState) (h : ℕ) (chan : ChanNo) (src src_off dst dst_off len cfg : ℕ) → IsCovered sc → IsWorldOf sc w → h < length sc.harts → in_hand (driver_of w h) ≡ Some (ops.Copy chan src src_off dst dst_off len cfg)
-    → (driver_of w h).fixed.light ≡ false
-copy_full sc w h chan src src_off dst dst_off len cfg c world lt e =
-    false_from_ne_true (driver_of w h).fixed.light (λ light. false≢true (covered_op sc w h (ops.Copy chan src src_off dst dst_off len cfg) c world lt e light))

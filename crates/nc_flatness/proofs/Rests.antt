@@ -1,10 +1,11 @@
 -- What the rest of a plan is still to do: the end of each lot that is not still, a store of a last load's bytes as it comes
 -- next, and the lot that its next step is of.
 use Rattle.std.proofs.Common.{◌≡◌, ℕ, ◌≤◌, cond, Bool, true, false, List, [], ◌∷◌, ◌++◌, length, refl, sym, ap, ◌∙◌, inl, inr, subst, Option, Some, None}
-use Rattle.std.specs.Prelude.{◌≢◌, not, ◌==◌, ◌||◌, find, map}
+use Rattle.std.specs.Prelude.{◌≢◌, All, not, ◌==◌, ◌||◌, find, map}
 use Rattle.std.specs.List.{list_any}
-use Rattle.std.proofs.lemmas.Bool.{cases_Bool, and_parts, and_from, or_parts, or_left, or_right, cond-true, cond-false, eqb-true, eq-eqb, false_from_ne_true, false≢true}
+use Rattle.std.proofs.lemmas.Bool.{cases_Bool, and_parts, and_from, or_parts, or_left, or_right, or_from, true_from_ne_false, cond-true, cond-false, eqb-true, eq-eqb, false_from_ne_true, false≢true}
 use Rattle.std.proofs.lemmas.List.{get_or_past}
+use Rattle.std.proofs.lemmas.List.Elements.{All-head, All-tail}
 use Rattle.std.proofs.lemmas.List.Folds.{list_any-append}
 use Rattle.nc_num.specs.declared.names.ChanNo.{ChanNo}
 use Rattle.nc_num.specs.declared.names.HartNo.{HartNo}
@@ -17,6 +18,8 @@ use Rattle.nc_rules.specs.declared.lots.Lot.{Lot}
 use Rattle.nc_rules.specs.declared.lots.LotId.{LotId}
 use Rattle.nc_rules.specs.declared.lots.Side.{Side}
 use Rattle.nc_rules.specs.declared.lots.Side.TheVariants as sides
+use Rattle.nc_rules.specs.declared.steps.Act.{Act}
+use Rattle.nc_rules.specs.declared.steps.Act.TheVariants as acts
 use Rattle.nc_rules.specs.declared.steps.Phase.{Phase}
 use Rattle.nc_rules.specs.declared.steps.Phase.TheVariants.{Steps, Search, Work}
 use Rattle.nc_rules.specs.declared.steps.Step.{Step}
@@ -30,11 +33,13 @@ use Rattle.nc_rules.specs.Turns.{with_side, set_side, lots_after, lots_after_bot
 use Rattle.nc_rules.specs.World.{WorldState, no_driver, driver_of}
 use Rattle.nc_holds.proofs.ListsA.{all_at, in_filter, same_some}
 use Rattle.nc_holds.specs.Rests.{RestAt}
-use Rattle.nc_rows.specs.Ahead.{same_lot, turns_lot, stores_io, tokens_lot, ends, is_settling, settling, is_full}
+use Rattle.nc_rows.specs.Ahead.{same_lot, turns_lot, gives_lot, settles_lot, stores_io, tokens_lot, ends, is_settling, settling, is_full}
 use Rattle.nc_rows.specs.Parts.{act_last, rest_last}
 use Rattle.nc_rows.proofs.Steps.{steps_ahead}
 use Rattle.nc_flatness.specs.Flatness.{IsHanding, PlanLeft, PlanIs, PlanOf, StandsAt, Drives}
-use Rattle.nc_flatness.specs.Plans.{IsStill, StillDevice, StillSynced, StillOwn, StillSent, HasFull, HasEnd, token_step, IsStore, StepGoes, Loads, Stores, WritesBack, Drops, Gives, Fences, Ends, Zeroes, Flushes, Settles, GivesArea, TakesBack, Marks, Posts, Claims, Registers, Polls, TakesTarget, TakesSource, PlanGoes, EndsOne}
+use Rattle.nc_flatness.specs.Plans.{IsStill, StillDevice, StillSynced, StillOwn, StillSent, HasFull, HasEnd, HasLend, token_step, IsStore, IsPoll, StepGoes, Loads, Stores, WritesBack, Drops, Gives, Fences, Ends, Zeroes, Flushes, Settles, GivesArea, TakesBack, Marks, Posts, Claims, Registers, Polls, TakesTarget, TakesSource, given_now, lots_behind, PlanGoes, IsEndName, EndsOne}
+use Rattle.nc_flatness.specs.Copying.{is_poll}
+use Rattle.nc_flatness.specs.Tokens.{is_lending_side, ends_lending}
 
 -- ---- the end of a lot
 
@@ -70,6 +75,70 @@ pub settling_ends : (id : LotId) (rest : List Step) → settling id rest ≡ tru
 settling_ends id [] is = absurd (false≢true is)
 settling_ends id (s ∷ rest) is = settles_by id s rest (ends id s) is (settling_ends id rest)
 
+-- ---- the end of a lending, which is one of a stay
+
+gives_turn : (id : LotId) (t : Turn) → gives_lot id t ≡ true → turns_lot id t ≡ true
+gives_turn id turns.Stay on = on
+gives_turn id (turns.Pass range to) on = on
+gives_turn id (turns.Own range) on = on
+gives_turn id (turns.Lend to) on = absurd (false≢true on)
+gives_turn id (turns.Give to) on = on
+gives_turn id (turns.Return to) on = absurd (false≢true on)
+gives_turn id (turns.Sync to) on = absurd (false≢true on)
+gives_turn id (turns.Settle to) on = absurd (false≢true on)
+gives_turn id (turns.End to) on = absurd (false≢true on)
+
+settles_turn : (id : LotId) (t : Turn) → settles_lot id t ≡ true → turns_lot id t ≡ true
+settles_turn id turns.Stay on = on
+settles_turn id (turns.Pass range to) on = on
+settles_turn id (turns.Own range) on = on
+settles_turn id (turns.Lend to) on = absurd (false≢true on)
+settles_turn id (turns.Give to) on = absurd (false≢true on)
+settles_turn id (turns.Return to) on = absurd (false≢true on)
+settles_turn id (turns.Sync to) on = absurd (false≢true on)
+settles_turn id (turns.Settle to) on = on
+settles_turn id (turns.End to) on = absurd (false≢true on)
+
+-- a step that is of no turn of the lot and queues no token of it ends no lending of it
+pub lending_off : (id : LotId) (s : Step) → turns_lot id s.last ≡ false → stores_io (tokens_lot id) s.act ≡ false → ends_lending id s ≡ false
+lending_off id s turn token =
+    or_from (gives_lot id s.last) (settles_lot id s.last || stores_io (tokens_lot id) s.act) (false_from_ne_true (gives_lot id s.last) (λ on. false≢true (sym turn ∙ gives_turn id s.last on)))
+    (or_from (settles_lot id s.last) (stores_io (tokens_lot id) s.act) (false_from_ne_true (settles_lot id s.last) (λ on. false≢true (sym turn ∙ settles_turn id s.last on))) token)
+
+pub plain_unlent : (id : LotId) (s : Step) → ends id s ≡ false → ends_lending id s ≡ false
+plain_unlent id s off = let both = or_parts (turns_lot id s.last) (stores_io (tokens_lot id) s.act) off in lending_off id s both.0 both.1
+
+pub unended_unlent : (id : LotId) (rest : List Step) → list_any (ends id) rest ≡ false → list_any (ends_lending id) rest ≡ false
+unended_unlent id [] none = refl
+unended_unlent id (s ∷ rest) none =
+    let off = or_parts (ends id s) (list_any (ends id) rest) none in
+    or_from (ends_lending id s) (list_any (ends_lending id) rest) (plain_unlent id s off.0) (unended_unlent id rest off.1)
+
+pub lend_has_end : (id : LotId) (rest : List Step) → HasLend id rest → HasEnd id rest
+lend_has_end id rest lends = true_from_ne_false (list_any (ends id) rest) (λ none. false≢true (sym (unended_unlent id rest none) ∙ lends))
+
+pub lend_behind : (id : LotId) (s : Step) (rest : List Step) → HasLend id rest → HasLend id (s ∷ rest)
+lend_behind id s rest lends = or_right (ends_lending id s) (list_any (ends_lending id) rest) lends
+
+lend_before : (id : LotId) (steps more : List Step) → HasLend id steps → HasLend id (steps ++ more)
+lend_before id steps more lends = list_any-append (ends_lending id) steps more ∙ or_left (list_any (ends_lending id) steps) (list_any (ends_lending id) more) lends
+
+lend_after : (id : LotId) (steps more : List Step) → HasLend id more → HasLend id (steps ++ more)
+lend_after id steps more lends = list_any-append (ends_lending id) steps more ∙ or_right (list_any (ends_lending id) steps) (list_any (ends_lending id) more) lends
+
+settles_lends : (id : LotId) (s : Step) (rest : List Step) (t : Bool) → is_settling id (cond t (Some s) (find (ends id) rest)) ≡ true → (settling id rest ≡ true → HasLend id rest) → HasLend id (s ∷ rest)
+settles_lends id s rest true is more =
+    or_left (ends_lending id s) (list_any (ends_lending id) rest) (or_right (gives_lot id s.last) (settles_lot id s.last || stores_io (tokens_lot id) s.act) (or_left (settles_lot id s.last) (stores_io (tokens_lot id) s.act) is))
+settles_lends id s rest false is more = lend_behind id s rest (more is)
+
+-- and so does the step with which an area that is allocated is its hart's
+pub settling_lends : (id : LotId) (rest : List Step) → settling id rest ≡ true → HasLend id rest
+settling_lends id [] is = absurd (false≢true is)
+settling_lends id (s ∷ rest) is = settles_lends id s rest (ends id s) is (settling_lends id rest)
+
+pub unlent_settling : (id : LotId) (rest : List Step) → list_any (ends_lending id) rest ≡ false → settling id rest ≡ false
+unlent_settling id rest none = false_from_ne_true (settling id rest) (λ is. false≢true (sym none ∙ settling_lends id rest is))
+
 pub ends_one_next : (s : Step) (rest : List Step) → EndsOne (s ∷ rest) → EndsOne rest
 ends_one_next s rest one a b here there = one a b (or_right (ends a s) (list_any (ends a) rest) here) (or_right (ends b s) (list_any (ends b) rest) there)
 
@@ -84,6 +153,18 @@ by_turn id s rest t last is = or_left (ends id s) (list_any (ends id) rest) (or_
 
 pub by_token : (lot : Lot) → ends lot.id (token_step lot) ≡ true
 by_token lot = same_id lot.id
+
+pub token_lends : (lot : Lot) → ends_lending lot.id (token_step lot) ≡ true
+token_lends lot = same_id lot.id
+
+pub give_lends : (id : LotId) (s : Step) (rest : List Step) → s.last ≡ turns.Give id → HasLend id (s ∷ rest)
+give_lends id s rest last =
+    or_left (ends_lending id s) (list_any (ends_lending id) rest) (or_left (gives_lot id s.last) (settles_lot id s.last || stores_io (tokens_lot id) s.act) (ap (gives_lot id) last ∙ same_id id))
+
+pub settle_lends : (id : LotId) (s : Step) (rest : List Step) → s.last ≡ turns.Settle id → HasLend id (s ∷ rest)
+settle_lends id s rest last =
+    or_left (ends_lending id s) (list_any (ends_lending id) rest)
+    (or_right (gives_lot id s.last) (settles_lot id s.last || stores_io (tokens_lot id) s.act) (or_left (settles_lot id s.last) (stores_io (tokens_lot id) s.act) (ap (settles_lot id) last ∙ same_id id)))
 
 -- ---- the first turn of a step
 
@@ -100,16 +181,19 @@ stay_turns id t is = ap (turns_lot id) is
 pub before : (id : LotId) (steps more : List Step) → HasEnd id steps → HasEnd id (steps ++ more)
 before id steps more ended = list_any-append (ends id) steps more ∙ or_left (list_any (ends id) steps) (list_any (ends id) more) ended
 
--- the lending of a lot ends its stay
-pub lend_ends : (f : DriverConfig) (lot : Lot) → HasEnd lot.id (lend_steps f lot)
-lend_ends f lot =
-    let ops = op_steps (carried f.effects f.size (parts f lot)) in
-    list_any-append (ends lot.id) ops (lending_end f lot) ∙ or_right (list_any (ends lot.id) ops) (list_any (ends lot.id) (lending_end f lot)) (by_light f.light refl)
+-- the steps that lend a lot end its lending
+pub lend_lends : (f : DriverConfig) (lot : Lot) → HasLend lot.id (lend_steps f lot)
+lend_lends f lot = lend_after lot.id (op_steps (carried f.effects f.size (parts f lot))) (lending_end f lot) (by_light f.light refl)
   where
-    by_light : (t : Bool) → f.light ≡ t → list_any (ends lot.id) (lending_end f lot) ≡ true
-    by_light true is = ap (list_any (ends lot.id)) (cond-true f.light (token_steps lot) (turning (turns.Give lot.id) (hart_step full) ∷ []) is) ∙ or_left (ends lot.id (token_step lot)) false (by_token lot)
+    by_light : (t : Bool) → f.light ≡ t → HasLend lot.id (lending_end f lot)
+    by_light true is =
+        ap (list_any (ends_lending lot.id)) (cond-true f.light (token_steps lot) (turning (turns.Give lot.id) (hart_step full) ∷ []) is) ∙ or_left (ends_lending lot.id (token_step lot)) false (token_lends lot)
     by_light false is =
-        ap (list_any (ends lot.id)) (cond-false f.light (token_steps lot) (turning (turns.Give lot.id) (hart_step full) ∷ []) is) ∙ or_left (ends lot.id (turning (turns.Give lot.id) (hart_step full))) false (or_left (same_lot lot.id lot.id) false (same_id lot.id))
+        ap (list_any (ends_lending lot.id)) (cond-false f.light (token_steps lot) (turning (turns.Give lot.id) (hart_step full) ∷ []) is) ∙ give_lends lot.id (turning (turns.Give lot.id) (hart_step full)) [] refl
+
+-- and so its stay with its hart
+pub lend_ends : (f : DriverConfig) (lot : Lot) → HasEnd lot.id (lend_steps f lot)
+lend_ends f lot = lend_has_end lot.id (lend_steps f lot) (lend_lends f lot)
 
 -- a full fence that is to come is before the end of the lot's stay
 pub full_ends : (id : LotId) (rest : List Step) → HasFull id rest true → HasEnd id rest
@@ -118,14 +202,32 @@ full_ends id rest full = elim (cases_Bool (list_any (ends id) rest)) [
   | inr none ↦ let n = map_id (record { 0 = 0 }) id 0 in absurd (false≢true (sym (ap (list_any is_full) (steps_ahead.none n id rest none)) ∙ full n))
 ]
 
--- the plan of a copy ends the stay of its source
-pub copy_ends : (f : DriverConfig) (chan : ChanNo) (config : ℕ) (src dst : Lot) → HasEnd src.id (copy_steps f chan config src dst)
-copy_ends f chan config src dst =
+-- the plan of a copy lends both ends
+pub copy_lends : (f : DriverConfig) (chan : ChanNo) (config : ℕ) (src dst : Lot) → HasLend src.id (copy_steps f chan config src dst) × HasLend dst.id (copy_steps f chan config src dst)
+copy_lends f chan config src dst =
     let lends = claim_step chan ∷ lend_steps f src in
     let both = lends ++ lend_steps f dst in
     let moves = map (copy_step chan) (transfer chan (end_part f src) (end_part f dst) config) in
-    before src.id (both ++ moves ++ back_steps f dst) (back_steps f src)
-    (before src.id (both ++ moves) (back_steps f dst) (before src.id both moves (before src.id lends (lend_steps f dst) (behind src.id (claim_step chan) (lend_steps f src) (lend_ends f src)))))
+    let all : (id : LotId) → HasLend id both → HasLend id (copy_steps f chan config src dst) =
+    λ id some. lend_before id (both ++ moves ++ back_steps f dst) (back_steps f src) (lend_before id (both ++ moves) (back_steps f dst) (lend_before id both moves some)) in
+    (all src.id (lend_before src.id lends (lend_steps f dst) (lend_behind src.id (claim_step chan) (lend_steps f src) (lend_lends f src))), all dst.id (lend_after dst.id lends (lend_steps f dst) (lend_lends f dst)))
+
+-- behind its claim it does so too
+pub claim_lends : (f : DriverConfig) (chan : ChanNo) (config : ℕ) (src dst : Lot) (s : Step) (rest : List Step) → s ∷ rest ≡ copy_steps f chan config src dst → HasLend src.id rest × HasLend dst.id rest
+claim_lends f chan config src dst s rest steps =
+    let both = copy_lends f chan config src dst in
+    (next src.id (ap (list_any (ends_lending src.id)) steps ∙ both.0), next dst.id (ap (list_any (ends_lending dst.id)) steps ∙ both.1))
+  where
+    first_lends : LotId → List Step → Bool
+    first_lends id [] = false
+    first_lends id (t ∷ ts) = ends_lending id t
+
+    next : (id : LotId) → HasLend id (s ∷ rest) → HasLend id rest
+    next id some = sym (ap (λ (b : Bool). b || list_any (ends_lending id) rest) (ap (first_lends id) steps)) ∙ some
+
+-- the plan of a copy ends the stay of its source
+pub copy_ends : (f : DriverConfig) (chan : ChanNo) (config : ℕ) (src dst : Lot) → HasEnd src.id (copy_steps f chan config src dst)
+copy_ends f chan config src dst = lend_has_end src.id (copy_steps f chan config src dst) (copy_lends f chan config src dst).0
 
 -- a lot that a step's first turn is of has its end to come
 pub first_ends : (f : DriverConfig) (lots : List Lot) (s : Step) (rest : List Step) (id : LotId) → StepGoes f lots s rest → turns_lot id s.first ≡ true → HasEnd id (s ∷ rest)
@@ -167,14 +269,70 @@ first_ends f lots s rest id (TakesSource is) on =
     ] in
     subst (λ (k : LotId). HasEnd k (s ∷ rest)) (ap (λ (l : Lot). l.id) is.same ∙ sym name) ended
 
+-- ---- a poll, behind which each token is out of the queue
+
+act_polls : (s t : Step) → s ≡ t → is_poll s.act ≡ true → is_poll t.act ≡ true
+act_polls s t is on = sym (ap (λ (k : Step). is_poll k.act) is) ∙ on
+
+pub poll_step : (f : DriverConfig) (lots : List Lot) (s : Step) (rest : List Step) → StepGoes f lots s rest → is_poll s.act ≡ true → IsPoll f lots s rest
+poll_step f lots s rest (Polls is) on = is
+poll_step f lots s rest (Loads is) on = absurd (false≢true (act_polls s _ is.step on))
+poll_step f lots s rest (WritesBack is) on = absurd (false≢true (act_polls s _ is.step on))
+poll_step f lots s rest (Drops is) on = absurd (false≢true (act_polls s _ is.step on))
+poll_step f lots s rest (Gives is) on = absurd (false≢true (act_polls s _ is.step on))
+poll_step f lots s rest (Fences is) on = absurd (false≢true (act_polls s _ is.step on))
+poll_step f lots s rest (Ends is) on = absurd (false≢true (act_polls s _ is.step on))
+poll_step f lots s rest (Zeroes is) on = absurd (false≢true (act_polls s _ is.step on))
+poll_step f lots s rest (Flushes is) on = absurd (false≢true (act_polls s _ is.step on))
+poll_step f lots s rest (Settles is) on = absurd (false≢true (act_polls s _ is.step on))
+poll_step f lots s rest (GivesArea is) on = absurd (false≢true (act_polls s _ is.step on))
+poll_step f lots s rest (TakesBack is) on = absurd (false≢true (act_polls s _ is.step on))
+poll_step f lots s rest (Marks is) on = absurd (false≢true (act_polls s _ is.step on))
+poll_step f lots s rest (Posts is) on = absurd (false≢true (act_polls s _ is.step on))
+poll_step f lots s rest (Registers is) on = absurd (false≢true (act_polls s _ is.step on))
+poll_step f lots s rest (Stores is) on = absurd (false≢true (sym (ap is_poll is.act) ∙ on))
+poll_step f lots s rest (Claims is) on = absurd (false≢true (sym (ap first_polls is.steps) ∙ on))
+  where
+    first_polls : List Step → Bool
+    first_polls [] = false
+    first_polls (t ∷ ts) = is_poll t.act
+poll_step f lots s rest (TakesTarget is) on = absurd (false≢true (sym (ap (λ (k : Step). is_poll k.act) is.goes.step) ∙ on))
+poll_step f lots s rest (TakesSource is) on = absurd (false≢true (sym (ap (λ (k : Step). is_poll k.act) is.goes.step) ∙ on))
+
+pub lots_unpolled : (a : Act) (lots : List Lot) → is_poll a ≡ false → lots_behind a lots ≡ lots
+lots_unpolled (acts.Op op) lots off = refl
+lots_unpolled (acts.Claim chan) lots off = refl
+lots_unpolled (acts.Take buf) lots off = refl
+lots_unpolled (acts.Poll chan) lots off = absurd (false≢true (sym off))
+
+pub lots_polled : (a : Act) (lots : List Lot) → is_poll a ≡ true → lots_behind a lots ≡ map given_now lots
+lots_polled (acts.Op op) lots on = absurd (false≢true on)
+lots_polled (acts.Claim chan) lots on = absurd (false≢true on)
+lots_polled (acts.Take buf) lots on = absurd (false≢true on)
+lots_polled (acts.Poll chan) lots on = refl
+
+-- what is left behind a step that is no poll
+pub plan_next : (f : DriverConfig) (lots : List Lot) (s : Step) (rest : List Step) → PlanGoes f lots (s ∷ rest) → is_poll s.act ≡ false → PlanGoes f (lots_after_both s.first s.last lots) rest
+plan_next f lots s rest goes off = subst (λ (ls : List Lot). PlanGoes f (lots_after_both s.first s.last ls) rest) (lots_unpolled s.act lots off) goes.1
+
+-- where no lot is being lent nothing is given
+pub given_same : (lots : List Lot) → All (λ lot. is_lending_side lot.side ≡ false) lots → map given_now lots ≡ lots
+given_same [] all = refl
+given_same (lot ∷ lots) all =
+    ap (λ (l : Lot). l ∷ map given_now lots) (cond-false (is_lending_side lot.side) (record lot { side = sides.Device }) lot (All-head (λ (l : Lot). is_lending_side l.side ≡ false) lot lots all))
+    ∙ ap (λ (ls : List Lot). lot ∷ ls) (given_same lots (All-tail (λ (l : Lot). is_lending_side l.side ≡ false) lot lots all))
+
 -- a lot that is not still has its end in the rest
 pub ends_later : (f : DriverConfig) (lots : List Lot) (rest : List Step) (lot : Lot) → PlanGoes f lots rest → In lot lots → (IsStill f lot → ⊥) → list_any (ends lot.id) rest ≡ true
 ends_later f lots [] lot goes here moves = absurd (moves (all_at (IsStill f) lots lot goes here))
-ends_later f lots (s ∷ rest) lot goes here moves = elim (cases_Bool (turns_lot lot.id s.first)) [
-  | inl first ↦ first_ends f lots s rest lot.id goes.0 first
-  | inr off ↦
-      later_by (ends lot.id s) (list_any (ends lot.id) rest) (λ none.
-      ends_later f (lots_after_both s.first s.last lots) rest lot goes.1 (stays_in s.last (lots_after s.first lots) lot (or_parts (turns_lot lot.id s.last) _ none).0 (stays_in s.first lots lot off here)) moves)
+ends_later f lots (s ∷ rest) lot goes here moves = elim (cases_Bool (is_poll s.act)) [
+  | inl polls ↦ absurd (moves (all_at (IsStill f) lots lot (poll_step f lots s rest goes.0 polls).still here))
+  | inr unpolled ↦ elim (cases_Bool (turns_lot lot.id s.first)) [
+    | inl first ↦ first_ends f lots s rest lot.id goes.0 first
+    | inr off ↦
+        later_by (ends lot.id s) (list_any (ends lot.id) rest) (λ none.
+        ends_later f (lots_after_both s.first s.last lots) rest lot (plan_next f lots s rest goes unpolled) (stays_in s.last (lots_after s.first lots) lot (or_parts (turns_lot lot.id s.last) _ none).0 (stays_in s.first lots lot off here)) moves)
+  ]
 ]
 
 -- a lot that is taken back is not still, and one that is lent is so with light fences alone
@@ -195,9 +353,17 @@ lend_moves f lot is full still = false≢true (sym full ∙ lend_light f lot is 
 
 -- ---- what a rest ends
 
--- where it ends the stay of the lots of one name alone, it ends none of another
-pub ends_others : (steps : List Step) (a b : LotId) → EndsOne steps → HasEnd a steps → a ≢ b → list_any (ends b) steps ≡ false
-ends_others steps a b one ended other = false_from_ne_true (list_any (ends b) steps) (λ too. other (one a b ended too))
+-- of two names it ends the stay of both where they are those of a copy
+pub ends_two : (steps : List Step) (a b : LotId) → EndsOne steps → HasEnd a steps → HasEnd b steps → a ≢ b → IsEndName a × IsEndName b
+ends_two steps a b one ended too other = elim (one a b ended too) [
+  | inl same ↦ absurd (other same)
+  | inr both ↦ both
+]
+
+-- and of no two others
+pub ends_others : (steps : List Step) (a b : LotId) → EndsOne steps → HasEnd a steps → a ≢ b → (IsEndName a → IsEndName b → ⊥) → list_any (ends b) steps ≡ false
+ends_others steps a b one ended other apart =
+    false_from_ne_true (list_any (ends b) steps) (λ too. let both = ends_two steps a b one ended too other in apart both.0 both.1)
 
 -- ---- a store of a last load's bytes
 

@@ -15,7 +15,7 @@ use Rattle.nc_rules.specs.declared.lots.Side.TheVariants as sides
 use Rattle.nc_rules.specs.declared.steps.Step.{Step}
 use Rattle.nc_rules.specs.declared.steps.Turn.{Turn}
 use Rattle.nc_rules.specs.declared.steps.Turn.TheVariants as turns
-use Rattle.nc_rules.specs.Lots.{is_lot, lot_id}
+use Rattle.nc_rules.specs.Lots.{DriverConfig, is_lot, lot_id}
 use Rattle.nc_rules.specs.Turns.{set_side, lots_after}
 use Rattle.nc_scripts.specs.Drivers.{AreApart}
 use Rattle.nc_scripts.proofs.Lists.{all_in, all_to, all_filtered}
@@ -23,10 +23,11 @@ use Rattle.nc_scripts.proofs.LotLaws.{its_name}
 use Rattle.nc_holds.specs.Tokens.{token_of}
 use Rattle.nc_holds.proofs.ListsA.{all_at, at_get}
 use Rattle.nc_holds.proofs.OwnerLots.{same_named}
-use Rattle.nc_rows.specs.Ahead.{same_lot, turns_lot, ends}
-use Rattle.nc_flatness.specs.Plans.{HasEnd, token_step}
-use Rattle.nc_flatness.specs.Tokens.{lot_token, is_lot_token, is_lending_side, is_sent, TokenStands}
-use Rattle.nc_flatness.proofs.Tokens.{sent_side, lent_sent, ended_unsent, unlent_unsent, queued_sent, push_stands, pass_stands, filter_gone}
+use Rattle.nc_rows.specs.Ahead.{same_lot, turns_lot}
+use Rattle.nc_flatness.specs.Plans.{IsStill, HasLend, token_step}
+use Rattle.nc_flatness.specs.Tokens.{lot_token, is_lot_token, is_lending_side, ends_lending, is_sent, TokenStands}
+use Rattle.nc_flatness.proofs.Tokens.{sent_side, lent_sent, ended_unsent, unlent_unsent, queued_sent, sent_queued, push_stands, pass_stands, filter_gone}
+use Rattle.nc_flatness.proofs.Rests.{same_id, lend_light}
 use Rattle.nc_flatness.proofs.Lents.{all_sided, lent, AreLending}
 
 -- a lot of another side, by another rest and queue
@@ -49,12 +50,12 @@ pub record BeforeTurn (t : Turn) (rest : List Step) (q : List Entry) (lot : Lot)
   pub stands : TokenStands rest q lot
   pub turned : turns_lot lot.id t ≡ true → is_sent rest lot ≡ false
 
--- what the turn leaves: the same tokens; no other lot is sent that was not, or not any more that was; and one that it lends
--- has its end in the rest
+-- what the turn leaves: the same tokens; no other lot is sent that was not, or not any more that was; and the rest is
+-- still to lend one that it begins to
 pub record TurnKeeps (t : Turn) (rest more : List Step) (q r : List Entry) : Type 0 where
   pub tokens : (id : LotId) → filter (is_lot_token id) r ≡ filter (is_lot_token id) q
-  pub others : (id : LotId) → turns_lot id t ≡ false → list_any (ends id) more ≡ list_any (ends id) rest
-  pub lends : (id : LotId) → t ≡ turns.Lend id → HasEnd id more
+  pub others : (id : LotId) → turns_lot id t ≡ false → list_any (ends_lending id) more ≡ list_any (ends_lending id) rest
+  pub lends : (id : LotId) → t ≡ turns.Lend id → HasLend id more
 
 kept_stands : (t : Turn) (rest more : List Step) (q r : List Entry) (lot : Lot) → TurnKeeps t rest more q r → BeforeTurn t rest q lot → turns_lot lot.id t ≡ false → TokenStands more r lot
 kept_stands t rest more q r lot keeps before off = stands_by rest more q r lot lot.side (keeps.tokens lot.id) (ap (λ (b : Bool). is_lending_side lot.side && not b) (keeps.others lot.id off)) before.stands
@@ -69,13 +70,13 @@ side_stands side to t rest more q r lots same off keeps all =
 unlent_side : (side : Side) (more : List Step) → is_lending_side side ≡ false → (lot : Lot) → is_sent more (record lot { side = side }) ≡ false
 unlent_side side more off lot = unlent_unsent more (record lot { side = side }) off
 
-named_end : (to : LotId) (more : List Step) (lot : Lot) → HasEnd to more → is_lot to lot ≡ true → HasEnd lot.id more
+named_end : (to : LotId) (more : List Step) (lot : Lot) → HasLend to more → is_lot to lot ≡ true → HasLend lot.id more
 named_end to more lot ended is =
     let both = and_parts (lot.id.label.0 == to.label.0) (lot.id.first == to.first) is in
     let label : lot.id.label.0 ≡ to.label.0 = eqb-true lot.id.label.0 to.label.0 both.0 in
     let first : lot.id.first ≡ to.first = eqb-true lot.id.first to.first both.1 in
     let id : lot.id ≡ to = λ i. record { label = record { 0 = label i }; first = first i } in
-    subst (λ (k : LotId). HasEnd k more) (sym id) ended
+    subst (λ (k : LotId). HasLend k more) (sym id) ended
 
 pub turn_stands : (t : Turn) (rest more : List Step) (q r : List Entry) (lots : List Lot) → TurnKeeps t rest more q r → All (BeforeTurn t rest q) lots → All (TokenStands more r) (lots_after t lots)
 turn_stands turns.Stay rest more q r lots keeps all = all_to (BeforeTurn turns.Stay rest q) (TokenStands more r) lots all (λ lot before. kept_stands turns.Stay rest more q r lot keeps before refl)
@@ -114,23 +115,49 @@ its_token lot other = both_by (is_lot lot.id other) refl
         ∙ and_from (other.id.label.0 == lot.id.label.0) (other.id.first == lot.id.first) (eq-eqb other.id.label.0 lot.id.label.0 (sym (eqb-true lot.id.label.0 other.id.label.0 both.0)))
         (eq-eqb other.id.first lot.id.first (sym (eqb-true lot.id.first other.id.first both.1)))))
 
-post_by : (lot other : Lot) (q : List Entry) (t : Bool) → is_lot lot.id other ≡ t → (t ≡ true → other ≡ lot) → lot.side ≡ sides.Lending → TokenStands (token_step lot ∷ []) q other → TokenStands [] (q ++ lot_token lot ∷ []) other
-post_by lot other q false miss same side stands =
-    let none : ends other.id (token_step lot) ≡ false = its_token lot other ∙ miss in
-    let sent : is_sent [] other ≡ is_sent (token_step lot ∷ []) other = ap (λ (b : Bool). is_lending_side other.side && not (b || false)) (sym none) in
-    stands_by (token_step lot ∷ []) [] (q ++ lot_token lot ∷ []) (q ++ lot_token lot ∷ []) other other.side refl sent (push_stands (token_step lot ∷ []) q (lot_token lot) other (its_token lot other ∙ miss) stands)
-post_by lot other q true hit same side stands =
+post_by : (lot other : Lot) (more : List Step) (q : List Entry) (t : Bool) → is_lot lot.id other ≡ t → (t ≡ true → other ≡ lot) → lot.side ≡ sides.Lending → list_any (ends_lending lot.id) more ≡ false → TokenStands (token_step lot ∷ more) q other
+    → TokenStands more (q ++ lot_token lot ∷ []) other
+post_by lot other more q false miss same side lent stands =
+    let none : ends_lending other.id (token_step lot) ≡ false = its_token lot other ∙ miss in
+    let sent : is_sent more other ≡ is_sent (token_step lot ∷ more) other = ap (λ (b : Bool). is_lending_side other.side && not (b || list_any (ends_lending other.id) more)) (sym none) in
+    stands_by (token_step lot ∷ more) more (q ++ lot_token lot ∷ []) (q ++ lot_token lot ∷ []) other other.side refl sent (push_stands (token_step lot ∷ more) q (lot_token lot) other (its_token lot other ∙ miss) stands)
+post_by lot other more q true hit same side lent stands =
     let its = its_token lot other ∙ hit in
-    let none : filter (is_lot_token other.id) q ≡ [] = stands ∙ cond-false (is_sent (token_step lot ∷ []) other) (lot_token other ∷ []) [] (ended_unsent (token_step lot ∷ []) other (or_left (ends other.id (token_step lot)) false its)) in
-    let sent : is_sent [] other ≡ true = lent_sent [] other (ap (λ (l : Lot). l.side) (same refl) ∙ side) refl in
+    let lends : HasLend other.id (token_step lot ∷ more) = or_left (ends_lending other.id (token_step lot)) (list_any (ends_lending other.id) more) its in
+    let none : filter (is_lot_token other.id) q ≡ [] = stands ∙ cond-false (is_sent (token_step lot ∷ more) other) (lot_token other ∷ []) [] (ended_unsent (token_step lot ∷ more) other lends) in
+    let sent : is_sent more other ≡ true = lent_sent more other (ap (λ (l : Lot). l.side) (same refl) ∙ side) (ap (λ (l : Lot). list_any (ends_lending l.id) more) (same refl) ∙ lent) in
     filter-push (is_lot_token other.id) q (lot_token lot) its ∙ ap (λ (es : List Entry). es ++ lot_token lot ∷ []) none ∙ ap (λ (l : Lot). lot_token l ∷ []) (sym (same refl))
-    ∙ sym (cond-true (is_sent [] other) (lot_token other ∷ []) [] sent)
+    ∙ sym (cond-true (is_sent more other) (lot_token other ∷ []) [] sent)
 
--- the step that queues the token of a lot is the last of its plan
-pub post_stands : (lots : List Lot) (lot : Lot) (q : List Entry) → AreApart lots → In lot lots → lot.side ≡ sides.Lending → All (TokenStands (token_step lot ∷ []) q) lots → All (TokenStands [] (q ++ lot_token lot ∷ [])) lots
-post_stands lots lot q apart here side all =
-    all_in (TokenStands [] (q ++ lot_token lot ∷ [])) lots
-    (λ other there. post_by lot other q (is_lot lot.id other) refl (λ named. same_named lots lot.id other lot apart there here named (its_name lot lot.id refl)) side (all_at (TokenStands (token_step lot ∷ []) q) lots other all there))
+-- the step that queues the token of a lot is its last that lends it
+pub post_stands : (lots : List Lot) (lot : Lot) (more : List Step) (q : List Entry) → AreApart lots → In lot lots → lot.side ≡ sides.Lending → list_any (ends_lending lot.id) more ≡ false → All (TokenStands (token_step lot ∷ more) q) lots → All (TokenStands more (q ++ lot_token lot ∷ [])) lots
+post_stands lots lot more q apart here side lent all =
+    all_in (TokenStands more (q ++ lot_token lot ∷ [])) lots
+    (λ other there. post_by lot other more q (is_lot lot.id other) refl (λ named. same_named lots lot.id other lot apart there here named (its_name lot lot.id refl)) side lent (all_at (TokenStands (token_step lot ∷ more) q) lots other all there))
+
+-- ---- a poll waits for the tokens
+
+-- behind which nothing is lent: no lot is being lent where no token is queued
+pub poll_unlent : (f : DriverConfig) (rest : List Step) (q : List Entry) (lots : List Lot) → All (IsStill f) lots → ((id : LotId) → list_any (ends_lending id) rest ≡ false) → ((id : LotId) (e : Entry) → In e q → is_lot_token id e ≡ false)
+    → (f.light ≡ true → All (TokenStands rest q) lots) → All (λ lot. is_lending_side lot.side ≡ false) lots
+poll_unlent f rest q lots still none untokened stands =
+    all_in (λ (lot : Lot). is_lending_side lot.side ≡ false) lots
+    (λ lot here. side_off (is_lending_side lot.side) (λ lending.
+    let side = lending_side lot.side lending in
+    let light = lend_light f lot side (all_at (IsStill f) lots lot still here) in
+    let queued = sent_queued rest q lot (all_at (TokenStands rest q) lots lot (stands light) here) (lent_sent rest lot side (none lot.id)) in
+    false≢true (sym (untokened lot.id (lot_token lot) queued) ∙ same_id lot.id)))
+  where
+    side_off : (t : Bool) → (t ≡ true → ⊥) → t ≡ false
+    side_off t never = false_from_ne_true t never
+
+    lending_side : (side : Side) → is_lending_side side ≡ true → side ≡ sides.Lending
+    lending_side sides.Lending e = refl
+    lending_side sides.Wanted e = absurd (false≢true e)
+    lending_side sides.Device e = absurd (false≢true e)
+    lending_side sides.Returning e = absurd (false≢true e)
+    lending_side sides.Synced e = absurd (false≢true e)
+    lending_side sides.Own e = absurd (false≢true e)
 
 -- ---- a token drains
 

@@ -182,4 +182,4 @@ bytes_start sc a =
     none_mapped o n none some = let both = sym none ∙ some in absurd (cc)
 
 pub start_flat : StartIsFlat
-start_flat sc a covered = record { world = worlds_start sc a; bytes = bytes_start sc a }
+start_flat sc a = record { world = worlds_start sc a; bytes = bytes_start sc a }

@@ -23,19 +23,18 @@ use Rattle.nc_rules.specs.Machine.{queue_of}
 use Rattle.nc_rules.specs.World.{WorldState, driver_of}
 use Rattle.nc_holds.specs.Tokens.{HasLent, token_of, TokenStays}
 use Rattle.nc_holds.proofs.ListsA.{all_at, in_filter, of_filter, none_of, none_at, at_get}
-use Rattle.nc_rows.specs.Ahead.{ends, names, is_settling, settling, coming}
+use Rattle.nc_rows.specs.Ahead.{ends, names, is_settling, settling}
 use Rattle.nc_rows.specs.Rows.{Loan}
-use Rattle.nc_rows.proofs.Steps.{steps_ahead}
 use Rattle.nc_flatness.specs.Books.{is_entry_of}
 use Rattle.nc_flatness.specs.Flatness.{Flatness}
-use Rattle.nc_flatness.specs.Plans.{HasEnd}
-use Rattle.nc_flatness.specs.Tokens.{lot_token, is_lot_token, is_lending_side, is_sent, TokenStands}
+use Rattle.nc_flatness.specs.Plans.{HasLend}
+use Rattle.nc_flatness.specs.Tokens.{lot_token, is_lot_token, is_lending_side, ends_lending, is_sent, TokenStands}
 use Rattle.nc_flatness.proofs.Loans.{IsLoan, get_below, one_of}
 
 -- ---- a lot that is sent
 
 pub sent_side : (rest : List Step) (lot : Lot) → is_sent rest lot ≡ true → lot.side ≡ sides.Lending
-sent_side rest lot is = side_by lot.side (and_parts (is_lending_side lot.side) (not (list_any (ends lot.id) rest)) is).0
+sent_side rest lot is = side_by lot.side (and_parts (is_lending_side lot.side) (not (list_any (ends_lending lot.id) rest)) is).0
   where
     side_by : (side : Side) → is_lending_side side ≡ true → side ≡ sides.Lending
     side_by sides.Lending e = refl
@@ -45,26 +44,22 @@ sent_side rest lot is = side_by lot.side (and_parts (is_lending_side lot.side) (
     side_by sides.Synced e = absurd (false≢true e)
     side_by sides.Own e = absurd (false≢true e)
 
-pub sent_unended : (rest : List Step) (lot : Lot) → is_sent rest lot ≡ true → list_any (ends lot.id) rest ≡ false
-sent_unended rest lot is = not_by (list_any (ends lot.id) rest) (and_parts (is_lending_side lot.side) (not (list_any (ends lot.id) rest)) is).1
+pub sent_unlent : (rest : List Step) (lot : Lot) → is_sent rest lot ≡ true → list_any (ends_lending lot.id) rest ≡ false
+sent_unlent rest lot is = not_by (list_any (ends_lending lot.id) rest) (and_parts (is_lending_side lot.side) (not (list_any (ends_lending lot.id) rest)) is).1
   where
     not_by : (t : Bool) → not t ≡ true → t ≡ false
     not_by true e = absurd (false≢true e)
     not_by false e = refl
 
-pub lent_sent : (rest : List Step) (lot : Lot) → lot.side ≡ sides.Lending → list_any (ends lot.id) rest ≡ false → is_sent rest lot ≡ true
-lent_sent rest lot side none = and_from (is_lending_side lot.side) (not (list_any (ends lot.id) rest)) (ap is_lending_side side) (ap not none)
+pub lent_sent : (rest : List Step) (lot : Lot) → lot.side ≡ sides.Lending → list_any (ends_lending lot.id) rest ≡ false → is_sent rest lot ≡ true
+lent_sent rest lot side none = and_from (is_lending_side lot.side) (not (list_any (ends_lending lot.id) rest)) (ap is_lending_side side) (ap not none)
 
--- one of which the rest has the end is not
-pub ended_unsent : (rest : List Step) (lot : Lot) → HasEnd lot.id rest → is_sent rest lot ≡ false
-ended_unsent rest lot ended = false_from_ne_true (is_sent rest lot) (λ sent. false≢true (sym (sent_unended rest lot sent) ∙ ended))
+-- one that the rest is still to lend is not
+pub ended_unsent : (rest : List Step) (lot : Lot) → HasLend lot.id rest → is_sent rest lot ≡ false
+ended_unsent rest lot lends = false_from_ne_true (is_sent rest lot) (λ sent. false≢true (sym (sent_unlent rest lot sent) ∙ lends))
 
 pub unlent_unsent : (rest : List Step) (lot : Lot) → is_lending_side lot.side ≡ false → is_sent rest lot ≡ false
-unlent_unsent rest lot off = ap (λ (t : Bool). t && not (list_any (ends lot.id) rest)) off
-
--- nothing is to come for it
-pub sent_comes : (n : MapId) (rest : List Step) (lot : Lot) → is_sent rest lot ≡ true → coming n lot.id rest ≡ []
-sent_comes n rest lot sent = steps_ahead.none n lot.id rest (sent_unended rest lot sent)
+unlent_unsent rest lot off = ap (λ (t : Bool). t && not (list_any (ends_lending lot.id) rest)) off
 
 unsettled_by : (id : LotId) (s : Step) (rest : List Step) (t : Bool) → t ≡ false → settling id rest ≡ false → is_settling id (cond t (Some s) (find (ends id) rest)) ≡ false
 unsettled_by id s rest true off more = absurd (false≢true (sym off))

@@ -1,7 +1,7 @@
-pub mod Covered
+pub mod Lending
 pub mod Books
+pub mod Tokens
 pub mod Plans
 pub mod Copying
-pub mod Tokens
 pub mod Flatness
 pub mod Steps

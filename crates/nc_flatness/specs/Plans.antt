@@ -1,6 +1,6 @@
 -- What is left of the plan of a mapping, an area or a copy, step by step: what each step is for, and that behind all of them
 -- each lot of the hart is still. This project's own.
-use Rattle.std.specs.Prelude.{ℕ, ◌≡◌, ◌⊎◌, ◌≤◌, ◌+◌, ◌/◌, Bool, true, false, List, [], ◌∷◌, length, Some, None, All, slice_get}
+use Rattle.std.specs.Prelude.{ℕ, ◌≡◌, ◌⊎◌, ◌≤◌, ◌+◌, ◌/◌, Bool, true, false, if◌then◌else◌, List, [], ◌∷◌, length, map, Some, None, All, slice_get}
 use Rattle.std.specs.List.{list_any}
 use Rattle.nc_num.specs.Places.{covers}
 use Rattle.nc_num.specs.declared.names.ChanNo.{ChanNo}
@@ -12,7 +12,7 @@ use Rattle.nc_num.specs.declared.places.Block.{Block}
 use Rattle.nc_num.specs.declared.places.Span.{Span}
 use Rattle.nc_env.specs.declared.CboOp.{CboOp}
 use Rattle.nc_env.specs.declared.CboOp.TheVariants as cbos
-use Rattle.nc_queue.specs.Entries.{has_op, is_zero, writes_back}
+use Rattle.nc_queue.specs.Entries.{has_op, gives_in, is_zero, writes_back}
 use Rattle.nc_queue.specs.Laws.{Stands}
 use Rattle.nc_lines.specs.Lines.{gives_at}
 use Rattle.nc_plan.specs.Parts.{comes_back}
@@ -28,6 +28,7 @@ use Rattle.nc_rules.specs.declared.lots.Lot.{Lot}
 use Rattle.nc_rules.specs.declared.lots.LotId.{LotId}
 use Rattle.nc_rules.specs.declared.lots.Side.{Side}
 use Rattle.nc_rules.specs.declared.lots.Side.TheVariants as sides
+use Rattle.nc_rules.specs.declared.steps.Act.{Act}
 use Rattle.nc_rules.specs.declared.steps.Act.TheVariants as acts
 use Rattle.nc_rules.specs.declared.steps.Step.{Step}
 use Rattle.nc_rules.specs.declared.steps.Turn.{Turn}
@@ -41,6 +42,7 @@ use Rattle.nc_calls.specs.PlaceLaws.{drops_copies}
 use Rattle.nc_holds.specs.Held.{IsEntryOf}
 use Rattle.nc_rows.specs.Ahead.{ends, settling, coming, is_full}
 use Rattle.nc_rows.specs.Parts.{rest_last}
+use Rattle.nc_flatness.specs.Tokens.{is_lending_side, ends_lending}
 
 -- ---- the lots of a hart
 
@@ -91,8 +93,16 @@ HasZero id rest b t = (n : MapId) → list_any (has_op is_zero b) (coming n id r
 abbrev pub HasEnd : LotId → List Step → Type 0
 HasEnd id rest = list_any (ends id) rest ≡ true
 
+-- the step that ends a lending of it is
+abbrev pub HasLend : LotId → List Step → Type 0
+HasLend id rest = list_any (ends_lending id) rest ≡ true
+
 abbrev pub HasByte : DriverConfig → LotId → List Step → ℕ → Bool → Type 0
 HasByte f id rest x t = (n : MapId) → list_any (gives_at f.size x) (coming n id rest) ≡ t
+
+-- an entry that gives a byte of block b
+abbrev pub HasBlock : DriverConfig → LotId → List Step → ℕ → Bool → Type 0
+HasBlock f id rest b t = (n : MapId) → list_any (gives_in f.size b) (coming n id rest) ≡ t
 
 -- ---- copies
 
@@ -102,7 +112,7 @@ IsWithin span range = (range.at ≤ span.at) × (span.at + span.len ≤ range.at
 -- a range of the lot goes into its slot before the lot is lent, and comes out of it again behind the full fence
 pub record GoesIn (f : DriverConfig) (lots : List Lot) (lot : Lot) (e : Entry) (rest : List Step) (from to : Span) : Type 0 where
   pub hand : IsInHand f lots lot false sides.Lending
-  pub later : HasEnd lot.id rest
+  pub later : HasLend lot.id rest
   pub from_is : from ≡ e.span
   pub to_is : to ≡ device_of f e
 
@@ -159,7 +169,7 @@ pub record IsWriteBack (f : DriverConfig) (lots : List Lot) (s : Step) (rest : L
   pub block : Block
   pub step : s ≡ hart_step (hart_ops.Cbo op block)
   pub writes : writes_back op ≡ true
-  pub later : HasEnd lot.id rest
+  pub later : HasLend lot.id rest
   pub next : LoadsFirst rest
 
 -- a block that the device may have written is dropped before the full fence
@@ -272,15 +282,26 @@ pub record IsMark (f : DriverConfig) (lots : List Lot) (s : Step) (rest : List S
   pub hand : IsInHand f lots lot (is_area lot.kind) sides.Lending
   pub light : f.light ≡ true
   pub step : s ≡ hart_step (hart_ops.Mark 1 4)
-  pub left : rest ≡ token_step lot ∷ []
+  pub more : List Step
+  pub left : rest ≡ token_step lot ∷ more
 
--- the token is queued, and the plan is over
+-- what is still to come for a lot behind its token gives no byte where the channel sees it, and where the channel may
+-- write it none of its blocks
+pub record IsQuiet (f : DriverConfig) (lot : Lot) (rest : List Step) : Type 0 where
+  pub bytes : (i : ℕ) (e : Entry) (y : ℕ) → slice_get lot.list.entries i ≡ Some e → covers (device_of f e) y ≡ true → HasByte f lot.id rest y false
+  pub blocks : comes_back lot.list.dir ≡ true → (i : ℕ) (e : Entry) (y : ℕ) → slice_get lot.list.entries i ≡ Some e → covers (device_of f e) y ≡ true → HasBlock f lot.id rest (y / f.size) false
+
+-- the token is queued: the plan is over, or that of a copy goes on, which lends the lot no more
 pub record IsPost (f : DriverConfig) (lots : List Lot) (s : Step) (rest : List Step) : Type 0 where
   pub lot : Lot
   pub hand : IsInHand f lots lot (is_area lot.kind) sides.Lending
   pub light : f.light ≡ true
   pub step : s ≡ token_step lot
-  pub over : rest ≡ []
+  pub lent : list_any (ends_lending lot.id) rest ≡ false
+  pub next : LoadsFirst rest
+  pub quiet : IsQuiet f lot rest
+  -- an area is lent by a plan of its own
+  pub over : is_area lot.kind ≡ true → rest ≡ []
 
 -- ---- copies by a channel
 
@@ -328,6 +349,8 @@ pub record IsPoll (f : DriverConfig) (lots : List Lot) (s : Step) (rest : List S
   pub target_is : IsCopyEnd lots writes target FromDev chan
   pub more : List Step
   pub release : rest ≡ control_step chan 0 ∷ more
+  -- nothing is lent behind it
+  pub lent : (id : LotId) → list_any (ends_lending id) rest ≡ false
 
 -- an end is taken back with this step, which goes on with it as that of a lot that is taken back
 pub record IsTaken (lots : List Lot) (lot : Lot) (s : Step) : Type 0 where
@@ -378,10 +401,25 @@ pub data StepGoes (f : DriverConfig) (lots : List Lot) (s : Step) (rest : List S
   TakesTarget : IsTakeTarget f lots s rest → StepGoes f lots s rest
   TakesSource : IsTakeSource f lots s rest → StepGoes f lots s rest
 
+-- a token that is queued is out of the queue, and its lot is the channel's
+abbrev pub given_now : Lot → Lot
+given_now lot = if is_lending_side lot.side then record lot { side = sides.Device } else lot
+
+-- the lots as the act leaves them: a poll waits for each token
+abbrev pub lots_behind : Act → List Lot → List Lot
+lots_behind (acts.Poll chan) lots = map given_now lots
+lots_behind (acts.Op op) lots = lots
+lots_behind (acts.Claim chan) lots = lots
+lots_behind (acts.Take buf) lots = lots
+
 abbrev pub PlanGoes : DriverConfig → List Lot → List Step → Type 0
 PlanGoes f lots [] = All (IsStill f) lots
-PlanGoes f lots (s ∷ rest) = StepGoes f lots s rest × PlanGoes f (lots_after_both s.first s.last lots) rest
+PlanGoes f lots (s ∷ rest) = StepGoes f lots s rest × PlanGoes f (lots_after_both s.first s.last (lots_behind s.act lots)) rest
 
--- it ends the stay of the lots of one name alone
+-- an end of a copy, which no script names
+abbrev pub IsEndName : LotId → Type 0
+IsEndName id = (id ≡ source) ⊎ (id ≡ target)
+
+-- it ends the stay of the lots of one name alone, or of the two ends of a copy
 abbrev pub EndsOne : List Step → Type 0
-EndsOne rest = (a b : LotId) → HasEnd a rest → HasEnd b rest → a ≡ b
+EndsOne rest = (a b : LotId) → HasEnd a rest → HasEnd b rest → (a ≡ b) ⊎ (IsEndName a × IsEndName b)

@@ -24,8 +24,8 @@ use Rattle.nc_rules.specs.declared.steps.Phase.TheVariants.{Steps, Work}
 use Rattle.nc_rules.specs.declared.steps.Step.{Step}
 use Rattle.nc_rules.specs.Driver.{in_hand}
 use Rattle.nc_rules.specs.World.{WorldState, driver_of, start}
-use Rattle.nc_flatness.specs.Covered.{IsCovered, is_lending}
 use Rattle.nc_flatness.specs.Flatness.{IsWorldOf, BytesStand, Flatness}
+use Rattle.nc_flatness.specs.Lending.{is_lending}
 
 -- a touch comes before all else
 pub record IsTouch (ms : List Mark) : Type 0 where
@@ -41,10 +41,9 @@ pub record GoesTo (sc : Scenario) (f : List ℕ) (ms : List Mark) (w : WorldStat
 abbrev pub EventGoes : Scenario → List ℕ → List Mark → WorldState → Type 0
 EventGoes sc f ms w = IsTouch ms ⊎ GoesTo sc f ms w
 
--- an event that may happen, in a world with flat memory f of a scenario that is covered
+-- an event that may happen, in a world with flat memory f of an accepted scenario
 pub record IsNow (sc : Scenario) (f : List ℕ) (w : WorldState) (e : Event) : Type 0 where
   pub accepted : IsAccepted sc
-  pub covered : IsCovered sc
   pub flat : Flatness sc f w
   pub there : IsThere (length sc.harts) sc.block_size sc.ram e
   pub may : enabled w e ≡ true
@@ -60,7 +59,7 @@ abbrev pub WorldsStart : Type 0
 WorldsStart = (sc : Scenario) → IsAccepted sc → IsWorldOf sc (start sc)
 
 abbrev pub StartIsFlat : Type 0
-StartIsFlat = (sc : Scenario) → IsAccepted sc → IsCovered sc → Flatness sc (memory sc) (start sc)
+StartIsFlat = (sc : Scenario) → IsAccepted sc → Flatness sc (memory sc) (start sc)
 
 -- a world of a scenario stays one
 abbrev pub WorldsStay : Type 0
