@@ -6,7 +6,6 @@ use Rattle.nc_values.specs.declared.refused.Refused.{Refused}
 use Rattle.nc_scen.specs.Reading.{reading}
 use Rattle.nc_scen.specs.declared.events.Event.{Event}
 use Rattle.nc_scen.specs.declared.scenario.Scenario.{Scenario}
-use Rattle.nc_flatness.specs.Covered.{IsCovered}
 use Rattle.nc_rules.specs.Flat.{IsLatest, IsKept}
 use Rattle.nc_copied.specs.Copied.{IsEachCopied}
 use Rattle.nc_rules.specs.Lines.{status, refused_line}
@@ -22,7 +21,7 @@ pub record WroteLive (before now : Option (List ℕ)) (sc : Scenario) (answered 
   pub run : IsLiveRun sc history
   pub status : answered ≡ status sc history
   pub text : Appends before now (live_text sc history)
-  pub flat : IsCovered sc → IsLatest sc history × IsKept sc history × IsEachCopied sc history
+  pub flat : IsLatest sc history × IsKept sc history × IsEachCopied sc history
 
 -- nothing was written, or a front of what is due for a history of the scenario's threads
 abbrev pub GrewByLive : Option (List ℕ) → Option (List ℕ) → Scenario → Type 0
