@@ -38,7 +38,6 @@ use Rattle.nc_rules.specs.Start.{fixed_of, hart_spec}
 use Rattle.nc_rules.specs.World.{WorldState, driver_of, start, hart}
 use Rattle.nc_scripts.specs.Drivers.{IsPhase}
 use Rattle.nc_flatness.specs.Copying.{CopyOp, copy_op, is_poll, polls, IsBegun, IsCopyNow}
-use Rattle.nc_flatness.specs.Covered.{IsCovered}
 use Rattle.nc_flatness.specs.Flatness.{Flatness}
 use Rattle.nc_flatness.proofs.Worlds.{worlds_stay}
 use Rattle.nc_flat_scripts.proofs.SendEvents.{next_work}
@@ -122,7 +121,6 @@ extend sc es w f e h n k at each old =
 
 pub record IsAtRun (sc : Scenario) (f : List ℕ) (w : WorldState) (e : Event) (h : HartNo) (k : CopyOp) : Type 0 where
   pub accepted : IsAccepted sc
-  pub covered : IsCovered sc
   pub flat : Flatness sc f w
   pub there : IsThere (length sc.harts) sc.block_size sc.ram e
   pub untouched : Untouched (event_marks w e)
@@ -137,7 +135,7 @@ pub now_of : (sc : Scenario) (f : List ℕ) (w : WorldState) (e : Event) (h : Ha
 now_of sc f w e h k at = at.flat.bytes.copying h.0 at.lt k at.hand (subst IsBegun (sym at.phase) tt)
 
 leaves_by : (sc : Scenario) (f : List ℕ) (w : WorldState) (e : Event) (h : HartNo) (k : CopyOp) (x : ℕ) (t : Bool) → enabled w e ≡ t → IsAtRun sc f w e h k → IsOfCopy sc f w h.0 k x → Leaves f (event_marks w e) x ⊎ Writes w e k.chan
-leaves_by sc f w e h k x true may at of = event_leaves sc f w e h.0 k x (record { accepted = at.accepted; covered = at.covered; flat = at.flat; there = at.there; may = may }) of at.untouched
+leaves_by sc f w e h k x true may at of = event_leaves sc f w e h.0 k x (record { accepted = at.accepted; flat = at.flat; there = at.there; may = may }) of at.untouched
 leaves_by sc f w e h k x false off at of = inl (leaves_as f (event_marks w e) [] x (marks_off w e off) refl)
 
 pub each_left : (sc : Scenario) (f : List ℕ) (w : WorldState) (e : Event) (h : HartNo) (k : CopyOp) → IsAtRun sc f w e h k → EachLeft sc w f e k
@@ -180,7 +178,7 @@ poll_leaves sc es h k s rest may at is poll =
     let e = events.Issue h in
     let which = poll_of s.act poll in
     let nx : next_of d ≡ nexts.Poll which.chan = next_work d (copy_op k) (s ∷ rest) at.hand at.phase is ∙ ap next_act which.is in
-    let p = poll_copied sc f w h k which.chan (record { accepted = at.accepted; covered = at.covered; flat = at.flat; there = at.there; may = may }) at.hand at.phase nx in
+    let p = poll_copied sc f w h k which.chan (record { accepted = at.accepted; flat = at.flat; there = at.there; may = may }) at.hand at.phase nx in
     let fixed = at.flat.world.fixed h.0 at.lt in
     let from = range_is sc d.fixed h k.src k.src_off k.len p.now.from fixed p.now.from_is in
     let to = range_is sc d.fixed h k.dst k.dst_off k.len p.now.to fixed p.now.to_is in
@@ -216,14 +214,13 @@ begun_plan f lots k (s ∷ more) is some = copy_plan f lots k s more is
 -- the run to the world w, whose flat memory is f, and an event e
 pub record IsAtEvent (sc : Scenario) (es : List Event) (e : Event) (h : HartNo) : Type 0 where
   pub accepted : IsAccepted sc
-  pub covered : IsCovered sc
   pub flat : Flatness sc (flat_after sc es) (after (start sc) es)
   pub there : IsThere (length sc.harts) sc.block_size sc.ram e
   pub untouched : Untouched (event_marks (after (start sc) es) e)
   pub lt : h.0 < length sc.harts
 
 at_run : (sc : Scenario) (es : List Event) (e : Event) (h : HartNo) (k : CopyOp) → IsAtEvent sc es e h → in_hand (driver_of (after (start sc) es) h.0) ≡ Some (copy_op k) → (driver_of (after (start sc) es) h.0).phase ≡ Work → IsAtRun sc (flat_after sc es) (after (start sc) es) e h k
-at_run sc es e h k at hand phase = record { accepted = at.accepted; covered = at.covered; flat = at.flat; there = at.there; untouched = at.untouched; lt = at.lt; hand = hand; phase = phase }
+at_run sc es e h k at hand phase = record { accepted = at.accepted; flat = at.flat; there = at.there; untouched = at.untouched; lt = at.lt; hand = hand; phase = phase }
 
 numbered : (sc : Scenario) (es : List Event) (f : List ℕ) (h : HartNo) (n m : ℕ) (k : CopyOp) → n ≡ m → IsLeftBy sc es f h n k → IsLeftBy sc es f h m k
 numbered sc es f h n m k same left = subst (λ (i : ℕ). IsLeftBy sc es f h i k) same left

@@ -41,7 +41,6 @@ use Rattle.nc_scripts.proofs.Lists.{all_left, all_right}
 use Rattle.nc_holds.specs.Holds.{DriverHolds}
 use Rattle.nc_holds.proofs.EventHolds.{next_is}
 use Rattle.nc_flatness.specs.Copying.{CopyOp, copy_op, is_poll, polls, IsItsOwn}
-use Rattle.nc_flatness.specs.Covered.{IsCovered}
 use Rattle.nc_flatness.specs.Flatness.{Flatness}
 use Rattle.nc_flatness.specs.Plans.{PlanGoes}
 use Rattle.nc_flatness.specs.Steps.{OfChannel, kind_of_act}
@@ -75,32 +74,31 @@ started sc h lt k hand phase =
 abbrev StandsAt : Scenario → List Event → HartNo → Type 0
 StandsAt sc es h = Stands sc es (after (start sc) es) (flat_after sc es) h
 
-flat_front : (sc : Scenario) (es : List Event) → RunsAreFlat → IsAccepted sc → IsCovered sc → IsFine sc es → Flatness sc (flat_after sc es) (after (start sc) es)
-flat_front sc es law a c fine = law sc es a c fine.there fine.untouched
+flat_front : (sc : Scenario) (es : List Event) → RunsAreFlat → IsAccepted sc → IsFine sc es → Flatness sc (flat_after sc es) (after (start sc) es)
+flat_front sc es law a fine = law sc es a fine.there fine.untouched
 
 last_there : (sc : Scenario) (es : List Event) (e : Event) → IsFine sc (es ++ e ∷ []) → IsThere (length sc.harts) sc.block_size sc.ram e
 last_there sc es e fine = All-head (IsThere (length sc.harts) sc.block_size sc.ram) e [] (all_right (IsThere (length sc.harts) sc.block_size sc.ram) es (e ∷ []) fine.there)
 
-at_event : (sc : Scenario) (es : List Event) (e : Event) (h : HartNo) → RunsAreFlat → IsAccepted sc → IsCovered sc → IsFine sc (es ++ e ∷ []) → h.0 < length sc.harts → IsAtEvent sc es e h
-at_event sc es e h law a c fine lt = record {
+at_event : (sc : Scenario) (es : List Event) (e : Event) (h : HartNo) → RunsAreFlat → IsAccepted sc → IsFine sc (es ++ e ∷ []) → h.0 < length sc.harts → IsAtEvent sc es e h
+at_event sc es e h law a fine lt = record {
   accepted = a;
-  covered = c;
-  flat = flat_front sc es law a c (fine_front sc es (e ∷ []) fine);
+  flat = flat_front sc es law a (fine_front sc es (e ∷ []) fine);
   there = last_there sc es e fine;
   untouched = last_untouched sc es e fine;
   lt = lt;
 }
 
-along : (sc : Scenario) (front es : List Event) (h : HartNo) → RunsAreFlat → IsAccepted sc → IsCovered sc → IsFine sc (front ++ es) → h.0 < length sc.harts → StandsAt sc front h → StandsAt sc (front ++ es) h
-along sc front [] h law a c fine lt old = subst (λ (xs : List Event). StandsAt sc xs h) (sym (append-nil front)) old
-along sc front (e ∷ es) h law a c fine lt old =
+along : (sc : Scenario) (front es : List Event) (h : HartNo) → RunsAreFlat → IsAccepted sc → IsFine sc (front ++ es) → h.0 < length sc.harts → StandsAt sc front h → StandsAt sc (front ++ es) h
+along sc front [] h law a fine lt old = subst (λ (xs : List Event). StandsAt sc xs h) (sym (append-nil front)) old
+along sc front (e ∷ es) h law a fine lt old =
     let same : (front ++ e ∷ []) ++ es ≡ front ++ e ∷ es = append_assoc front (e ∷ []) es in
     let more : IsFine sc ((front ++ e ∷ []) ++ es) = subst (IsFine sc) (sym same) fine in
     subst (λ (xs : List Event). StandsAt sc xs h) same
-    (along sc (front ++ e ∷ []) es h law a c more lt (stands_next sc front e h (at_event sc front e h law a c (fine_front sc (front ++ e ∷ []) es more) lt) old))
+    (along sc (front ++ e ∷ []) es h law a more lt (stands_next sc front e h (at_event sc front e h law a (fine_front sc (front ++ e ∷ []) es more) lt) old))
 
-stands : (sc : Scenario) (es : List Event) (h : HartNo) → RunsAreFlat → IsAccepted sc → IsCovered sc → IsFine sc es → h.0 < length sc.harts → StandsAt sc es h
-stands sc es h law a c fine lt = along sc [] es h law a c fine lt (started sc h lt)
+stands : (sc : Scenario) (es : List Event) (h : HartNo) → RunsAreFlat → IsAccepted sc → IsFine sc es → h.0 < length sc.harts → StandsAt sc es h
+stands sc es h law a fine lt = along sc [] es h law a fine lt (started sc h lt)
 
 -- ---- the last step
 
@@ -129,7 +127,7 @@ record IsAtLast (sc : Scenario) (es : List Event) (e : Event) (h : HartNo) (k : 
   plan : InPlan sc es (after (start sc) es) (flat_after sc es) h k
 
 run_of : (sc : Scenario) (es : List Event) (e : Event) (h : HartNo) (k : CopyOp) → IsAtLast sc es e h k → IsAtRun sc (flat_after sc es) (after (start sc) es) e h k
-run_of sc es e h k l = record { accepted = l.at.accepted; covered = l.at.covered; flat = l.at.flat; there = l.at.there; untouched = l.at.untouched; lt = l.at.lt; hand = l.hand; phase = l.last.last.phase }
+run_of sc es e h k l = record { accepted = l.at.accepted; flat = l.at.flat; there = l.at.there; untouched = l.at.untouched; lt = l.at.lt; hand = l.hand; phase = l.last.last.phase }
 
 last_not : (sc : Scenario) (es : List Event) (e : Event) (h : HartNo) (k : CopyOp) → (l : IsAtLast sc es e h k) → is_poll l.last.last.step.act ≡ false
 last_not sc es e h k l =
@@ -181,7 +179,6 @@ last_owned sc es e h k i l may lt =
 record IsToldAt (sc : Scenario) (es : List Event) (e : Event) (h : HartNo) (n : ℕ) (a : Answer) : Type 0 where
   law : RunsAreFlat
   accepted : IsAccepted sc
-  covered : IsCovered sc
   fine : IsFine sc (es ++ e ∷ [])
   is : IsTold (after (start sc) es) e h n a
   lt : h.0 < length sc.harts
@@ -191,14 +188,14 @@ holds_at sc es e h at = at.flat.world.holds.each h.0 (omega (arith, at.lt, at.fl
 
 at_last : (sc : Scenario) (es : List Event) (e : Event) (h : HartNo) (n : ℕ) (a : Answer) (k : CopyOp) → (t : IsToldAt sc es e h n a) → (l : IsLastStep (after (start sc) es) h (outcome (after (start sc) es) e)) → in_hand (driver_of (after (start sc) es) h.0) ≡ Some (copy_op k) → IsAtLast sc es e h k
 at_last sc es e h n a k t l hand = record {
-  at = at_event sc es e h t.law t.accepted t.covered t.fine t.lt;
+  at = at_event sc es e h t.law t.accepted t.fine t.lt;
   last = l;
   hand = hand;
-  plan = stands sc es h t.law t.accepted t.covered (fine_front sc es (e ∷ []) t.fine) t.lt k hand l.last.phase;
+  plan = stands sc es h t.law t.accepted (fine_front sc es (e ∷ []) t.fine) t.lt k hand l.last.phase;
 }
 
 step_at : (sc : Scenario) (es : List Event) (e : Event) (h : HartNo) (n : ℕ) (a : Answer) → IsToldAt sc es e h n a → tells (Some a) ≡ true → IsLastStep (after (start sc) es) h (outcome (after (start sc) es) e)
-step_at sc es e h n a t is = last_step (after (start sc) es) e h (holds_at sc es e h (at_event sc es e h t.law t.accepted t.covered t.fine t.lt)) t.is.is.by_is (ap tells t.is.is.answer ∙ is)
+step_at sc es e h n a t is = last_step (after (start sc) es) e h (holds_at sc es e h (at_event sc es e h t.law t.accepted t.fine t.lt)) t.is.is.by_is (ap tells t.is.is.answer ∙ is)
 
 -- it did not fail
 failed_not : (sc : Scenario) (es : List Event) (e : Event) (h : HartNo) (n control : ℕ) → IsToldAt sc es e h n (answers.CopyFailed control) → ⊥
@@ -218,7 +215,7 @@ is_done sc es e h n k t l =
     let left : IsLeftBy sc run (flat_after sc run) h n k =
     subst (λ (g : List ℕ). IsLeftBy sc run g h n k) (sym (flat_end sc es e))
     (subst (λ (m : ℕ). IsLeftBy sc run (flat f (deeds (event_marks w e))) h m k) number (extend sc es w f e h (driver_of w h.0).op k refl (each_left sc f w e h k at) (l.plan.left (polls_none sc es e h k l)))) in
-    let flat_now = flat_front sc run t.law t.accepted t.covered t.fine in
+    let flat_now = flat_front sc run t.law t.accepted t.fine in
     let none = answers_leave_no_ends sc es e h t.accepted t.fine.there t.is.is.by_is t.is.may (ap is_some t.is.is.answer) in
     let here : after (start sc) run ≡ next w e = after_end (start sc) es e in
     let seen : (i : ℕ) → i < k.len → view (after (start sc) run).machine h.0 (to_place sc k + i) ≡ byte (flat_after sc run) (to_place sc k + i) =
@@ -245,7 +242,7 @@ hand_of sc es e h n o at number is =
 done_of : (sc : Scenario) (es : List Event) (e : Event) (h : HartNo) (n : ℕ) → IsToldAt sc es e h n answers.CopyDone → TellsCopied sc (es ++ e ∷ []) h n answers.CopyDone
 done_of sc es e h n t chan src src_off dst dst_off len cfg is =
     let k : CopyOp = record { chan = chan; src = src; src_off = src_off; dst = dst; dst_off = dst_off; len = len; config = cfg } in
-    let hand = hand_of sc es e h n (copy_op k) (at_event sc es e h t.law t.accepted t.covered t.fine t.lt) t.is.is.op is in
+    let hand = hand_of sc es e h n (copy_op k) (at_event sc es e h t.law t.accepted t.fine t.lt) t.is.is.op is in
     is_done sc es e h n k t (at_last sc es e h n answers.CopyDone k t (step_at sc es e h n answers.CopyDone t refl) hand)
 
 tells_by : (sc : Scenario) (es : List Event) (e : Event) (h : HartNo) (n : ℕ) (a : Answer) → IsToldAt sc es e h n a → TellsCopied sc (es ++ e ∷ []) h n a
@@ -255,12 +252,12 @@ tells_by sc es e h n _ t = tt
 
 -- ---- the law
 
-pub copied_of : RunsAreFlat → (sc : Scenario) → IsAccepted sc → IsCovered sc → (es : List Event) → AreThere sc es → IsEachCopied sc es
-copied_of law sc a c es there before behind e h n answer is untouched here =
+pub copied_of : RunsAreFlat → (sc : Scenario) → IsAccepted sc → (es : List Event) → AreThere sc es → IsEachCopied sc es
+copied_of law sc a es there before behind e h n answer is untouched here =
     let all : es ≡ (before ++ e ∷ []) ++ behind = is ∙ sym (append_assoc before (e ∷ []) behind) in
     let fine : IsFine sc (before ++ e ∷ []) = record {
       there = all_left (IsThere (length sc.harts) sc.block_size sc.ram) (before ++ e ∷ []) behind (subst (AreThere sc) all there);
       untouched = untouched;
     } in
     let told_so = told (after (start sc) before) e h n answer here in
-    tells_by sc before e h n answer (record { law = law; accepted = a; covered = c; fine = fine; is = told_so; lt = maker_there sc e h told_so.is.by_is (last_there sc before e fine) })
+    tells_by sc before e h n answer (record { law = law; accepted = a; fine = fine; is = told_so; lt = maker_there sc e h told_so.is.by_is (last_there sc before e fine) })

@@ -16,7 +16,6 @@ use Rattle.nc_rules.specs.Run as run
 use Rattle.nc_rules.specs.Start.{memory}
 use Rattle.nc_rules.specs.World.{WorldState, start}
 use Rattle.nc_scripts.proofs.Lists.{all_left}
-use Rattle.nc_flatness.specs.Covered.{IsCovered}
 use Rattle.nc_flatness.specs.Flatness.{Flatness}
 use Rattle.nc_flatness.proofs.Marks.{append_none}
 
@@ -112,4 +111,4 @@ last_untouched sc es e fine = untouched_back (run_marks (start sc) es) (event_ma
 
 -- flat memory stands behind each
 abbrev pub RunsAreFlat : Type 0
-RunsAreFlat = (sc : Scenario) (es : List Event) → IsAccepted sc → IsCovered sc → AreThere sc es → Untouched (run_marks (start sc) es) → Flatness sc (flat_after sc es) (after (start sc) es)
+RunsAreFlat = (sc : Scenario) (es : List Event) → IsAccepted sc → AreThere sc es → Untouched (run_marks (start sc) es) → Flatness sc (flat_after sc es) (after (start sc) es)

@@ -33,7 +33,7 @@ use Rattle.nc_rules.specs.EventTouches.{owner_of}
 use Rattle.nc_rules.specs.World.{WorldState, driver_of, hart}
 use Rattle.nc_scripts.specs.Drivers.{IsEndName, FitsKind}
 use Rattle.nc_flatness.specs.Copying.{IsItsOwn}
-use Rattle.nc_flatness.specs.Covered.{is_lending}
+use Rattle.nc_flatness.specs.Lending.{is_lending}
 use Rattle.nc_flatness.specs.Flatness.{IsHanding, PlanIs, PlanOf, StandsAt, Drives, Flatness}
 use Rattle.nc_flatness.specs.Plans.{IsZero, StepGoes, PlanGoes}
 use Rattle.nc_flatness.specs.Plans.{Loads, Stores, WritesBack, Drops, Gives, Fences, Ends, Zeroes, Flushes, Settles, GivesArea, TakesBack, Marks, Posts, Claims, Registers, Polls, TakesTarget, TakesSource}

@@ -48,8 +48,8 @@ abbrev pub WritesNone : Scenario → List Event → List Event → ChanNo → Ty
 WritesNone sc front behind chan = (at : Place) (bytes : Bytes) → In (records.Cw chan at bytes) (run.records (run.after (start sc) front) behind) → ⊥
 
 -- in the run to the answer that a copy of len bytes from place s to place t was done: with the poll the destination has
--- the source's bytes in flat memory; at the answer the hart sees flat memory in the destination; and there the
--- destination still has the source's bytes, but where the channel, once it was released, wrote for another
+-- the source's bytes in flat memory; at the answer the hart sees flat memory in the destination; and if the channel wrote
+-- nothing in between, the destination still has the source's bytes then
 pub record IsDone (sc : Scenario) (es : List Event) (h : HartNo) (n : ℕ) (chan : ChanNo) (len s t : ℕ) : Type 0 where
   pub front : List Event
   pub behind : List Event

@@ -12,7 +12,7 @@ use Rattle.nc_rules.specs.declared.steps.Phase.TheVariants.{Steps, Search, Work}
 use Rattle.nc_rules.specs.Driver.{DriverState, in_hand, next_in, next_of_op, next_of, waits_for}
 use Rattle.nc_rules.specs.Events.{enabled, may_go_on, is_out}
 use Rattle.nc_rules.specs.World.{WorldState, driver_of}
-use Rattle.nc_flatness.specs.Covered.{is_lending}
+use Rattle.nc_flatness.specs.Lending.{is_lending}
 use Rattle.nc_flatness.specs.Steps.{IsNow, Goes, StepKind, OfClaim, OfChannel, OfLots, kind_of_next, MovesAreFlat, StepsAreFlat, StartsAreFlat, PlansAreFlat, ClaimsAreFlat, TransfersAreFlat, EachGoes}
 
 -- ---- a driver that makes no step: at its end, and where it searches for a slot

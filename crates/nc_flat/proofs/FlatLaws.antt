@@ -17,7 +17,7 @@ goes_always : EachGoes
 goes_always = each_goes moves_go_law (record { steps = scripts.steps_go; starts = starts.starts_go; plans = plans.plans_go; claims = claims.claims_go; transfers = transfers.transfers_go })
 
 pub event_always : EachEventIsFlat
-event_always sc f w e a c flat there = event_goes sc f w e goes_always a c flat there
+event_always sc f w e a flat there = event_goes sc f w e goes_always a flat there
 
 pub latest_always : EachRunIsLatest
 latest_always = latest_of goes_always
@@ -29,6 +29,6 @@ pub kept_always : EachRunIsKept
 kept_always = kept_of goes_always
 
 pub uncached_always : EachPoolIsUncached
-uncached_always sc es a c there none x on =
-    let flat = flat_always sc es a c there none in
+uncached_always sc es a there none x on =
+    let flat = flat_always sc es a there none in
     flat.bytes.uncached x (subst (λ (pool : Span). covers pool x ≡ true) (sym flat.world.of_scenario.pool) on)

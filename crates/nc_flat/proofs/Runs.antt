@@ -31,7 +31,6 @@ use Rattle.nc_rules.specs.World.{WorldState, start}
 use Rattle.nc_rows.specs.Places.{given, ThreadRow, PoolRow}
 use Rattle.nc_rows.specs.Rows.{Book, Loan, SyncedRow, Row}
 use Rattle.nc_flatness.specs.Books.{book_of}
-use Rattle.nc_flatness.specs.Covered.{IsCovered}
 use Rattle.nc_flatness.specs.Flatness.{Flatness}
 use Rattle.nc_flatness.specs.Steps.{IsTouch, GoesTo, Goes, EachGoes}
 use Rattle.nc_flatness.proofs.Starts.{start_flat}
@@ -54,12 +53,12 @@ off_goes sc f w e off flat =
     inr (subst (λ (v : WorldState). GoesTo sc f (event_marks w e) v) (sym (off_next w e off))
     (subst (λ (ms : List Mark). GoesTo sc f ms w) (sym (off_marks w e (enabled w e) refl off)) (record { untouched = tt; latest = tt; bytes = flat.bytes })))
 
-event_if : (sc : Scenario) (f : List ℕ) (w : WorldState) (e : Event) (t : Bool) → EachGoes → enabled w e ≡ t → IsAccepted sc → IsCovered sc → Flatness sc f w → IsThere (length sc.harts) sc.block_size sc.ram e → Goes sc f w e
-event_if sc f w e true law may a c flat there = law sc f w e (record { accepted = a; covered = c; flat = flat; there = there; may = may })
-event_if sc f w e false law may a c flat there = off_goes sc f w e may flat
+event_if : (sc : Scenario) (f : List ℕ) (w : WorldState) (e : Event) (t : Bool) → EachGoes → enabled w e ≡ t → IsAccepted sc → Flatness sc f w → IsThere (length sc.harts) sc.block_size sc.ram e → Goes sc f w e
+event_if sc f w e true law may a flat there = law sc f w e (record { accepted = a; flat = flat; there = there; may = may })
+event_if sc f w e false law may a flat there = off_goes sc f w e may flat
 
-pub event_goes : (sc : Scenario) (f : List ℕ) (w : WorldState) (e : Event) → EachGoes → IsAccepted sc → IsCovered sc → Flatness sc f w → IsThere (length sc.harts) sc.block_size sc.ram e → Goes sc f w e
-event_goes sc f w e law a c flat there = event_if sc f w e (enabled w e) law refl a c flat there
+pub event_goes : (sc : Scenario) (f : List ℕ) (w : WorldState) (e : Event) → EachGoes → IsAccepted sc → Flatness sc f w → IsThere (length sc.harts) sc.block_size sc.ram e → Goes sc f w e
+event_goes sc f w e law a flat there = event_if sc f w e (enabled w e) law refl a flat there
 
 flat_next : (sc : Scenario) (f : List ℕ) (w : WorldState) (e : Event) → Flatness sc f w → IsThere (length sc.harts) sc.block_size sc.ram e → GoesTo sc f (event_marks w e) (next w e) → Flatness sc (flat f (deeds (event_marks w e))) (next w e)
 flat_next sc f w e flat there goes = record { world = worlds_stay sc w e flat.world there; bytes = goes.bytes }
@@ -77,31 +76,31 @@ untouched_rest [] ns u v = v
 untouched_rest (Did d ∷ ms) ns u v = untouched_rest ms ns u v
 untouched_rest (Touched ∷ ms) ns u v = absurd u
 
-pub latest_run : (sc : Scenario) (f : List ℕ) (w : WorldState) (es : List Event) → EachGoes → IsAccepted sc → IsCovered sc → Flatness sc f w → AreThere sc es → Latest f (run_marks w es)
+pub latest_run : (sc : Scenario) (f : List ℕ) (w : WorldState) (es : List Event) → EachGoes → IsAccepted sc → Flatness sc f w → AreThere sc es → Latest f (run_marks w es)
 unfolding run_marks
-latest_run sc f w [] law a c now there = tt
-latest_run sc f w (e ∷ es) law a c now there =
+latest_run sc f w [] law a now there = tt
+latest_run sc f w (e ∷ es) law a now there =
     let here = All-head (IsThere (length sc.harts) sc.block_size sc.ram) e es there in
-    elim (event_goes sc f w e law a c now here) [
+    elim (event_goes sc f w e law a now here) [
       | inl touch ↦ touched_latest f (event_marks w e) (run_marks (next w e) es) touch
       | inr goes ↦
           Latest-append f (event_marks w e) (run_marks (next w e) es) goes.latest
-          (λ _. latest_run sc (flat f (deeds (event_marks w e))) (next w e) es law a c (flat_next sc f w e now here goes) (All-tail (IsThere (length sc.harts) sc.block_size sc.ram) e es there))
+          (λ _. latest_run sc (flat f (deeds (event_marks w e))) (next w e) es law a (flat_next sc f w e now here goes) (All-tail (IsThere (length sc.harts) sc.block_size sc.ram) e es there))
     ]
 
 flat_on : (f : List ℕ) (ms ns : List Mark) → flat f (deeds (ms ++ ns)) ≡ flat (flat f (deeds ms)) (deeds ns)
 flat_on f ms ns = ap (flat f) (deeds-append ms ns) ∙ in_order f (deeds ms) (deeds ns)
 
-pub flat_run : (sc : Scenario) (f : List ℕ) (w : WorldState) (es : List Event) → EachGoes → IsAccepted sc → IsCovered sc → Flatness sc f w → AreThere sc es → Untouched (run_marks w es) → Flatness sc (flat f (deeds (run_marks w es))) (after w es)
+pub flat_run : (sc : Scenario) (f : List ℕ) (w : WorldState) (es : List Event) → EachGoes → IsAccepted sc → Flatness sc f w → AreThere sc es → Untouched (run_marks w es) → Flatness sc (flat f (deeds (run_marks w es))) (after w es)
 unfolding run_marks after
-flat_run sc f w [] law a c flat there none = flat
-flat_run sc f w (e ∷ es) law a c now there none =
+flat_run sc f w [] law a flat there none = flat
+flat_run sc f w (e ∷ es) law a now there none =
     let here = All-head (IsThere (length sc.harts) sc.block_size sc.ram) e es there in
-    elim (event_goes sc f w e law a c now here) [
+    elim (event_goes sc f w e law a now here) [
       | inl touch ↦ absurd (touched_not (event_marks w e) (run_marks (next w e) es) touch none)
       | inr goes ↦
           subst (λ (k : List ℕ). Flatness sc k (after (next w e) es)) (sym (flat_on f (event_marks w e) (run_marks (next w e) es)))
-          (flat_run sc (flat f (deeds (event_marks w e))) (next w e) es law a c (flat_next sc f w e now here goes) (All-tail (IsThere (length sc.harts) sc.block_size sc.ram) e es there)
+          (flat_run sc (flat f (deeds (event_marks w e))) (next w e) es law a (flat_next sc f w e now here goes) (All-tail (IsThere (length sc.harts) sc.block_size sc.ram) e es there)
           (untouched_rest (event_marks w e) (run_marks (next w e) es) goes.untouched none))
     ]
 
@@ -150,18 +149,18 @@ kept_by a (Returning n) v m x kept none row = absurd (false≢true kept)
 
 -- ---- the laws
 
-pub latest_of : EachGoes → (sc : Scenario) → IsAccepted sc → IsCovered sc → (es : List Event) → AreThere sc es → IsLatest sc es
-latest_of law sc a c es there = latest_run sc (memory sc) (start sc) es law a c (start_flat sc a c) there
+pub latest_of : EachGoes → (sc : Scenario) → IsAccepted sc → (es : List Event) → AreThere sc es → IsLatest sc es
+latest_of law sc a es there = latest_run sc (memory sc) (start sc) es law a (start_flat sc a) there
 
-pub flat_of : EachGoes → (sc : Scenario) (es : List Event) → IsAccepted sc → IsCovered sc → AreThere sc es → Untouched (run_marks (start sc) es) → Flatness sc (flat (memory sc) (deeds (run_marks (start sc) es))) (after (start sc) es)
-flat_of law sc es a c there none = flat_run sc (memory sc) (start sc) es law a c (start_flat sc a c) there none
+pub flat_of : EachGoes → (sc : Scenario) (es : List Event) → IsAccepted sc → AreThere sc es → Untouched (run_marks (start sc) es) → Flatness sc (flat (memory sc) (deeds (run_marks (start sc) es))) (after (start sc) es)
+flat_of law sc es a there none = flat_run sc (memory sc) (start sc) es law a (start_flat sc a) there none
 
-kept_after : EachGoes → (sc : Scenario) → IsAccepted sc → IsCovered sc → (es : List Event) → AreThere sc es → IsKeptAfter sc es
-kept_after law sc a c es there untouched =
+kept_after : EachGoes → (sc : Scenario) → IsAccepted sc → (es : List Event) → AreThere sc es → IsKeptAfter sc es
+kept_after law sc a es there untouched =
     let w = after (start sc) es in
-    let flat = flat_of law sc es a c there untouched in
+    let flat = flat_of law sc es a there untouched in
     record { at = λ x lt off kept none. kept_by (book_of w) (owner_of w x) (byte (flat_after sc es) x) w.machine x kept none (flat.bytes.rows x lt off) }
 
 -- a front of a run is a run
-pub kept_of : EachGoes → (sc : Scenario) → IsAccepted sc → IsCovered sc → (es : List Event) → AreThere sc es → IsKept sc es
-kept_of law sc a c es there n = kept_after law sc a c (take n es) (All-take (IsThere (length sc.harts) sc.block_size sc.ram) n es there)
+pub kept_of : EachGoes → (sc : Scenario) → IsAccepted sc → (es : List Event) → AreThere sc es → IsKept sc es
+kept_of law sc a es there n = kept_after law sc a (take n es) (All-take (IsThere (length sc.harts) sc.block_size sc.ram) n es there)

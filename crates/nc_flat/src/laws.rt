@@ -3,8 +3,8 @@
 ghost use Rattle.nc_flat.specs.Laws.{EachRunIsLatest, EachRunIsKept, EachEventIsFlat, EachRunIsFlat, EachPoolIsUncached};
 
 /// Whatever events happen in whatever order, each load and each channel read before the first touch shows flat memory:
-/// the writes that the owners of its bytes made, in order. It is a law of the accepted scenarios that are covered
-/// (`IsCovered`: full fences, or no script that names a copy), as the others here.
+/// the stores of scripts, the zeros and the writes of channels, in order. It is a law of every accepted scenario, as the
+/// others here.
 #[tactic(auto, using(crate::proofs::FlatLaws::latest_always))]
 pub fn latest_law()
     ensures { EachRunIsLatest }

@@ -23,7 +23,7 @@ use Rattle.nc_rules.specs.World.{WorldState, driver_of}
 use Rattle.nc_calls.proofs.CallProofs.{channels_by_place}
 use Rattle.nc_calls.proofs.SoundLaws.{calls_keep_shape}
 use Rattle.nc_flatness.specs.Copying.{registers}
-use Rattle.nc_flatness.specs.Covered.{is_lending}
+use Rattle.nc_flatness.specs.Lending.{is_lending}
 use Rattle.nc_flatness.specs.Flatness.{BytesStand}
 use Rattle.nc_flatness.specs.Plans.{StepGoes, Loads, Stores, WritesBack, Drops, Gives, Fences, Ends, Zeroes, Flushes, Settles, GivesArea, TakesBack, Marks, Posts, Claims, Registers, Polls, TakesTarget, TakesSource, IsClaim, PlanGoes, EndsOne}
 use Rattle.nc_flatness.specs.Steps.{OfClaim, OfChannel, OfLots, kind_of_act, kind_of_next, Goes, ClaimsAreFlat}

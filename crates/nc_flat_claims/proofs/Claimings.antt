@@ -41,7 +41,7 @@ use Rattle.nc_rows.specs.Ahead.{posts}
 use Rattle.nc_rows.specs.Parts.{IsQueued}
 use Rattle.nc_rows.specs.Rows.{Book}
 use Rattle.nc_flatness.specs.Books.{book_of, mapping_in}
-use Rattle.nc_flatness.specs.Covered.{is_lending}
+use Rattle.nc_flatness.specs.Lending.{is_lending}
 use Rattle.nc_flatness.specs.Plans.{IsStill, HasEnd, IsClaim, PlanGoes, EndsOne}
 use Rattle.nc_flatness.proofs.Owned.{owned_ram, mapped}
 use Rattle.nc_flatness.proofs.Rests.{copy_ends}

@@ -11,7 +11,7 @@ use Rattle.nc_rules.specs.declared.steps.Phase.TheVariants.{Work}
 use Rattle.nc_rules.specs.declared.steps.Step.{Step}
 use Rattle.nc_rules.specs.Driver.{in_hand}
 use Rattle.nc_rules.specs.World.{WorldState, driver_of}
-use Rattle.nc_flatness.specs.Covered.{is_lending}
+use Rattle.nc_flatness.specs.Lending.{is_lending}
 use Rattle.nc_flatness.specs.Plans.{StepGoes, Loads, Stores, WritesBack, Drops, Gives, Fences, Ends, Zeroes, Flushes, Settles, GivesArea, TakesBack, Marks, Posts, Claims, Registers, Polls, TakesTarget, TakesSource, PlanGoes, EndsOne}
 use Rattle.nc_flatness.specs.Flatness.{PlanOf, StandsAt}
 use Rattle.nc_flatness.specs.Steps.{IsNow, Goes, PlansAreFlat, OfLots, kind_of_act, kind_of_next}

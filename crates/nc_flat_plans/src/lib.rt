@@ -6,8 +6,9 @@
 //! with whose drain it is; a plan that takes back drops each block that the channel may have written, fences, and copies
 //! what bounced out of its slots. An area is allocated with each of its blocks zeroed and then flushed, given as a mapping
 //! is, and taken back and freed with a full fence alone. Both ends of a copy are lent with its claim: the destination
-//! waits while the source's blocks are written back. Each end is taken back with the first step of its way back. The
-//! contract for the layers above: `plans_go`, that flat memory's bytes stand behind each step of such a plan.
+//! waits while the source's blocks are written back. Where fences are light the tokens of both may be queued while the plan
+//! goes on, up to its poll. Each end is taken back with the first step of its way back. The contract for the layers above:
+//! `plans_go`, that flat memory's bytes stand behind each step of such a plan.
 #![tactic(auto)]
 
 mod laws;

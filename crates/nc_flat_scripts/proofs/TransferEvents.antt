@@ -32,7 +32,7 @@ use Rattle.nc_rules.specs.World.{WorldState, driver_of}
 use Rattle.nc_scripts.specs.Drivers.{IsAtWork, IsPhase, ClaimsFirst, ClaimsNothing}
 use Rattle.nc_rows.specs.Parts.{rest_last}
 use Rattle.nc_flatness.specs.Copying.{polls, SawDone}
-use Rattle.nc_flatness.specs.Covered.{is_lending}
+use Rattle.nc_flatness.specs.Lending.{is_lending}
 use Rattle.nc_flatness.specs.Plans.{IsStill, StepGoes, Loads, Stores, WritesBack, Drops, Gives, Fences, Ends, Zeroes, Flushes, Settles, GivesArea, TakesBack, Marks, Posts, Claims, Registers, Polls, TakesTarget, TakesSource, IsRegister, IsPoll, PlanGoes, EndsOne}
 use Rattle.nc_flatness.specs.Steps.{OfClaim, OfChannel, OfLots, kind_of_act, kind_of_next, Goes, TransfersAreFlat}
 use Rattle.nc_flatness.proofs.Outcomes.{gone, goes_go, goes_silent}

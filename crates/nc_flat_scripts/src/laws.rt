@@ -8,8 +8,7 @@ pub fn steps_go()
     ensures { StepsAreFlat }
 {}
 
-/// A store of a copy to its channel's registers, its poll and its release leave flat memory as it is, and it stands
-/// behind them.
+/// Flat memory's bytes stand behind a store of a copy to its channel's registers, its poll and its release.
 pub fn transfers_go()
     ensures { TransfersAreFlat }
 {}

@@ -10,7 +10,7 @@ use Rattle.nc_rules.specs.Operations.{has_start, begin, step_at}
 use Rattle.nc_rules.specs.Driver.{Went, begun, started, started_of, refused_step, steps_done}
 use Rattle.nc_rules.specs.World.{WorldState, driver_of}
 use Rattle.nc_flatness.specs.Copying.{CopyOp, copy_op}
-use Rattle.nc_flatness.specs.Covered.{is_lending}
+use Rattle.nc_flatness.specs.Lending.{is_lending}
 use Rattle.nc_flatness.specs.Flatness.{BytesStand}
 use Rattle.nc_flatness.proofs.Outcomes.{gone}
 use Rattle.nc_flat_starts.proofs.AllocStarts.{calloc_bytes}

@@ -34,7 +34,7 @@ use Rattle.nc_rows.specs.Places.{ThreadRow, PoolRow}
 use Rattle.nc_rows.specs.Rows.{Loan, Book, gives_here, ahead_of, Either, AllocatingRow, GivingRow, LentRow, DeviceRow, BackRow, Row}
 use Rattle.nc_row_plans.proofs.PlanBegins.{rows_begin}
 use Rattle.nc_flatness.specs.Books.{book_of}
-use Rattle.nc_flatness.specs.Covered.{is_lending}
+use Rattle.nc_flatness.specs.Lending.{is_lending}
 use Rattle.nc_flatness.proofs.Copies.{is_copy}
 use Rattle.nc_flatness.specs.Flatness.{Flatness}
 use Rattle.nc_flatness.specs.Plans.{IsStill, IsAreaBack}

@@ -33,7 +33,7 @@ use Rattle.nc_row_plans.proofs.LendingPlans.{some_append}
 use Rattle.nc_row_plans.proofs.PlanBegins.{rows_begin}
 use Rattle.nc_row_plans.proofs.ReturningPlans.{plans_return}
 use Rattle.nc_flatness.specs.Books.{book_of}
-use Rattle.nc_flatness.specs.Covered.{is_lending}
+use Rattle.nc_flatness.specs.Lending.{is_lending}
 use Rattle.nc_flatness.proofs.Copies.{is_copy}
 use Rattle.nc_flatness.specs.Plans.{IsStill, IsBack}
 use Rattle.nc_flatness.specs.Tokens.{is_lending_side}

@@ -54,7 +54,7 @@ use Rattle.nc_rows.specs.Ahead.{posts}
 use Rattle.nc_rows.specs.Parts.{rest_last}
 use Rattle.nc_flatness.specs.Books.{loan_by, loan_of}
 use Rattle.nc_flatness.specs.Copying.{CopyOp, copy_op, polls, transfers, IsOneRange}
-use Rattle.nc_flatness.specs.Covered.{is_lending}
+use Rattle.nc_flatness.specs.Lending.{is_lending}
 use Rattle.nc_flatness.specs.Flatness.{IsMapping, IsStillOrWanted, makes_kind, IsStillOrMade, PlanOf, Drives, BytesStand, Flatness}
 use Rattle.nc_flatness.specs.Plans.{IsStill, StillDevice, StillSynced, StillOwn, StillSent}
 use Rattle.nc_flatness.specs.Tokens.{TokenStands}

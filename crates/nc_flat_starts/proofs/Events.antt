@@ -19,7 +19,7 @@ use Rattle.nc_rules.specs.Events.{is_out, may_go_on, enabled}
 use Rattle.nc_rules.specs.Outcomes.{start_outcome, step_outcome, try_outcome, told_outcome, got_word, told_slots, at_word, outcome}
 use Rattle.nc_rules.specs.Records.{try_records, told_records}
 use Rattle.nc_rules.specs.World.{WorldState, driver_of}
-use Rattle.nc_flatness.specs.Covered.{is_lending}
+use Rattle.nc_flatness.specs.Lending.{is_lending}
 use Rattle.nc_flatness.specs.Steps.{IsNow, Goes, StartsAreFlat}
 use Rattle.nc_flatness.proofs.Outcomes.{gone, goes_go, goes_silent}
 use Rattle.nc_flat_starts.proofs.Lendings.{lending_starts}

@@ -51,7 +51,7 @@ use Rattle.nc_row_plans.specs.Plans.{WritesBack, DropsBlocks, IsPlaceOf, IsEntry
 use Rattle.nc_row_plans.proofs.LendingPlans.{plans_lend}
 use Rattle.nc_row_plans.proofs.PlanBegins.{rows_begin}
 use Rattle.nc_flatness.specs.Books.{book_of}
-use Rattle.nc_flatness.specs.Covered.{is_lending}
+use Rattle.nc_flatness.specs.Lending.{is_lending}
 use Rattle.nc_flatness.proofs.Copies.{is_copy}
 use Rattle.nc_flatness.specs.Flatness.{Flatness}
 use Rattle.nc_flatness.specs.Plans.{IsStill, device_of}

@@ -41,7 +41,7 @@ use Rattle.nc_rows.specs.Rows.{Loan, Book, Row}
 use Rattle.nc_rows.specs.Parts.{rest_last}
 use Rattle.nc_plan.specs.Plans.{In}
 use Rattle.nc_rows.proofs.Steps.{steps_ahead}
-use Rattle.nc_flatness.specs.Covered.{is_lending}
+use Rattle.nc_flatness.specs.Lending.{is_lending}
 use Rattle.nc_flatness.specs.Books.{loan_by, loan_of, book_of, mapping_in, LiesIn}
 use Rattle.nc_flatness.specs.Flatness.{PlanLeft, PlanIs, PlanOf, Drives, BytesStand}
 use Rattle.nc_flatness.specs.Plans.{PlanGoes}

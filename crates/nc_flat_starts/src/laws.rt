@@ -10,9 +10,9 @@ pub fn book_rows()
 {}
 
 /// Flat memory's bytes stand behind each start of an operation that maps, unmaps or syncs, or allocates, gives, takes
-/// back or frees an area, or copies by a channel, and behind each try of a slot word: none is a touch or an access (Linux
-/// DMA API: dma_map_single, dma_map_sg, dma_unmap_single, dma_unmap_sg, dma_sync_single_for_cpu and _for_device,
-/// dma_alloc_coherent, dma_free_coherent).
+/// back or frees an area, or copies by a channel, and behind each try of a slot word (Linux DMA API: dma_map_single,
+/// dma_map_sg, dma_unmap_single, dma_unmap_sg, dma_sync_single_for_cpu and _for_device, dma_alloc_coherent,
+/// dma_free_coherent).
 #[tactic(auto, using(crate::proofs::Events::starts_go))]
 pub fn starts_go()
     ensures { StartsAreFlat }

@@ -19,7 +19,7 @@ wrote before now sc answered es shown run same is text accepted latest kept copi
   run = run;
   status = subst (λ (xs : List Event). answered ≡ status sc xs) same is;
   text = subst (λ (xs : List Event). Appends before now (live_text sc xs)) same text;
-  flat = λ covered. (latest sc accepted covered es there, kept sc accepted covered es there, copied sc accepted covered es there);
+  flat = (latest sc accepted es there, kept sc accepted es there, copied sc accepted es there);
 }
 
 pub grew : (before now : Option (List ℕ)) (sc : Scenario) (es shown : List Event) → IsLiveRun sc es → shown ≡ es → GrowsByFront before now (live_text sc shown) → GrewByLive before now sc

@@ -6,7 +6,6 @@ use Rattle.nc_values.specs.declared.refused.Refused.{Refused}
 use Rattle.nc_scen.specs.Reading.{reading}
 use Rattle.nc_scen.specs.declared.events.Event.{Event}
 use Rattle.nc_scen.specs.declared.scenario.Scenario.{Scenario}
-use Rattle.nc_flatness.specs.Covered.{IsCovered}
 use Rattle.nc_rules.specs.Flat.{IsLatest, IsKept}
 use Rattle.nc_copied.specs.Copied.{IsEachCopied}
 use Rattle.nc_rules.specs.Lines.{status, refused_line}
@@ -14,16 +13,15 @@ use Rattle.nc_top.specs.Due.{unknown_words, is_run}
 use Rattle.nc_top.specs.Inputs.{HasRead}
 use Rattle.nc_turns.specs.Played.{IsLiveRun, live_text}
 
--- a history of the scenario's threads was written, with the report of its run, whose status this is; where the laws of flat
--- memory cover the scenario, its loads and channel reads show flat memory up to the first touch, after each front without
--- a touch flat memory's bytes are kept, and each copy that is answered done before the first touch left its source's bytes
--- in its destination
+-- a history of the scenario's threads was written, with the report of its run, whose status this is; its loads and channel
+-- reads show flat memory up to the first touch, after each front without a touch flat memory's bytes are kept, and of each
+-- answer of a copy before the first touch holds what nc_copied says: with its poll the destination had the source's bytes
 pub record WroteLive (before now : Option (List ℕ)) (sc : Scenario) (answered : ℕ) : Type 0 where
   pub history : List Event
   pub run : IsLiveRun sc history
   pub status : answered ≡ status sc history
   pub text : Appends before now (live_text sc history)
-  pub flat : IsCovered sc → IsLatest sc history × IsKept sc history × IsEachCopied sc history
+  pub flat : IsLatest sc history × IsKept sc history × IsEachCopied sc history
 
 -- nothing was written, or a front of what is due for a history of the scenario's threads
 abbrev pub GrewByLive : Option (List ℕ) → Option (List ℕ) → Scenario → Type 0

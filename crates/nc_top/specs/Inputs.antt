@@ -7,7 +7,6 @@ use Rattle.nc_top.specs.Due.{due, due_for, command_of, asks_input}
 use Rattle.nc_scen.specs.Reading.{most_bytes, reading}
 use Rattle.nc_scen.specs.declared.scenario.Scenario.{Scenario}
 use Rattle.nc_counts.specs.Touches.{TellsTouches}
-use Rattle.nc_flatness.specs.Covered.{IsCovered}
 use Rattle.nc_rules.specs.Flat.{IsLatest, IsKept}
 use Rattle.nc_copied.specs.Copied.{IsEachCopied}
 use Rattle.nc_rules.specs.Schedule.{sched}
@@ -34,12 +33,11 @@ WroteFront words before now ended held_before held_now = Keeps held_before held_
 abbrev pub IsRunWhereRead : ℕ → List ℕ → Type 0
 IsRunWhereRead status bytes = (status ≢ 3) ↔ ((sc : Scenario) × (reading bytes ≡ Ok sc))
 
--- Where the status is not a refusal's, the bytes are a scenario. If the laws of flat memory cover it, then in the run of its
--- schedule the loads and channel reads up to the first touch show flat memory; after each front of the run without a touch
--- flat memory's bytes are kept; and each copy that is answered done before the first touch left its source's bytes in its
--- destination.
+-- Where the status is not a refusal's, the bytes are a scenario. In the run of its schedule the loads and channel reads up to
+-- the first touch show flat memory; after each front of the run without a touch flat memory's bytes are kept; and of each
+-- answer of a copy before the first touch holds what nc_copied says: with its poll the destination had the source's bytes.
 abbrev pub IsFlat : ℕ → List ℕ → Type 0
-IsFlat status bytes = status ≢ 3 → (sc : Scenario) × (reading bytes ≡ Ok sc) × (IsCovered sc → IsLatest sc (sched sc) × IsKept sc (sched sc) × IsEachCopied sc (sched sc))
+IsFlat status bytes = status ≢ 3 → (sc : Scenario) × (reading bytes ≡ Ok sc) × (IsLatest sc (sched sc) × IsKept sc (sched sc) × IsEachCopied sc (sched sc))
 
 -- Where the status is not a refusal's, the bytes are a scenario, and the status is 1 exactly where a line of the run of its
 -- schedule is a touch; with each other status that run has no touch.

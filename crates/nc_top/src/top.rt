@@ -205,13 +205,14 @@ pub fn dmasim<S: Source, K: Sink>(
     ensures front { WroteFront (map string_bytes words.now.items) (S.left src.old) (S.left src.new) (S.ended src.new) (K.held out.old) (K.held out.new) }
 
     // Up to the first touch every load and channel read of every run shows flat memory, and after each front of a run
-    // without a touch the bytes of flat memory are kept: in every run of the scenarios that the laws cover, the reported one
-    // among them.
+    // without a touch the bytes of flat memory are kept: in every run of every accepted scenario, the reported one among
+    // them.
     ensures latest { EachRunIsLatest }
     ensures kept { EachRunIsKept }
 
-    // Each copy that is answered done before the first touch left its source's bytes in its destination, and none is answered
-    // failed: in every run of those scenarios too.
+    // Of each copy that is answered done before the first touch: with its poll the destination has the source's bytes in
+    // flat memory; at the answer the hart sees flat memory there, which has them still if the channel wrote nothing since the
+    // poll. Before the first touch none is answered failed. It is so in every run of every accepted scenario too.
     ensures copied { EachCopyIsDone }
 {
     latest_law();

@@ -9,7 +9,7 @@ returns-in-Ok-clause-flat g c = λ answers runs.
     let sc = c.in-Ok.sc in
     let accepted = c.in-Ok.ensures.accepted in
     let there = schedule_is_there sc accepted in
-    (sc, c.in-Ok.ensures.gives, λ covered. (c.latest_law.ensures sc accepted covered (sched sc) there, c.kept_law.ensures sc accepted covered (sched sc) there, c.copied_law.ensures sc accepted covered (sched sc) there))
+    (sc, c.in-Ok.ensures.gives, (c.latest_law.ensures sc accepted (sched sc) there, c.kept_law.ensures sc accepted (sched sc) there, c.copied_law.ensures sc accepted (sched sc) there))
 
 pub returns-in-Ok-clause-read : goal.returns-in-Ok-clause-read
 returns-in-Ok-clause-read g c = λ answers.
