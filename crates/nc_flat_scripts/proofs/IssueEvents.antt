@@ -16,7 +16,7 @@ use Rattle.nc_rules.specs.Driver.{DriverState, in_hand, next_of, next_of_op, nex
 use Rattle.nc_rules.specs.Events.{may_go_on}
 use Rattle.nc_rules.specs.Operations.{step_at, has_start}
 use Rattle.nc_rules.specs.World.{WorldState, driver_of}
-use Rattle.nc_flatness.specs.Covered.{is_lending}
+use Rattle.nc_flatness.specs.Lending.{is_lending}
 use Rattle.nc_flatness.specs.Flatness.{IsHanding, PlanIs, PlanOf, StandsAt}
 use Rattle.nc_flatness.specs.Steps.{Goes, StepsAreFlat}
 use Rattle.nc_flatness.proofs.Outcomes.{goes_go}

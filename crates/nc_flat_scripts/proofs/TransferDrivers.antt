@@ -13,7 +13,7 @@ use Rattle.nc_rules.specs.Driver.{DriverState, Went, in_hand, kept, busy, went_t
 use Rattle.nc_rules.specs.Plans.{step}
 use Rattle.nc_rules.specs.Turns.{turned_by}
 use Rattle.nc_flatness.specs.Copying.{IsBegun}
-use Rattle.nc_flatness.specs.Covered.{is_lending}
+use Rattle.nc_flatness.specs.Lending.{is_lending}
 use Rattle.nc_flatness.specs.Flatness.{IsMapping, PlanLeft, PlanIs, PlanOf, StandsAt, Drives}
 use Rattle.nc_flatness.specs.Plans.{PlanGoes, EndsOne}
 
