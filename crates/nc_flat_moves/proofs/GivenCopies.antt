@@ -1,5 +1,5 @@
 -- Copies in hand behind a token that drained: its lot is its channel's, and the copy goes on as it was.
-use Rattle.std.specs.Prelude.{◌≢◌, All}
+use Rattle.std.specs.Prelude.{◌≢◌}
 use Rattle.std.proofs.Common.{◌≡◌, ℕ, ◌<◌, Bool, true, false, List, ◌++◌, length, refl, sym, ap, ◌∙◌, inl, inr, subst}
 use Rattle.std.proofs.lemmas.Bool.{cases_eq, cond-true, cond-false}
 use Rattle.nc_num.specs.declared.names.ChanNo.{ChanNo}
@@ -14,7 +14,6 @@ use Rattle.nc_model.specs.declared.owners.Owner.{Owner}
 use Rattle.nc_model.specs.declared.owners.Owner.TheVariants.{Lending}
 use Rattle.nc_pdma.specs.Channel.{ChannelState}
 use Rattle.nc_scen.specs.declared.scenario.Scenario.{Scenario}
-use Rattle.nc_sg.specs.declared.list.Entry.{Entry as Range}
 use Rattle.nc_rules.specs.declared.lots.Lot.{Lot}
 use Rattle.nc_rules.specs.declared.lots.LotId.{LotId}
 use Rattle.nc_rules.specs.declared.lots.Side.TheVariants as sides
@@ -23,7 +22,7 @@ use Rattle.nc_rules.specs.Copies.{source, target}
 use Rattle.nc_rules.specs.Driver.{DriverState, in_hand, lent}
 use Rattle.nc_rules.specs.EventTouches.{owner_of}
 use Rattle.nc_rules.specs.Lots.{DriverConfig, is_lot, is_wanted, lot_id}
-use Rattle.nc_rules.specs.Machine.{queue_of, channel_of, grantee_of}
+use Rattle.nc_rules.specs.Machine.{queue_of}
 use Rattle.nc_rules.specs.Refusals.{buffer_of, part_of}
 use Rattle.nc_rules.specs.Turns.{with_side}
 use Rattle.nc_rules.specs.World.{WorldState, driver_of}

@@ -14,8 +14,8 @@ use Rattle.nc_model.specs.declared.owners.Owner.TheVariants.{Lending, Returning,
 use Rattle.nc_scen.specs.Regions.{slots_of}
 use Rattle.nc_scen.specs.declared.scenario.Scenario.{Scenario}
 use Rattle.nc_rules.specs.Calls.{drain_next}
-use Rattle.nc_rules.specs.Driver.{DriverState, in_hand, lent}
-use Rattle.nc_rules.specs.Lots.{DriverConfig, lot_id}
+use Rattle.nc_rules.specs.Driver.{DriverState, lent}
+use Rattle.nc_rules.specs.Lots.{lot_id}
 use Rattle.nc_rules.specs.Machine.{queue_of}
 use Rattle.nc_rules.specs.EventTouches.{owner_of}
 use Rattle.nc_rules.specs.World.{WorldState, driver_of}
@@ -29,7 +29,6 @@ use Rattle.nc_row_moves.proofs.PartMoves.{parts_stay}
 use Rattle.nc_row_moves.proofs.PlaceDrains.{leaves as entry_leaves}
 use Rattle.nc_row_moves.proofs.RowDrains.{rows_drain}
 use Rattle.nc_flatness.specs.Books.{book_of, mapping_in, LiesIn, IsPooled}
-use Rattle.nc_flatness.specs.Copying.{CopyStands}
 use Rattle.nc_flatness.specs.Flatness.{Drives, IsUnseen, BytesStand}
 use Rattle.nc_flatness.specs.Tokens.{TokenStands}
 use Rattle.nc_flatness.proofs.BookReads.{driver_here, driver_away, queued_to, pool_unheld}
