@@ -73,7 +73,7 @@ copies_kept sc f w k flat devices queues h lt = copy_beside sc f w k h flat lt (
 
 -- ---- an entry that is no store to a register drains
 
-registers_left : (m k : MachineState) (h i g : ℕ) (e : Entry) → QueueLoses m k h i e → is_register e ≡ false → registers (queue_of k g) ≡ registers (queue_of m g)
+pub registers_left : (m k : MachineState) (h i g : ℕ) (e : Entry) → QueueLoses m k h i e → is_register e ≡ false → registers (queue_of k g) ≡ registers (queue_of m g)
 registers_left m k h i g e loses none = elim (cases_eq g h) [
   | inl same ↦
       ap (λ (j : ℕ). registers (queue_of k j)) same ∙ ap registers loses.own ∙ filter-remove_other is_register (queue_of m h) i e loses.stood none

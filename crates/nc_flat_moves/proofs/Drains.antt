@@ -142,7 +142,7 @@ token_goes sc f w h i label first count now out =
     let is = drains sc f w h i e now out in
     let stood = (entry_leaves w.machine h.0 i e is).drains.queues.stood in
     let giving : IsGiving sc f w h i label first count =
-    record { covered = now.covered; flat = now.flat; lt = now.there; there = is.hart; is = is; sent = sent sc f w h.0 i label first count now.flat now.there is.hart stood } in
+    record { flat = now.flat; lt = now.there; there = is.hart; is = is; sent = sent sc f w h.0 i label first count now.flat now.there is.hart stood } in
     goes_go sc f w (events.Drain h i) h m (lent (driver_of w h.0) label first) w.slots (drain_touch w h e) (drain_records w.machine h e) now.may (token_is w h i label first count out)
     (λ untouched. goes_silent sc f (all_marks w.machine.size w.grants (drain_records w.machine h e)) (given_world w h i label first) (drain_silent w h e) (given_bytes sc f w h i label first count giving))
 

@@ -38,7 +38,6 @@ use Rattle.nc_rows.specs.Ahead.{names, settling}
 use Rattle.nc_rows.specs.Rows.{Loan}
 use Rattle.nc_row_moves.specs.Laws.{is_token_of, is_token, IsDrain}
 use Rattle.nc_flatness.specs.Books.{is_entry_of, loan_by, loan_of, book_of, mapping_in}
-use Rattle.nc_flatness.specs.Covered.{IsCovered}
 use Rattle.nc_flatness.specs.Flatness.{Flatness}
 use Rattle.nc_flatness.specs.Tokens.{lot_token}
 use Rattle.nc_flatness.proofs.BookReads.{loan_here, loan_away, rest_gone, buffer_gone}
@@ -46,7 +45,7 @@ use Rattle.nc_flatness.proofs.Loans.{IsLoan, loan_is, one_of, get_below}
 use Rattle.nc_flatness.proofs.Outcomes.{gone}
 use Rattle.nc_flatness.proofs.Owned.{me_is, entry_owned, of_buffer, mapped, owned_ram}
 use Rattle.nc_flatness.proofs.Lents.{lent as lent_lots, AreLending}
-use Rattle.nc_flatness.proofs.Tokens.{unended_settling}
+use Rattle.nc_flatness.proofs.Rests.{unlent_settling}
 use Rattle.nc_flat_moves.proofs.SentLots.{IsSent, sent_one}
 
 abbrev pub given_world : WorldState → HartNo → ℕ → Label → ℕ → WorldState
@@ -54,7 +53,6 @@ given_world w h i label first = gone w h (drain_next w.machine h.0 i) (lent (dri
 
 -- the token at place i of hart h's queue drains
 pub record IsGiving (sc : Scenario) (f : List ℕ) (w : WorldState) (h : HartNo) (i : ℕ) (label : Label) (first count : ℕ) : Type 0 where
-  pub covered : IsCovered sc
   pub flat : Flatness sc f w
   pub lt : h.0 < length sc.harts
   pub there : h.0 < length w.machine.harts
@@ -151,7 +149,7 @@ pub named_unsettled : (sc : Scenario) (f : List ℕ) (w : WorldState) (h : HartN
 named_unsettled sc f w h i label first count n l g on known =
     let by = named_by sc f w h i label first count n l g on known in
     ap (λ (id : LotId). settling id (driver_of w n.hart.0).rest) (by.is.lot_is ∙ ap (λ (k : Lot). k.id) by.lot_is) ∙ ap (λ (j : ℕ). settling g.sent.lot.id (driver_of w j).rest) by.hart
-    ∙ unended_settling g.sent.lot.id (driver_of w h.0).rest g.sent.none
+    ∙ unlent_settling g.sent.lot.id (driver_of w h.0).rest g.sent.none
 
 -- and each entry of the lot is one of them
 names_entry : (h : HartNo) (lot : Lot) (j : ℕ) → j < length lot.list.entries → is_token_of (map_id h lot.id j) h.0 (lot_token lot) ≡ true

@@ -2,6 +2,8 @@ pub mod Pooled
 pub mod Tokens
 pub mod SentLots
 pub mod GivenWorld
+pub mod CopiesBeside
+pub mod GivenCopies
 pub mod TokenBytes
 pub mod LosesRows
 pub mod Calm
@@ -13,7 +15,6 @@ pub mod Moves
 pub mod Granted
 pub mod EndPlaces
 pub mod MoreRegisters
-pub mod CopiesBeside
 pub mod RegisterDrains
 pub mod ChannelBytes
 pub mod ChannelCopies

@@ -13,6 +13,7 @@ use Rattle.nc_rules.specs.Plans.{control_step}
 use Rattle.nc_rules.specs.Turns.{lots_after_both}
 use Rattle.nc_rows.specs.Ahead.{act_coming}
 use Rattle.nc_flatness.specs.Copying.{is_poll, polls, is_register, registers_coming}
+use Rattle.nc_flatness.proofs.Rests.{plan_next}
 use Rattle.nc_flatness.specs.Plans.{StepGoes, Loads, Stores, WritesBack, Drops, Gives, Fences, Ends, Zeroes, Flushes, Settles, GivesArea, TakesBack, Marks, Posts, Claims, Registers, Polls, TakesTarget, TakesSource, PlanGoes}
 
 record IsReleased (rest : List Step) : Type 0 where
@@ -67,5 +68,5 @@ more_registers f lots (s ∷ rest) goes on none =
     let behind = none_behind (filter is_register (act_coming s.act)) (registers_coming rest) (sym (later s rest) ∙ none) in
     elim (cases_Bool (is_poll s.act)) [
       | inl poll ↦ let r = polled f lots s rest goes.0 poll in released r.chan r.more (ap registers_coming (sym r.is) ∙ behind)
-      | inr off ↦ more_registers f (lots_after_both s.first s.last lots) rest goes.1 (later_polls (is_poll s.act) (polls rest) on off) behind
+      | inr off ↦ more_registers f (lots_after_both s.first s.last lots) rest (plan_next f lots s rest goes off) (later_polls (is_poll s.act) (polls rest) on off) behind
     ]

@@ -15,12 +15,11 @@ use Rattle.nc_rules.specs.World.{WorldState, driver_of}
 use Rattle.nc_scripts.proofs.LotLaws.{named_so, its_name}
 use Rattle.nc_holds.proofs.ListsA.{all_at, at_get}
 use Rattle.nc_holds.proofs.OwnerLots.{same_named}
-use Rattle.nc_rows.specs.Ahead.{ends}
 use Rattle.nc_flatness.specs.Flatness.{Flatness}
-use Rattle.nc_flatness.specs.Tokens.{lot_token, is_lot_token, TokenStands}
+use Rattle.nc_flatness.specs.Tokens.{lot_token, is_lot_token, ends_lending, TokenStands}
 use Rattle.nc_flatness.proofs.Lents.{AreLending}
 use Rattle.nc_flatness.proofs.Stands.{token_lending}
-use Rattle.nc_flatness.proofs.Tokens.{sent_side, sent_unended, queued_sent, token_lot}
+use Rattle.nc_flatness.proofs.Tokens.{sent_side, sent_unlent, queued_sent, token_lot}
 
 -- the lot whose token is queued by hart h
 pub record IsSent (w : WorldState) (h : ℕ) (label : Label) (first count : ℕ) : Type 0 where
@@ -28,7 +27,7 @@ pub record IsSent (w : WorldState) (h : ℕ) (label : Label) (first count : ℕ)
   pub here : In lot (driver_of w h).lots
   pub named : is_lot (lot_id label first) lot ≡ true
   pub lending : lot.side ≡ sides.Lending
-  pub none : list_any (ends lot.id) (driver_of w h).rest ≡ false
+  pub none : list_any (ends_lending lot.id) (driver_of w h).rest ≡ false
   pub token : entries.Lend label first count ≡ lot_token lot
   pub light : (driver_of w h).fixed.light ≡ true
   pub all : AreLending (lot_id label first) (driver_of w h).lots
@@ -52,7 +51,7 @@ sent sc f w h i label first count flat lt there stood =
       here = t.here;
       named = t.is;
       lending = sent_side d.rest t.lot is.0;
-      none = sent_unended d.rest t.lot is.0;
+      none = sent_unlent d.rest t.lot is.0;
       token = is.1;
       light = light;
       all = token_lending d.rest q d.lots e (lot_id label first) queued refl stand;
@@ -63,5 +62,5 @@ pub sent_one : (sc : Scenario) (f : List ℕ) (w : WorldState) (h : ℕ) (label 
     → other ≡ s.lot
 sent_one sc f w h label first count other flat there s here named = same_named (driver_of w h).lots (lot_id label first) other s.lot (flat.world.holds.each h there).driver.apart here s.here named s.named
 
-pub sent_none : (w : WorldState) (h : ℕ) (label : Label) (first count : ℕ) → IsSent w h label first count → list_any (ends (lot_id label first)) (driver_of w h).rest ≡ false
-sent_none w h label first count s = subst (λ (id : LotId). list_any (ends id) (driver_of w h).rest ≡ false) (named_so s.lot (lot_id label first) s.named) s.none
+pub sent_none : (w : WorldState) (h : ℕ) (label : Label) (first count : ℕ) → IsSent w h label first count → list_any (ends_lending (lot_id label first)) (driver_of w h).rest ≡ false
+sent_none w h label first count s = subst (λ (id : LotId). list_any (ends_lending id) (driver_of w h).rest ≡ false) (named_so s.lot (lot_id label first) s.named) s.none

@@ -14,8 +14,8 @@ use Rattle.nc_model.specs.declared.owners.Owner.TheVariants.{Lending, Returning,
 use Rattle.nc_scen.specs.Regions.{slots_of}
 use Rattle.nc_scen.specs.declared.scenario.Scenario.{Scenario}
 use Rattle.nc_rules.specs.Calls.{drain_next}
-use Rattle.nc_rules.specs.Driver.{DriverState, in_hand, lent}
-use Rattle.nc_rules.specs.Lots.{DriverConfig, lot_id}
+use Rattle.nc_rules.specs.Driver.{DriverState, lent}
+use Rattle.nc_rules.specs.Lots.{lot_id}
 use Rattle.nc_rules.specs.Machine.{queue_of}
 use Rattle.nc_rules.specs.EventTouches.{owner_of}
 use Rattle.nc_rules.specs.World.{WorldState, driver_of}
@@ -29,14 +29,13 @@ use Rattle.nc_row_moves.proofs.PartMoves.{parts_stay}
 use Rattle.nc_row_moves.proofs.PlaceDrains.{leaves as entry_leaves}
 use Rattle.nc_row_moves.proofs.RowDrains.{rows_drain}
 use Rattle.nc_flatness.specs.Books.{book_of, mapping_in, LiesIn, IsPooled}
-use Rattle.nc_flatness.specs.Copying.{CopyStands}
 use Rattle.nc_flatness.specs.Flatness.{Drives, IsUnseen, BytesStand}
 use Rattle.nc_flatness.specs.Tokens.{TokenStands}
 use Rattle.nc_flatness.proofs.BookReads.{driver_here, driver_away, queued_to, pool_unheld}
 use Rattle.nc_flatness.proofs.Lents.{drives_lent}
-use Rattle.nc_flatness.proofs.Owned.{copy_full}
 use Rattle.nc_flatness.proofs.Stands.{drain_stands}
 use Rattle.nc_flat_moves.proofs.Calm.{calm_of}
+use Rattle.nc_flat_moves.proofs.GivenCopies.{copying_behind}
 use Rattle.nc_flat_moves.proofs.GivenWorld.{given_driver, given_world, IsGiving, lent_driver, drivers_there, book_given, named_unsettled, IsGivenAt, Given, Kept, given_at}
 use Rattle.nc_flat_moves.proofs.LosesRows.{nowhere}
 use Rattle.nc_flat_moves.proofs.Pooled.{either_by, loan_pooled}
@@ -81,21 +80,6 @@ tokens_behind sc f w h i label first count k g lt light =
           subst (λ (e : DriverState). All (TokenStands e.rest (queue_of m k)) e.lots) (sym same)
           (subst (λ (q : List Entry). All (TokenStands (driver_of w k).rest q) (driver_of w k).lots) (sym (loses.others k ne)) (g.flat.bytes.tokens k lt (ap (λ (e : DriverState). e.fixed.light) (sym same) ∙ light)))
     ]
-
--- with light fences no copy is in hand
-copying_behind : (sc : Scenario) (f : List ℕ) (w : WorldState) (h : HartNo) (i : ℕ) (label : Label) (first count k : ℕ) → IsGiving sc f w h i label first count → k < length sc.harts → CopyStands sc f (given_world w h i label first) k
-copying_behind sc f w h i label first count k g lt c hand begun =
-    let m = drain_next w.machine h.0 i in
-    let went = lent (driver_of w h.0) label first in
-    let same : in_hand (driver_of (given_world w h i label first) k) ≡ in_hand (driver_of w k) = elim (cases_eq k h.0) [
-      | inl own ↦
-          ap (λ (j : ℕ). in_hand (driver_of (given_world w h i label first) j)) own ∙ ap in_hand (driver_here w h m went (drivers_there sc f w h i label first count g) ∙ lent_driver (driver_of w h.0) label first)
-          ∙ ap (λ (j : ℕ). in_hand (driver_of w j)) (sym own)
-      | inr ne ↦ ap in_hand (driver_away w h m went k ne)
-    ] in
-    let full = copy_full sc w k c.chan c.src c.src_off c.dst c.dst_off c.len c.config g.covered g.flat.world lt (sym same ∙ hand) in
-    let light : (driver_of w k).fixed.light ≡ (driver_of w h.0).fixed.light = ap (λ (x : DriverConfig). x.light) (g.flat.world.fixed k lt) ∙ sym (ap (λ (x : DriverConfig). x.light) (g.flat.world.fixed h.0 g.lt)) in
-    absurd (both_ways (driver_of w k).fixed.light full (light ∙ g.sent.light))
 
 -- ---- rows
 

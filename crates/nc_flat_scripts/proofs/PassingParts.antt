@@ -31,6 +31,7 @@ use Rattle.nc_flatness.specs.Tokens.{lot_token, is_lot_token, is_lending_side, T
 use Rattle.nc_flatness.proofs.BookReads.{loan_gone, rest_away, rest_here, seen_alike, StillAllocates, may_to, allocating}
 use Rattle.nc_flatness.proofs.Lasts.{last_stays}
 use Rattle.nc_flatness.proofs.Outcomes.{gone}
+use Rattle.nc_flatness.proofs.Rests.{unended_unlent}
 use Rattle.nc_flatness.proofs.Tokens.{unended_settling}
 use Rattle.nc_flat_scripts.proofs.LastLoads.{last_none}
 use Rattle.nc_flat_scripts.proofs.OtherCopies.{CopiesNone}
@@ -166,7 +167,7 @@ lasts_passed sc f w h n went p last k =
 -- ---- tokens
 
 rest_sent : (r s : List Step) (q k : List Entry) (lot : Lot) → EndsNone r → EndsNone s → filter (is_lot_token lot.id) k ≡ filter (is_lot_token lot.id) q → TokenStands r q lot → TokenStands s k lot
-rest_sent r s q k lot was left same is = same ∙ is ∙ ap (λ (t : Bool). if is_lending_side lot.side && not t then lot_token lot ∷ [] else []) (was lot.id ∙ sym (left lot.id))
+rest_sent r s q k lot was left same is = same ∙ is ∙ ap (λ (t : Bool). if is_lending_side lot.side && not t then lot_token lot ∷ [] else []) (unended_unlent lot.id r (was lot.id) ∙ sym (unended_unlent lot.id s (left lot.id)))
 
 pub tokens_passed : (sc : Scenario) (f : List ℕ) (w : WorldState) (h : HartNo) (n : MachineState) (went : Went) → Passes sc f w h went → ((g : ℕ) (id : LotId) → filter (is_lot_token id) (queue_of n g) ≡ filter (is_lot_token id) (queue_of w.machine g))
     → (g : ℕ) → g < length sc.harts → (driver_of (gone w h n went) g).fixed.light ≡ true → All (TokenStands (driver_of (gone w h n went) g).rest (queue_of n g)) (driver_of (gone w h n went) g).lots

@@ -24,6 +24,7 @@ use Rattle.nc_flatness.specs.Books.{mapping_in}
 use Rattle.nc_flatness.specs.Flatness.{Flatness}
 use Rattle.nc_flatness.specs.Plans.{IsStill, StillDevice, StillSynced, StillOwn, StillSent}
 use Rattle.nc_flatness.proofs.Owned.{IsMapped, mapped}
+use Rattle.nc_flatness.proofs.Rests.{unended_unlent}
 use Rattle.nc_flatness.proofs.Tokens.{lent_sent, sent_named}
 use Rattle.nc_flat_scripts.specs.Entering.{IsPosted}
 
@@ -73,7 +74,7 @@ untaken_at sc f w h x n flat still lt e hart =
 sent_posted : (sc : Scenario) (f : List ℕ) (w : WorldState) (n : MapId) (x : ℕ) → Flatness sc f w → (m : IsMapped w n x) → IsSent (driver_of w n.hart.0).fixed m.is.lot → EndsNone (driver_of w n.hart.0).rest → list_any (names n) (map bare (queue_of w.machine n.hart.0)) ≡ true
 sent_posted sc f w n x flat m sent none =
     any_bare (names n) (bare_names n) (queue_of w.machine n.hart.0)
-    ∙ sent_named sc f w n m.loan flat m.is sent.light (lent_sent (driver_of w n.hart.0).rest m.is.lot sent.side (none m.is.lot.id))
+    ∙ sent_named sc f w n m.loan flat m.is sent.light (lent_sent (driver_of w n.hart.0).rest m.is.lot sent.side (unended_unlent m.is.lot.id (driver_of w n.hart.0).rest (none m.is.lot.id)))
 
 -- and of each that it lends the token is queued
 pub posted_at : (sc : Scenario) (f : List ℕ) (w : WorldState) (h x : ℕ) → Flatness sc f w → All (IsStill (driver_of w h).fixed) (driver_of w h).lots → EndsNone (driver_of w h).rest → x < sc.ram → IsPosted (owner_of w) w.machine h x

@@ -1,7 +1,9 @@
 -- A copy's stores to its channel's registers, its poll and its release, as events: the bytes of flat memory stand behind
 -- them.
-use Rattle.std.specs.Prelude.{Some, None, Bool, true, All}
+use Rattle.std.specs.Prelude.{Some, None, Bool, true, false, not, All}
+use Rattle.std.specs.List.{list_any}
 use Rattle.std.proofs.Common.{◌≡◌, ◌⊎◌, ℕ, List, [], ◌∷◌, refl, sym, ap, ◌∙◌, inl, inr, subst}
+use Rattle.std.proofs.lemmas.Bool.{and_parts}
 use Rattle.nc_num.specs.declared.names.ChanNo.{ChanNo}
 use Rattle.nc_num.specs.declared.names.HartNo.{HartNo}
 use Rattle.nc_queue.specs.declared.entry.Entry.TheVariants.{Reg}
@@ -11,6 +13,7 @@ use Rattle.nc_ops.specs.declared.ops.Op.{Op}
 use Rattle.nc_scen.specs.declared.events.Event.TheVariants as events
 use Rattle.nc_scen.specs.declared.scenario.Scenario.{Scenario}
 use Rattle.nc_rules.specs.declared.lots.Lot.{Lot}
+use Rattle.nc_rules.specs.declared.lots.LotId.{LotId}
 use Rattle.nc_rules.specs.declared.steps.Act.{Act}
 use Rattle.nc_rules.specs.declared.steps.Act.TheVariants as acts
 use Rattle.nc_rules.specs.declared.steps.Next.TheVariants as nexts
@@ -20,10 +23,12 @@ use Rattle.nc_rules.specs.declared.steps.Seen.{Seen}
 use Rattle.nc_rules.specs.declared.steps.Seen.TheVariants as seen
 use Rattle.nc_rules.specs.declared.steps.Step.{Step}
 use Rattle.nc_rules.specs.declared.steps.Turn.TheVariants as turns
-use Rattle.nc_rules.specs.Calls.{issue_next, control_of}
+use Rattle.nc_rules.specs.Calls.{issue_next, control_of, io_waits}
 use Rattle.nc_rules.specs.Driver.{in_hand, is_script, kept, busy, done}
+use Rattle.nc_rules.specs.Events.{is_over}
 use Rattle.nc_rules.specs.Flat.{all_marks}
 use Rattle.nc_rules.specs.Lots.{DriverConfig}
+use Rattle.nc_rules.specs.Machine.{queue_of}
 use Rattle.nc_rules.specs.Plans.{step, control_step}
 use Rattle.nc_rules.specs.Records.{op_records}
 use Rattle.nc_rules.specs.Turns.{lots_after_both}
@@ -33,17 +38,19 @@ use Rattle.nc_scripts.specs.Drivers.{IsAtWork, IsPhase, ClaimsFirst, ClaimsNothi
 use Rattle.nc_rows.specs.Parts.{rest_last}
 use Rattle.nc_flatness.specs.Copying.{polls, SawDone}
 use Rattle.nc_flatness.specs.Lending.{is_lending}
-use Rattle.nc_flatness.specs.Plans.{IsStill, StepGoes, Loads, Stores, WritesBack, Drops, Gives, Fences, Ends, Zeroes, Flushes, Settles, GivesArea, TakesBack, Marks, Posts, Claims, Registers, Polls, TakesTarget, TakesSource, IsRegister, IsPoll, PlanGoes, EndsOne}
+use Rattle.nc_flatness.specs.Plans.{IsStill, StepGoes, Loads, Stores, WritesBack, Drops, Gives, Fences, Ends, Zeroes, Flushes, Settles, GivesArea, TakesBack, Marks, Posts, Claims, Registers, Polls, TakesTarget, TakesSource, IsRegister, IsPoll, lots_behind, PlanGoes, EndsOne}
 use Rattle.nc_flatness.specs.Steps.{OfClaim, OfChannel, OfLots, kind_of_act, kind_of_next, Goes, TransfersAreFlat}
 use Rattle.nc_flatness.proofs.Outcomes.{gone, goes_go, goes_silent}
-use Rattle.nc_flatness.proofs.Rests.{ends_one_next}
+use Rattle.nc_flatness.specs.Tokens.{is_lending_side, ends_lending, TokenStands}
+use Rattle.nc_flatness.proofs.Rests.{ends_one_next, given_same}
+use Rattle.nc_flatness.proofs.Stands.{poll_unlent}
 use Rattle.nc_flat_scripts.proofs.OpActs.{enters}
 use Rattle.nc_flat_scripts.proofs.ScriptEvents.{IsHere, here_by, next_there, may_next, outcome_is, op_is, poll_is}
 use Rattle.nc_flat_scripts.proofs.SendEvents.{next_work}
 use Rattle.nc_flat_scripts.proofs.TransferCopies.{copies_own, copies_on}
 use Rattle.nc_flat_scripts.proofs.TransferDrivers.{at_work, IsWent, done_so}
 use Rattle.nc_flat_scripts.proofs.TransferFrames.{IsMade, step_stands}
-use Rattle.nc_flat_scripts.proofs.TransferPolls.{poll_finds, sees_done}
+use Rattle.nc_flat_scripts.proofs.TransferPolls.{not_so, none_tokens, poll_finds, sees_done}
 use Rattle.nc_flat_scripts.proofs.TransferRows.{Leaves, Sets}
 
 -- ---- the plan in hand
@@ -171,8 +178,19 @@ channel_step f lots s rest kind (TakesBack is) = lots_kind s _ is.step kind refl
 channel_step f lots s rest kind (Marks is) = lots_kind s _ is.step kind refl
 channel_step f lots s rest kind (Posts is) = lots_kind s _ is.step kind refl
 
+-- the poll waits for each token, so no lot is being lent
+none_lent : (sc : Scenario) (f : List ℕ) (w : WorldState) (h : HartNo) (o : Op) (chan : ChanNo) (rest : List Step) → IsHere sc f w h → in_hand (driver_of w h.0) ≡ Some o → (driver_of w h.0).phase ≡ Work → (driver_of w h.0).rest ≡ step (acts.Poll chan) ∷ rest
+    → All (IsStill (driver_of w h.0).fixed) (driver_of w h.0).lots → ((id : LotId) → list_any (ends_lending id) rest ≡ false) → All (λ lot. is_lending_side lot.side ≡ false) (driver_of w h.0).lots
+none_lent sc f w h o chan rest here hand phase all still lent =
+    let d = driver_of w h.0 in
+    let q = queue_of w.machine h.0 in
+    let s = step (acts.Poll chan) in
+    let may = and_parts (not (io_waits w.machine h.0)) (is_over (control_of w.machine chan.0)) (may_next sc f w h (nexts.Poll chan) here (next_work d o (s ∷ rest) hand phase all)) in
+    poll_unlent d.fixed (s ∷ rest) q d.lots still lent (λ id e queued. none_tokens q id e (not_so (io_waits w.machine h.0) may.0) queued)
+    (λ light. subst (λ (r : List Step). All (TokenStands r q) d.lots) all (here.now.flat.bytes.tokens h.0 here.lt light))
+
 step_by : (sc : Scenario) (f : List ℕ) (w : WorldState) (h : HartNo) (o : Op) (s : Step) (rest : List Step) → IsHere sc f w h → in_hand (driver_of w h.0) ≡ Some o → is_lending o ≡ true → (driver_of w h.0).phase ≡ Work → (driver_of w h.0).rest ≡ s ∷ rest
-    → PlanGoes (driver_of w h.0).fixed (lots_after_both s.first s.last (driver_of w h.0).lots) rest → ((driver_of w h.0).fixed.light ≡ true → EndsOne rest) → IsRegister (driver_of w h.0).fixed (driver_of w h.0).lots s rest ⊎ IsPoll (driver_of w h.0).fixed (driver_of w h.0).lots s rest
+    → PlanGoes (driver_of w h.0).fixed (lots_after_both s.first s.last (lots_behind s.act (driver_of w h.0).lots)) rest → ((driver_of w h.0).fixed.light ≡ true → EndsOne rest) → IsRegister (driver_of w h.0).fixed (driver_of w h.0).lots s rest ⊎ IsPoll (driver_of w h.0).fixed (driver_of w h.0).lots s rest
     → Goes sc f w (events.Issue h)
 step_by sc f w h o s rest here hand lends phase all left one (inl is) =
     let d = driver_of w h.0 in
@@ -183,19 +201,21 @@ step_by sc f w h o s rest here hand lends phase all left one (inl is) =
       lends = lends;
       phase = phase;
       rest_is = all ∙ ap (λ (t : Step). t ∷ rest) is.step;
-      left = subst (λ (t : Step). PlanGoes d.fixed (lots_after_both t.first t.last d.lots) rest) is.step left;
+      left = subst (λ (t : Step). PlanGoes d.fixed (lots_after_both t.first t.last (lots_behind t.act d.lots)) rest) is.step left;
       one = one;
     }) is.still is.next
 step_by sc f w h o s rest here hand lends phase all left one (inr is) =
     let d = driver_of w h.0 in
+    let at : d.rest ≡ step (acts.Poll is.chan) ∷ rest = all ∙ ap (λ (t : Step). t ∷ rest) is.step in
+    let behind = subst (λ (t : Step). PlanGoes d.fixed (lots_after_both t.first t.last (lots_behind t.act d.lots)) rest) is.step left in
     polled_goes sc f w h o is.chan rest is.more
     (record {
       here = here;
       hand = hand;
       lends = lends;
       phase = phase;
-      rest_is = all ∙ ap (λ (t : Step). t ∷ rest) is.step;
-      left = subst (λ (t : Step). PlanGoes d.fixed (lots_after_both t.first t.last d.lots) rest) is.step left;
+      rest_is = at;
+      left = subst (λ (ls : List Lot). PlanGoes d.fixed ls rest) (given_same d.lots (none_lent sc f w h o is.chan rest here hand phase at is.still is.lent)) behind;
       one = one;
     }) is.still is.release
 

@@ -24,7 +24,7 @@ use Rattle.nc_rules.specs.EventTouches.{owner_of}
 use Rattle.nc_rules.specs.World.{WorldState, driver_of, owners_moved}
 use Rattle.nc_calls.specs.PlaceLaws.{NotHeld}
 use Rattle.nc_scripts.proofs.Lists.{all_to}
-use Rattle.nc_rows.specs.Ahead.{ends, is_full, settling, coming}
+use Rattle.nc_rows.specs.Ahead.{is_full, settling, coming}
 use Rattle.nc_rows.specs.Places.{CalmRow}
 use Rattle.nc_rows.specs.Rows.{Book, Row}
 use Rattle.nc_rows.specs.Parts.{IsDropped, Queued, MayBeHeld, rest_last, Lasts}
@@ -32,10 +32,11 @@ use Rattle.nc_flatness.specs.Books.{book_of}
 use Rattle.nc_flatness.specs.Copying.{CopyStands}
 use Rattle.nc_flatness.specs.Flatness.{Drives, BytesStand, Flatness}
 use Rattle.nc_flatness.specs.Plans.{IsStill}
-use Rattle.nc_flatness.specs.Tokens.{lot_token, is_lot_token, is_lending_side, TokenStands}
+use Rattle.nc_flatness.specs.Tokens.{lot_token, is_lot_token, is_lending_side, ends_lending, TokenStands}
 use Rattle.nc_flatness.proofs.BookReads.{loan_gone, rest_away, rest_here, buffer_gone, queued_to, zeroed_to, StillAllocates, may_to, allocating}
 use Rattle.nc_flatness.proofs.Lasts.{last_stays}
 use Rattle.nc_flatness.proofs.Outcomes.{gone}
+use Rattle.nc_flatness.proofs.Rests.{plain_unlent}
 use Rattle.nc_flat_scripts.proofs.ActRows.{calm_at, tokens_pushed, queued_more, entry_lasts}
 use Rattle.nc_flat_scripts.proofs.LastLoads.{last_none}
 use Rattle.nc_flat_scripts.proofs.PassingParts.{placed_by, pooled_by, slotted_by, unseen_before}
@@ -166,7 +167,7 @@ lasts_on sc f w h n went s k g =
 -- a lot's token, as the step goes off
 token_on : (s : Step) (rest : List Step) (q r : List Entry) (lot : Lot) → IsOfNone s → filter (is_lot_token lot.id) r ≡ filter (is_lot_token lot.id) q → TokenStands (s ∷ rest) q lot → TokenStands rest r lot
 token_on s rest q r lot none same is =
-    same ∙ is ∙ ap (λ (t : Bool). if is_lending_side lot.side && not (t || list_any (ends lot.id) rest) then lot_token lot ∷ [] else []) (none.ends lot.id)
+    same ∙ is ∙ ap (λ (t : Bool). if is_lending_side lot.side && not (t || list_any (ends_lending lot.id) rest) then lot_token lot ∷ [] else []) (plain_unlent lot.id s (none.ends lot.id))
 
 lots_tokens : (sc : Scenario) (f : List ℕ) (w : WorldState) (h : HartNo) (n : MachineState) (went : Went) (s : Step) (g : ℕ) → IsMade sc f w h n went s → g < length sc.harts → (driver_of (gone w h n went) g).fixed.light ≡ true
     → All (TokenStands (driver_of (gone w h n went) g).rest (queue_of n g)) (driver_of (gone w h n went) g).lots

@@ -1,7 +1,7 @@
 -- The poll of a copy: its channel is done with no error, and the destination has the source's bytes.
 use Rattle.std.specs.Prelude.{Bool, true, false, not, drop}
 use Rattle.std.specs.List.{list_any}
-use Rattle.std.proofs.Common.{◌≡◌, ℕ, zero, suc, ◌<◌, List, [], ◌∷◌, ◌++◌, refl, sym, ap, ◌∙◌, subst, arith}
+use Rattle.std.proofs.Common.{◌≡◌, ℕ, zero, suc, ◌<◌, List, [], ◌∷◌, ◌++◌, refl, sym, ap, ◌∙◌, inl, inr, subst, arith}
 use Rattle.std.proofs.lemmas.Bool.{and_parts, and_from, or_parts, or_from, false≢true}
 use Rattle.std.proofs.lemmas.List.Elements.{All-head, All-tail}
 use Rattle.nc_num.specs.declared.names.ChanNo.{ChanNo}
@@ -10,8 +10,10 @@ use Rattle.nc_num.specs.declared.places.Span.{Span}
 use Rattle.nc_queue.specs.Entries.{is_o}
 use Rattle.nc_queue.specs.declared.entry.Entry.{Entry}
 use Rattle.nc_queue.specs.declared.entry.Entry.TheVariants.{Store, Cbo, Reg, Mail, Lend, Mark}
+use Rattle.nc_plan.specs.Plans.{In}
 use Rattle.nc_pdma_regs.specs.Control.{bit}
 use Rattle.nc_scen.specs.declared.scenario.Scenario.{Scenario}
+use Rattle.nc_rules.specs.declared.lots.LotId.{LotId}
 use Rattle.nc_rules.specs.declared.steps.Act.TheVariants as acts
 use Rattle.nc_rules.specs.declared.steps.Next.TheVariants as nexts
 use Rattle.nc_rules.specs.declared.steps.Seen.TheVariants as seen
@@ -25,6 +27,7 @@ use Rattle.nc_scripts.specs.Drivers.{is_claim, ClaimsNothing}
 use Rattle.nc_transfers.specs.Transfers.{Ends, IsMoved, IsCopying}
 use Rattle.nc_transfers.proofs.Telling.{copies_tell}
 use Rattle.nc_flatness.specs.Copying.{CopyOp, claims, polls, transfers, registers, registers_coming, register_entries, IsUnderWay, SawDone, IsCopyNow}
+use Rattle.nc_flatness.specs.Tokens.{is_lot_token}
 
 -- ---- no entry of class O is queued
 
@@ -37,7 +40,21 @@ none_registers (Mail buf to ∷ q) none = none_registers q (or_parts (is_o (Mail
 none_registers (Lend label first count ∷ q) none = none_registers q (or_parts (is_o (Lend label first count)) (list_any is_o q) none).1
 none_registers (Mark pred succ ∷ q) none = none_registers q (or_parts (is_o (Mark pred succ)) (list_any is_o q) none).1
 
-not_so : (b : Bool) → not b ≡ true → b ≡ false
+-- nor a token
+io_token : (id : LotId) (e : Entry) → is_o e ≡ false → is_lot_token id e ≡ false
+io_token id (Lend label first count) none = absurd (false≢true (sym none))
+io_token id (Store span bytes kind) none = refl
+io_token id (Cbo block op) none = refl
+io_token id (Reg chan off width value) none = refl
+io_token id (Mail buf to) none = refl
+io_token id (Mark pred succ) none = refl
+
+pub none_tokens : (q : List Entry) (id : LotId) (e : Entry) → list_any is_o q ≡ false → In e q → is_lot_token id e ≡ false
+none_tokens [] id e none here = absurd here
+none_tokens (x ∷ q) id e none (inl same) = ap (is_lot_token id) (sym same) ∙ io_token id x (or_parts (is_o x) (list_any is_o q) none).0
+none_tokens (x ∷ q) id e none (inr here) = none_tokens q id e (or_parts (is_o x) (list_any is_o q) none).1 here
+
+pub not_so : (b : Bool) → not b ≡ true → b ≡ false
 not_so true is = absurd (false≢true is)
 not_so false is = refl
 
