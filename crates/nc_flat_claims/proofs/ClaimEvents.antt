@@ -1,5 +1,5 @@
 -- The claim of a copy's channel, as an event.
-use Rattle.std.specs.Prelude.{Option, Some, None, true, false}
+use Rattle.std.specs.Prelude.{Option, Some, None, true}
 use Rattle.std.proofs.Common.{◌≡◌, ℕ, ◌<◌, List, [], ◌∷◌, refl, sym, ap, ◌∙◌, subst}
 use Rattle.nc_num.specs.declared.names.ChanNo.{ChanNo}
 use Rattle.nc_num.specs.declared.names.HartNo.{HartNo}
