@@ -1,5 +1,5 @@
 -- The claim of a free channel: the places of both ends begin to be lent.
-use Rattle.std.specs.Prelude.{Option, Some, None, true, false, slice_get}
+use Rattle.std.specs.Prelude.{Option, Some, None, All, true, false, slice_get}
 use Rattle.std.specs.List.{list_any}
 use Rattle.std.proofs.Common.{◌≡◌, ◌⊎◌, ℕ, List, [], ◌∷◌, ◌++◌, length, refl, sym, ap, ◌∙◌, inl, inr, subst}
 use Rattle.std.proofs.lemmas.Bool.{both_ways, or_parts}
@@ -11,6 +11,7 @@ use Rattle.nc_num.specs.declared.places.Span.{Span}
 use Rattle.nc_model.specs.declared.owners.Owner.{Owner}
 use Rattle.nc_model.specs.declared.owners.Owner.TheVariants.{Thread, Lending}
 use Rattle.nc_own.specs.Books.{owner_in}
+use Rattle.nc_queue.specs.declared.entry.Entry.{Entry as QueueEntry}
 use Rattle.nc_ops.specs.declared.ops.Op.{Op}
 use Rattle.nc_scen.specs.Regions.{pool_of, slots_of}
 use Rattle.nc_scen.specs.declared.events.Event.TheVariants as events
@@ -27,11 +28,12 @@ use Rattle.nc_rules.specs.Driver.{DriverState, Went, stands}
 use Rattle.nc_rules.specs.declared.steps.Phase.TheVariants.{Work}
 use Rattle.nc_rules.specs.declared.steps.Seen.TheVariants as seen
 use Rattle.nc_rules.specs.Lots.{DriverConfig, is_lot, map_id, owner_of_side}
-use Rattle.nc_rules.specs.Machine.{MachineState, hart_of}
+use Rattle.nc_rules.specs.Machine.{MachineState, hart_of, queue_of}
 use Rattle.nc_rules.specs.Outcomes.{goes, outcome}
 use Rattle.nc_rules.specs.Turns.{of_those, to_side, lots_after_both}
 use Rattle.nc_rules.specs.EventTouches.{owner_of}
 use Rattle.nc_rules.specs.World.{WorldState, driver_of, owners_moved}
+use Rattle.nc_scripts.proofs.Lists.{all_in, all_to}
 use Rattle.nc_scripts.proofs.LotLaws.{its_name}
 use Rattle.nc_holds.proofs.ListsA.{of_append}
 use Rattle.nc_holds.proofs.OwnerLots.{same_named}
@@ -45,12 +47,15 @@ use Rattle.nc_rows.proofs.Steps.{steps_ahead}
 use Rattle.nc_flatness.specs.Books.{loan_of, book_of, mapping_in, LiesIn}
 use Rattle.nc_flatness.specs.Copying.{IsItsOwn}
 use Rattle.nc_flatness.specs.Flatness.{PlanOf, Drives, BytesStand}
-use Rattle.nc_flatness.specs.Plans.{PlanGoes}
+use Rattle.nc_flatness.specs.Plans.{HasLend, PlanGoes}
+use Rattle.nc_flatness.specs.Tokens.{is_lending_side, is_sent, TokenStands}
 use Rattle.nc_flatness.proofs.CopySteps.{both_from}
-use Rattle.nc_flatness.proofs.Lents.{sides_mapping}
+use Rattle.nc_flatness.proofs.Lents.{all_sided, sides_mapping}
 use Rattle.nc_flatness.proofs.Outcomes.{gone}
 use Rattle.nc_flatness.proofs.Owned.{owned_ram, mapped}
-use Rattle.nc_flatness.proofs.Rests.{ends_one_next}
+use Rattle.nc_flatness.proofs.Rests.{ends_one_next, claim_lends, turn_name}
+use Rattle.nc_flatness.proofs.Stands.{none_stands}
+use Rattle.nc_flatness.proofs.Tokens.{ended_unsent, unlent_unsent}
 use Rattle.nc_flat_scripts.proofs.ActRows.{stays_row}
 use Rattle.nc_flat_scripts.proofs.TransferDrivers.{plan_left}
 use Rattle.nc_flat_starts.proofs.Bases.{me_of, member_beside, member_owner}
@@ -62,7 +67,7 @@ use Rattle.nc_flat_starts.proofs.TurnBytes.{turn_bytes}
 use Rattle.nc_flat_claims.proofs.ClaimCopies.{IsFreeClaim, claimed_copy}
 use Rattle.nc_flat_claims.proofs.ClaimDrivers.{one_lent, both_lent, IsLent, behind_so, far_ends, loan_kept}
 use Rattle.nc_flat_claims.proofs.ClaimEnds.{both_lot, EndPlace, end_place, off_ends, IsEndLot, its_end, ends_lent}
-use Rattle.nc_flat_claims.proofs.Claimings.{IsClaiming, its_full, its_holds, its_silent, its_restful}
+use Rattle.nc_flat_claims.proofs.Claimings.{IsClaiming, its_holds, untokened, its_unlent, its_silent, its_restful}
 use Rattle.nc_flat_claims.proofs.ClaimRests.{step_is}
 use Rattle.nc_flat_claims.proofs.EndRows.{end_row}
 use Rattle.nc_flat_claims.proofs.ClaimMachines.{IsClaimNext, claim_goes_by, claim_queued, claim_calm}
@@ -104,6 +109,22 @@ its_drives sc f w h o s rest k =
       stands = subst (λ (p : Option Op). PlanOf now p) (sym k.hand) ((plan_left now o k.lends).is (record { goes = goes; one = λ light. ends_one_next s rest (k.one light) }));
       idle = tt;
     }
+
+-- no token is queued, and the rest is still to lend both ends
+lent_stand : (sc : Scenario) (f : List ℕ) (w : WorldState) (h : HartNo) (o : Op) (s : Step) (rest : List Step) → IsClaiming sc f w h o s rest → All (TokenStands rest (queue_of w.machine h.0)) (both_lent (driver_of w h.0).lots)
+lent_stand sc f w h o s rest k =
+    let d = driver_of w h.0 in
+    let c = k.claim in
+    let lends = claim_lends d.fixed c.chan c.config c.reads c.writes s rest c.steps in
+    let unsent : Lot → Type 0 = λ lot. is_sent rest lot ≡ false in
+    let end_unsent : (id : LotId) (lot : Lot) → HasLend id rest → is_lot id lot ≡ true → is_sent rest (record lot { side = sides.Lending }) ≡ false =
+    λ id lot has named. ended_unsent rest (record lot { side = sides.Lending }) (subst (λ (i : LotId). HasLend i rest) (sym (turn_name lot.id id named)) has) in
+    let none : All (λ (lot : Lot). is_lending_side lot.side ≡ false) d.lots = all_in (λ (lot : Lot). is_lending_side lot.side ≡ false) d.lots (λ lot there. its_unlent sc f w h o s rest lot k there) in
+    let one : All unsent (one_lent d.lots) =
+    all_sided (λ (lot : Lot). is_lending_side lot.side ≡ false) unsent sides.Lending source d.lots none (λ lot off named. end_unsent source lot (subst (λ (i : LotId). HasLend i rest) c.source_is.id_is lends.0) named) (λ lot off miss. unlent_unsent rest lot off) in
+    let both : All unsent (both_lent d.lots) =
+    all_sided unsent unsent sides.Lending target (one_lent d.lots) one (λ lot off named. end_unsent target lot (subst (λ (i : LotId). HasLend i rest) c.target_is.id_is lends.1) named) (λ lot off miss. off) in
+    all_to unsent (TokenStands rest (queue_of w.machine h.0)) (both_lent d.lots) both (λ lot off. none_stands rest (queue_of w.machine h.0) lot (λ e queued. untokened sc f w h o s rest lot.id e k queued) off)
 
 pub claimed_bytes : (sc : Scenario) (f : List ℕ) (w : WorldState) (h : HartNo) (o : Op) (s : Step) (rest : List Step) (m : MachineState) (went : Went) → (k : IsClaiming sc f w h o s rest) → IsClaimNext w m → IsFreeClaim w h k.claim.chan m → IsLent (driver_of w h.0) rest went
     → outcome w (events.Issue h) ≡ goes w h m went w.slots None [] → BytesStand sc f (gone w h m went)
@@ -174,7 +195,10 @@ claimed_bytes sc f w h o s rest m went k next free lent is =
       drives = subst (λ (j : DriverState). Drives j) (sym lent.driver) (its_drives sc f w h o s rest k);
       lasting = last_none (book_of v) f h.0 (hart_of m h.0).last (rest_last went.driver.rest) (ap rest_last left ∙ c.next);
       queue = claim_queued sc f w h o s rest m (book_of v) (owner_of v) k next;
-      tokens = λ light. absurd (both_ways fx.light (its_full sc f w h o s rest k) (sym (ap (λ (x : DriverConfig). x.light) fixed) ∙ light));
+      tokens = λ light.
+          subst (λ (ls : List Lot). All (TokenStands went.driver.rest (queue_of m h.0)) ls) (sym lots)
+          (subst (λ (r : List Step). All (TokenStands r (queue_of m h.0)) (both_lent d.lots)) (sym left)
+          (subst (λ (q : List QueueEntry). All (TokenStands rest q) (both_lent d.lots)) (sym (next.stays.queues h.0)) (lent_stand sc f w h o s rest k)));
       passes = λ x u there unslotted beside off row. stays_row (book_of w) (owner_of w x) u w.machine m x next.shape next.stays row;
       lies = λ i e x n there place mapped.
           let p = place_so i e x place in

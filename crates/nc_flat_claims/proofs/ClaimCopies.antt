@@ -43,7 +43,7 @@ use Rattle.nc_flat_starts.proofs.Bases.{member_lot, waits_not}
 use Rattle.nc_flat_starts.proofs.Befores.{driven}
 use Rattle.nc_flat_starts.proofs.Frames.{driver_here}
 use Rattle.nc_flat_starts.proofs.Sides.{turned_lot}
-use Rattle.nc_flat_claims.proofs.Claimings.{IsClaiming, its_full, its_holds, its_member}
+use Rattle.nc_flat_claims.proofs.Claimings.{IsClaiming, its_holds, its_member}
 use Rattle.nc_flat_claims.proofs.ClaimDrivers.{both_lent, IsLent, polled, source_behind, target_behind}
 use Rattle.nc_flat_claims.proofs.ClaimRests.{plan_ends, rest_is, its_registers}
 
@@ -159,7 +159,7 @@ under_way sc f w h o s rest m went op k lent free now =
     let ends = copy_ends fx now.from now.to src.entry dst.entry c.config in
     let six : registers_coming rest ≡ register_entries c.chan ends =
     ap registers_coming (rest_is fx d.lots s rest c)
-    ∙ its_registers fx c.chan c.config c.reads c.writes now.from.at now.to.at (its_full sc f w h o s rest k)
+    ∙ its_registers fx c.chan c.config c.reads c.writes now.from.at now.to.at
     ∙ ap (register_entries c.chan) (ends_same fx c.reads c.writes now.from now.to src.entry dst.entry c.config (only_is c.reads src.entry src.only) (only_is c.writes dst.entry dst.only) (ap (λ (x : Span). x.len) src.device_is)) in
     record {
       ends = ends;

@@ -1,8 +1,11 @@
 -- The places of both ends of a copy, as those of one lot: the mappings of the two are numbered one after the other.
-use Rattle.std.specs.Prelude.{Option, Some, None, true, false, slice_get}
-use Rattle.std.proofs.Common.{◌≡◌, ◌⊎◌, ℕ, zero, suc, List, [], ◌∷◌, refl, sym, ap, ◌∙◌, inl, inr, subst}
+use Rattle.std.specs.Prelude.{Option, Some, None, true, false, slice_get, length, ◌==◌, ◌&&◌, ◌+◌, nat_le, nat_lt}
+use Rattle.std.specs.List.{list_any}
+use Rattle.std.proofs.Common.{◌≡◌, ◌⊎◌, ℕ, zero, suc, ◌<◌, List, [], ◌∷◌, refl, sym, ap, ◌∙◌, inl, inr, subst, arith}
+use Rattle.std.proofs.lemmas.Bool.{and_parts, or_from, false_from_ne_true, ltb-true}
 use Rattle.nc_num.specs.Places.{covers}
 use Rattle.nc_num.specs.declared.names.HartNo.{HartNo}
+use Rattle.nc_num.specs.declared.names.MapId.{MapId}
 use Rattle.nc_plan.specs.Plans.{In}
 use Rattle.nc_ops.specs.declared.ops.Op.{Op}
 use Rattle.nc_scen.specs.declared.scenario.Scenario.{Scenario}
@@ -13,19 +16,23 @@ use Rattle.nc_rules.specs.declared.lots.Side.TheVariants as sides
 use Rattle.nc_rules.specs.declared.steps.Step.{Step}
 use Rattle.nc_rules.specs.Copies.{source, target}
 use Rattle.nc_rules.specs.Driver.{DriverState, Went}
-use Rattle.nc_rules.specs.Lots.{map_id}
+use Rattle.nc_rules.specs.Lots.{DriverConfig, map_id}
+use Rattle.nc_rules.specs.Plans.{lending_end}
 use Rattle.nc_rules.specs.Turns.{is_area}
 use Rattle.nc_rules.specs.World.{WorldState, driver_of}
 use Rattle.nc_holds.proofs.ListsA.{same_some}
-use Rattle.nc_rows.specs.Ahead.{ends}
+use Rattle.nc_rows.specs.Ahead.{same_lot, ends, names}
+use Rattle.nc_row_plans.specs.Plans.{IsEntryOf}
+use Rattle.nc_flatness.specs.Plans.{token_step}
+use Rattle.nc_flatness.specs.Tokens.{lot_token}
 use Rattle.nc_flat_starts.proofs.Bases.{IsMember, member_planned}
 use Rattle.nc_flat_starts.proofs.Frames.{IsPlace, IsOff}
 use Rattle.nc_flat_starts.proofs.OpenRows.{writing, sizes}
 use Rattle.nc_flat_starts.proofs.Sides.{turned_lot}
 use Rattle.nc_flat_claims.proofs.ClaimDrivers.{IsLent, source_behind, target_behind}
-use Rattle.nc_flat_claims.proofs.Claimings.{IsClaiming, its_full, its_member, end_entry}
+use Rattle.nc_flat_claims.proofs.Claimings.{IsClaiming, its_member, end_entry}
 use Rattle.nc_flat_claims.proofs.ClaimRests.{behind_source, behind_target, rest_is}
-use Rattle.nc_flat_claims.proofs.EndsAhead.{give_step, LendsEnd, MayLend, first_lent, later_lent}
+use Rattle.nc_flat_claims.proofs.EndsAhead.{give_step, lending_end_by, LendsEnd, MayLend, first_lent, later_lent}
 
 -- ---- both as one
 
@@ -90,8 +97,22 @@ pub record IsEndLot (sc : Scenario) (f : List ℕ) (w : WorldState) (h : HartNo)
   pub may : MayLend (driver_of w h.0).fixed w.machine
   pub lends : LendsEnd (driver_of w h.0).fixed w.machine lot rest
 
-not_its_end : (src dst : Lot) → src.id ≡ source → dst.id ≡ target → ends dst.id (give_step src.id) ≡ false
-not_its_end src dst src_is dst_is = ap (λ (i : LotId). ends dst.id (give_step i)) src_is ∙ ap (λ (i : LotId). ends i (give_step source)) dst_is
+-- the end of the source's lending is none of the target's stay, and its token names no mapping of it
+not_its_end : (f : DriverConfig) (src dst : Lot) → src.id ≡ source → dst.id ≡ target → list_any (ends dst.id) (lending_end f src) ≡ false
+not_its_end f src dst src_is dst_is =
+    let give : ends dst.id (give_step src.id) ≡ false = ap (λ (i : LotId). ends dst.id (give_step i)) src_is ∙ ap (λ (i : LotId). ends i (give_step source)) dst_is in
+    let token : ends dst.id (token_step src) ≡ false = ap (λ (i : LotId). same_lot i dst.id) src_is ∙ ap (λ (i : LotId). same_lot source i) dst_is in
+    lending_end_by (λ (ss : List Step). list_any (ends dst.id) ss ≡ false) f src (or_from (ends dst.id (token_step src)) false token refl) (or_from (ends dst.id (give_step src.id)) false give refl)
+
+token_apart : (src dst : Lot) (n : MapId) → src.id ≡ source → length src.list.entries ≡ 1 → dst.id ≡ target → IsEntryOf n dst → names n (lot_token src) ≡ false
+token_apart src dst n src_is one dst_is entry =
+    false_from_ne_true (names n (lot_token src))
+    (λ is.
+    let inside = (and_parts (src.id.label.0 == n.label.0) (nat_le src.id.first n.entry && nat_lt n.entry (src.id.first + length src.list.entries)) is).1 in
+    let before : n.entry < src.id.first + length src.list.entries = ltb-true n.entry (src.id.first + length src.list.entries) (and_parts (nat_le src.id.first n.entry) (nat_lt n.entry (src.id.first + length src.list.entries)) inside).1 in
+    let zero_first : src.id.first ≡ 0 = ap (λ (i : LotId). i.first) src_is in
+    let one_first : dst.id.first ≡ 1 = ap (λ (i : LotId). i.first) dst_is in
+    omega (arith, before, one, zero_first, one_first, entry.from))
 
 pub its_end : (sc : Scenario) (f : List ℕ) (w : WorldState) (h : HartNo) (o : Op) (s : Step) (rest : List Step) (went : Went) (lot : Lot) → (k : IsClaiming sc f w h o s rest) → IsLent (driver_of w h.0) rest went → (lot ≡ k.claim.reads) ⊎ (lot ≡ k.claim.writes) → IsEndLot sc f w h rest went lot
 its_end sc f w h o s rest went lot k lent which = elim which [
@@ -104,7 +125,6 @@ its_end sc f w h o s rest went lot k lent which = elim which [
       block = k.here.now.flat.world.machine.block_size;
       size = sizes sc f w h k.here.now.flat k.here.lt;
       writes = writing sc f w h k.here.now.flat k.here.lt;
-      unlight = its_full sc f w h o s rest k;
     }
 
     at_source : IsEndLot sc f w h rest went k.claim.reads
@@ -135,6 +155,7 @@ its_end sc f w h o s rest went lot k lent which = elim which [
           behind = subst (λ (e : DriverState). In (turned_lot sides.Lending c.writes) e.lots) (sym lent.driver) (target_behind d.lots c.writes c.target_is.here c.target_is.id_is);
           may = may;
           lends = subst (LendsEnd d.fixed w.machine c.writes) (sym (rest_is d.fixed d.lots s rest c))
-              (later_lent d.fixed w.machine c.reads c.writes (behind_source d.fixed c.chan c.config c.reads c.writes) may (not_its_end c.reads c.writes c.source_is.id_is c.target_is.id_is)
+              (later_lent d.fixed w.machine c.reads c.writes (behind_source d.fixed c.chan c.config c.reads c.writes) (not_its_end d.fixed c.reads c.writes c.source_is.id_is c.target_is.id_is)
+              (λ n entry. token_apart c.reads c.writes n c.source_is.id_is (ap (λ (es : List Entry). length es) (ends_lent sc f w h o s rest k).first_only) c.target_is.id_is entry)
               (first_lent d.fixed w.machine c.writes (behind_target d.fixed c.chan c.config c.reads c.writes) may plain (member_planned sc f w h d.lots c.writes member plain)));
         }

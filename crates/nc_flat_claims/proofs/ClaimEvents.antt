@@ -1,5 +1,5 @@
 -- The claim of a copy's channel, as an event.
-use Rattle.std.specs.Prelude.{Option, Some, None, not, Bool, true, false}
+use Rattle.std.specs.Prelude.{Option, Some, None, true}
 use Rattle.std.proofs.Common.{◌≡◌, ℕ, ◌<◌, List, [], ◌∷◌, refl, sym, ap, ◌∙◌, subst}
 use Rattle.nc_num.specs.declared.names.ChanNo.{ChanNo}
 use Rattle.nc_num.specs.declared.names.HartNo.{HartNo}
@@ -13,28 +13,28 @@ use Rattle.nc_rules.specs.declared.steps.Seen.TheVariants as seen
 use Rattle.nc_rules.specs.declared.steps.Step.{Step}
 use Rattle.nc_rules.specs.declared.steps.Turn.TheVariants as turns
 use Rattle.nc_rules.specs.declared.steps.Phase.TheVariants.{Work}
-use Rattle.nc_rules.specs.Calls.{claim_next, io_waits}
+use Rattle.nc_rules.specs.Calls.{claim_next}
 use Rattle.nc_rules.specs.Driver.{Went, in_hand, next_act, next_of, done, done_of, give_up}
-use Rattle.nc_rules.specs.Events.{may_go_on}
 use Rattle.nc_rules.specs.Lots.{DriverConfig}
 use Rattle.nc_rules.specs.Machine.{grantee_of, queue_of}
 use Rattle.nc_rules.specs.Outcomes.{claim_seen, goes, claim_outcome, step_outcome, outcome}
 use Rattle.nc_rules.specs.World.{WorldState, driver_of}
 use Rattle.nc_calls.proofs.CallProofs.{channels_by_place}
 use Rattle.nc_calls.proofs.SoundLaws.{calls_keep_shape}
-use Rattle.nc_flatness.specs.Copying.{registers}
+use Rattle.nc_flatness.specs.Copying.{is_poll, registers}
 use Rattle.nc_flatness.specs.Lending.{is_lending}
 use Rattle.nc_flatness.specs.Flatness.{BytesStand}
 use Rattle.nc_flatness.specs.Plans.{StepGoes, Loads, Stores, WritesBack, Drops, Gives, Fences, Ends, Zeroes, Flushes, Settles, GivesArea, TakesBack, Marks, Posts, Claims, Registers, Polls, TakesTarget, TakesSource, IsClaim, PlanGoes, EndsOne}
 use Rattle.nc_flatness.specs.Steps.{OfClaim, OfChannel, OfLots, kind_of_act, kind_of_next, Goes, ClaimsAreFlat}
 use Rattle.nc_flatness.proofs.Outcomes.{gone, goes_go, goes_silent}
+use Rattle.nc_flatness.proofs.Rests.{plan_next}
 use Rattle.nc_flat_scripts.proofs.OtherCopies.{claim_keeps}
-use Rattle.nc_flat_scripts.proofs.ScriptEvents.{IsHere, here_by, may_next, outcome_is}
+use Rattle.nc_flat_scripts.proofs.ScriptEvents.{IsHere, here_by, outcome_is}
 use Rattle.nc_flat_scripts.proofs.SendEvents.{next_work}
 use Rattle.nc_flat_scripts.proofs.TransferDrivers.{at_work}
 use Rattle.nc_flat_scripts.proofs.TransferPolls.{none_registers}
 use Rattle.nc_flat_starts.proofs.Bases.{member_lot}
-use Rattle.nc_flat_claims.proofs.Claimings.{IsClaiming, its_member}
+use Rattle.nc_flat_claims.proofs.Claimings.{IsClaiming, its_member, its_quiet}
 use Rattle.nc_flat_claims.proofs.ClaimBytes.{claimed_bytes}
 use Rattle.nc_flat_claims.proofs.ClaimDrivers.{lent_so}
 use Rattle.nc_flat_claims.proofs.ClaimRests.{step_is}
@@ -46,10 +46,6 @@ use Rattle.nc_flat_claims.proofs.Refused.{refused_bytes}
 next_so : (w : WorldState) (h : HartNo) (chan : ChanNo) → IsClaimNext w (claim_next w.machine h chan.0)
 next_so w h chan = record { shape = calls_keep_shape.of_claim w.machine h chan.0; stays = channels_by_place.claim_stays w.machine h chan.0; keeps = λ k. claim_keeps w.machine h chan.0 k.0 }
 
-not_so : (b : Bool) → not b ≡ true → b ≡ false
-not_so true is = absurd cc
-not_so false is = refl
-
 -- ---- what the claim finds
 
 claim_is : (w : WorldState) (h : HartNo) (chan : ChanNo) → step_outcome w h (nexts.Claim chan) ≡ goes w h (claim_next w.machine h chan.0) (done (driver_of w h.0) (claim_seen (grantee_of w.machine chan.0))) w.slots None []
@@ -60,13 +56,13 @@ busy_is : (sc : Scenario) (f : List ℕ) (w : WorldState) (h : HartNo) (o : Op) 
 unfolding done
 busy_is sc f w h o s rest g k = ap (λ (p : Option Op). done_of (driver_of w h.0) (seen.Busy g) p) k.hand
 
-found_bytes : (sc : Scenario) (f : List ℕ) (w : WorldState) (h : HartNo) (o : Op) (s : Step) (rest : List Step) → (k : IsClaiming sc f w h o s rest) → k.claim.chan.0 < 4 → may_go_on w h (nexts.Claim k.claim.chan) ≡ true → (g : Option HartNo) → grantee_of w.machine k.claim.chan.0 ≡ g
+found_bytes : (sc : Scenario) (f : List ℕ) (w : WorldState) (h : HartNo) (o : Op) (s : Step) (rest : List Step) → (k : IsClaiming sc f w h o s rest) → k.claim.chan.0 < 4 → (g : Option HartNo) → grantee_of w.machine k.claim.chan.0 ≡ g
     → outcome w (events.Issue h) ≡ goes w h (claim_next w.machine h k.claim.chan.0) (done (driver_of w h.0) (claim_seen g)) w.slots None []
     → BytesStand sc f (gone w h (claim_next w.machine h k.claim.chan.0) (done (driver_of w h.0) (claim_seen g)))
-found_bytes sc f w h o s rest k few may (Some g) granted is =
+found_bytes sc f w h o s rest k few (Some g) granted is =
     let m = claim_next w.machine h k.claim.chan.0 in
     subst (λ (went : Went). BytesStand sc f (gone w h m went)) (sym (busy_is sc f w h o s rest g k)) (refused_bytes sc f w h o s rest m (refusals.ChannelBusy g) k (next_so w h k.claim.chan))
-found_bytes sc f w h o s rest k few may None free is =
+found_bytes sc f w h o s rest k few None free is =
     let m = claim_next w.machine h k.claim.chan.0 in
     let next = next_so w h k.claim.chan in
     let channel = channels_by_place.claim w.machine h k.claim.chan.0 k.here.now.flat.world.machine few free in
@@ -75,7 +71,7 @@ found_bytes sc f w h o s rest k few may None free is =
       few = few;
       channel = channel.channel;
       grantee = channel.grantee;
-      unset = ap registers (next.stays.queues h.0) ∙ none_registers (queue_of w.machine h.0) (not_so (io_waits w.machine h.0) may);
+      unset = ap registers (next.stays.queues h.0) ∙ none_registers (queue_of w.machine h.0) (its_quiet sc f w h o s rest k);
     }) (lent_so sc f w h o s rest k) is
 
 -- ---- the event
@@ -92,7 +88,7 @@ claim_goes sc f w h o s rest k =
     let src = its_member sc f w h o s rest c.reads k c.source_is.here in
     let few : chan.0 < 4 = subst (λ (n : ChanNo). n.0 < 4) c.source_is.chan_is (member_lot sc f w h d.lots c.reads src).channel in
     goes_go sc f w (events.Issue h) h m went w.slots None [] k.here.now.may is
-    (λ none. goes_silent sc f [] (gone w h m went) refl (found_bytes sc f w h o s rest k few (may_next sc f w h (nexts.Claim chan) k.here nx) (grantee_of w.machine chan.0) refl is))
+    (λ none. goes_silent sc f [] (gone w h m went) refl (found_bytes sc f w h o s rest k few (grantee_of w.machine chan.0) refl is))
 
 -- ---- whichever it is
 
@@ -138,10 +134,13 @@ rest_by sc f w h o (s ∷ rest) here hand lends phase all plan one kind = claim_
   lends = lends;
   phase = phase;
   rest_is = all;
-  claim = claiming_step (driver_of w h.0).fixed (driver_of w h.0).lots s rest kind plan.0;
-  left = plan.1;
+  claim = its_claim;
+  left = plan_next (driver_of w h.0).fixed (driver_of w h.0).lots s rest plan (ap (λ (t : Step). is_poll t.act) (step_is (driver_of w h.0).fixed (driver_of w h.0).lots s rest its_claim));
   one = one;
 })
+  where
+    its_claim : IsClaim (driver_of w h.0).fixed (driver_of w h.0).lots s rest
+    its_claim = claiming_step (driver_of w h.0).fixed (driver_of w h.0).lots s rest kind plan.0
 
 pub claims_go : ClaimsAreFlat
 claims_go sc f w h o now hand lends phase kind =

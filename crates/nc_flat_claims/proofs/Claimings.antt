@@ -1,6 +1,6 @@
 -- A hart whose copy claims its channel next: its two ends wait to be lent, each other lot is still, and no entry of class O
 -- is queued.
-use Rattle.std.specs.Prelude.{Some, All, ◌*◌, true, false}
+use Rattle.std.specs.Prelude.{Some, All, ◌*◌, Bool, true, false, not}
 use Rattle.std.specs.List.{list_any}
 use Rattle.std.proofs.Common.{◌≡◌, ℕ, List, [], ◌∷◌, length, refl, sym, ap, ◌∙◌, inl, inr, subst}
 use Rattle.std.proofs.lemmas.Bool.{both_ways, false_from_ne_true}
@@ -9,6 +9,7 @@ use Rattle.nc_num.specs.declared.names.HartNo.{HartNo}
 use Rattle.nc_num.specs.declared.names.MapId.{MapId}
 use Rattle.nc_num.specs.declared.places.Span.{Span}
 use Rattle.nc_env.specs.declared.CboOp.TheVariants as cbos
+use Rattle.nc_queue.specs.Entries.{is_o}
 use Rattle.nc_queue.specs.declared.entry.Entry.{Entry as QueueEntry}
 use Rattle.nc_queue.specs.declared.entry.Entry.TheVariants as entries
 use Rattle.nc_model.specs.declared.owners.Owner.{Owner}
@@ -20,14 +21,18 @@ use Rattle.nc_rules.specs.declared.lots.Kind.{Kind}
 use Rattle.nc_rules.specs.declared.lots.Kind.TheVariants.{Copy}
 use Rattle.nc_rules.specs.declared.lots.Lot.{Lot}
 use Rattle.nc_rules.specs.declared.lots.LotId.{LotId}
+use Rattle.nc_rules.specs.declared.lots.Side.{Side}
+use Rattle.nc_rules.specs.declared.lots.Side.TheVariants as sides
+use Rattle.nc_rules.specs.declared.steps.Next.TheVariants as nexts
 use Rattle.nc_rules.specs.declared.steps.Phase.{Phase}
 use Rattle.nc_rules.specs.declared.steps.Phase.TheVariants.{Work}
 use Rattle.nc_rules.specs.declared.steps.Step.{Step}
+use Rattle.nc_rules.specs.Calls.{io_waits}
 use Rattle.nc_rules.specs.Copies.{source, target, copy_steps}
-use Rattle.nc_rules.specs.Driver.{in_hand}
-use Rattle.nc_rules.specs.Lots.{is_lot, is_wanted, lot_waits}
+use Rattle.nc_rules.specs.Driver.{in_hand, next_act, next_of}
+use Rattle.nc_rules.specs.Lots.{DriverConfig, is_lot, is_wanted, lot_waits, owner_of_side}
 use Rattle.nc_rules.specs.Machine.{queue_of}
-use Rattle.nc_rules.specs.Turns.{is_area, lots_after_both}
+use Rattle.nc_rules.specs.Turns.{lots_after_both}
 use Rattle.nc_rules.specs.EventTouches.{owner_of}
 use Rattle.nc_rules.specs.World.{WorldState, driver_of}
 use Rattle.nc_scripts.specs.Drivers.{FitsKind, IsAtWork, IsPhase}
@@ -35,22 +40,23 @@ use Rattle.nc_scripts.proofs.Lists.{all_to}
 use Rattle.nc_scripts.proofs.LotLaws.{its_name}
 use Rattle.nc_holds.specs.Holds.{DriverHolds}
 use Rattle.nc_holds.proofs.EventFrom.{everyone_from}
-use Rattle.nc_holds.proofs.ListsA.{all_at}
+use Rattle.nc_holds.proofs.ListsA.{all_at, none_at}
 use Rattle.nc_holds.proofs.OwnerLots.{same_named}
 use Rattle.nc_rows.specs.Ahead.{posts}
 use Rattle.nc_rows.specs.Parts.{IsQueued}
 use Rattle.nc_rows.specs.Rows.{Book}
 use Rattle.nc_flatness.specs.Books.{book_of, mapping_in}
 use Rattle.nc_flatness.specs.Lending.{is_lending}
-use Rattle.nc_flatness.specs.Plans.{IsStill, HasEnd, IsClaim, PlanGoes, EndsOne}
+use Rattle.nc_flatness.specs.Plans.{IsStill, StillDevice, StillSynced, StillOwn, StillSent, HasEnd, IsClaim, PlanGoes, EndsOne}
+use Rattle.nc_flatness.specs.Tokens.{lot_token, is_lot_token, is_lending_side, ends_lending, TokenStands}
 use Rattle.nc_flatness.proofs.Owned.{owned_ram, mapped}
-use Rattle.nc_flatness.proofs.Rests.{copy_ends}
-use Rattle.nc_flat_scripts.proofs.ScriptEvents.{IsHere}
-use Rattle.nc_flat_starts.proofs.Bases.{IsMember, member_lot, member_planned}
-use Rattle.nc_flat_starts.proofs.Calls.{still_restful}
-use Rattle.nc_flat_starts.proofs.CopyPlans.{MayCopy, CopyGoes, copy_goes}
+use Rattle.nc_flatness.proofs.Rests.{lend_has_end, same_id, copy_ends, lend_light, ends_two}
+use Rattle.nc_flatness.proofs.Tokens.{lent_sent, sent_queued}
+use Rattle.nc_flat_scripts.proofs.ScriptEvents.{IsHere, may_next}
+use Rattle.nc_flat_scripts.proofs.SendEvents.{next_work}
+use Rattle.nc_flat_starts.proofs.Bases.{IsMember, member_lot}
 use Rattle.nc_flat_starts.proofs.Frames.{IsRestful}
-use Rattle.nc_flat_starts.proofs.OpenRows.{writing, dropping, sizes}
+use Rattle.nc_flat_claims.proofs.ClaimRests.{step_is, copy_silent}
 
 -- hart h's plan makes step s next, which claims the channel of a copy, and this rest is left behind it
 pub record IsClaiming (sc : Scenario) (f : List ℕ) (w : WorldState) (h : HartNo) (o : Op) (s : Step) (rest : List Step) : Type 0 where
@@ -67,19 +73,6 @@ pub record IsClaiming (sc : Scenario) (f : List ℕ) (w : WorldState) (h : HartN
 
 pub its_holds : (sc : Scenario) (f : List ℕ) (w : WorldState) (h : HartNo) (o : Op) (s : Step) (rest : List Step) → IsClaiming sc f w h o s rest → DriverHolds w h.0
 its_holds sc f w h o s rest k = k.here.now.flat.world.holds.each h.0 k.here.there
-
-ends_apart : source ≡ target → ⊥
-ends_apart same = let no : ◌≡◌ {A = ℕ} 0 1 = ap (λ (i : LotId). i.first) same in absurd cc
-
--- its fences are full: with light ones a plan ends the stay of one lot alone
-pub its_full : (sc : Scenario) (f : List ℕ) (w : WorldState) (h : HartNo) (o : Op) (s : Step) (rest : List Step) → IsClaiming sc f w h o s rest → (driver_of w h.0).fixed.light ≡ false
-its_full sc f w h o s rest k =
-    let fx = (driver_of w h.0).fixed in
-    let c = k.claim in
-    let plan = copy_steps fx c.chan c.config c.reads c.writes in
-    let reads : HasEnd source (s ∷ rest) = subst (λ (r : List Step). HasEnd source r) (sym c.steps) (subst (λ (i : LotId). HasEnd i plan) c.source_is.id_is (copy_ends fx c.chan c.config c.reads c.writes)) in
-    let writes : HasEnd target (s ∷ rest) = subst (λ (r : List Step). HasEnd target r) (sym c.steps) refl in
-    false_from_ne_true fx.light (λ light. ends_apart (k.one light source target reads writes))
 
 -- ---- its lots
 
@@ -106,62 +99,97 @@ end_entry sc f w h lots lot b kind =
     let fx = (driver_of w h.0).fixed in
     one_entry lot.list.entries (subst (λ (k : Kind). FitsKind fx.pool k lot.id lot.list.entries) kind (member_lot sc f w h lots lot b).kind).1
 
-pub may_copy : (sc : Scenario) (f : List ℕ) (w : WorldState) (h : HartNo) (o : Op) (s : Step) (rest : List Step) → (k : IsClaiming sc f w h o s rest) → MayCopy (driver_of w h.0).fixed w.machine k.claim.chan k.claim.reads k.claim.writes (driver_of w h.0).lots
-may_copy sc f w h o s rest k =
-    let d = driver_of w h.0 in
-    let c = k.claim in
-    let flat = k.here.now.flat in
-    let lt = k.here.lt in
-    let src = its_member sc f w h o s rest c.reads k c.source_is.here in
-    let dst = its_member sc f w h o s rest c.writes k c.target_is.here in
-    let e = end_entry sc f w h d.lots c.writes dst c.target_is.kind in
-    record {
-      block = flat.world.machine.block_size;
-      size = sizes sc f w h flat lt;
-      unlight = its_full sc f w h o s rest k;
-      writes = writing sc f w h flat lt;
-      drops = dropping sc f w h flat lt;
-      ends = record {
-        two = record { source_is = c.source_is.id_is; target_is = c.target_is.id_is };
-        source_kind = c.source_is.kind;
-        target_kind = c.target_is.kind;
-        source_dir = c.source_is.dir_is;
-        target_dir = c.target_is.dir_is;
-        source_chan = c.source_is.chan_is;
-        target_chan = c.target_is.chan_is;
-        source_planned = member_planned sc f w h d.lots c.reads src (ap is_area c.source_is.kind);
-        target_planned = member_planned sc f w h d.lots c.writes dst (ap is_area c.target_is.kind);
-        entry = e.0;
-        only = e.1;
-      };
-      apart = (its_holds sc f w h o s rest k).driver.apart;
-      source_in = c.source_is.here;
-      target_in = c.target_is.here;
-      source_wanted = c.wanted.0;
-      target_wanted = c.wanted.1;
-      others = c.others;
-    }
-
 -- the plan puts no message
 pub its_silent : (sc : Scenario) (f : List ℕ) (w : WorldState) (h : HartNo) (o : Op) (s : Step) (rest : List Step) (b : ℕ) → IsClaiming sc f w h o s rest → list_any (posts b) (s ∷ rest) ≡ false
-its_silent sc f w h o s rest b k =
+its_silent sc f w h o s rest b k = let c = k.claim in ap (list_any (posts b)) c.steps ∙ copy_silent (driver_of w h.0).fixed c.chan c.config c.reads c.writes b
+
+-- ---- its queue
+
+not_so : (b : Bool) → not b ≡ true → b ≡ false
+not_so true is = absurd cc
+not_so false is = refl
+
+-- the claim waits for each entry of class O
+pub its_quiet : (sc : Scenario) (f : List ℕ) (w : WorldState) (h : HartNo) (o : Op) (s : Step) (rest : List Step) → IsClaiming sc f w h o s rest → io_waits w.machine h.0 ≡ false
+its_quiet sc f w h o s rest k =
     let d = driver_of w h.0 in
-    let c = k.claim in
-    let goes : CopyGoes d.fixed d.lots (copy_steps d.fixed c.chan c.config c.reads c.writes) = copy_goes d.fixed w.machine c.chan c.config c.reads c.writes d.lots c.once (may_copy sc f w h o s rest k) in
-    ap (list_any (posts b)) c.steps ∙ goes.silent b
+    let nx : next_of d ≡ nexts.Claim k.claim.chan = next_work d o (s ∷ rest) k.hand k.phase k.rest_is ∙ ap (λ (t : Step). next_act t.act) (step_is d.fixed d.lots s rest k.claim) in
+    not_so (io_waits w.machine h.0) (may_next sc f w h (nexts.Claim k.claim.chan) k.here nx)
+
+token_o : (id : LotId) (e : QueueEntry) → is_lot_token id e ≡ true → is_o e ≡ true
+token_o id (entries.Lend label first count) is = refl
+token_o id (entries.Store span bytes kind) is = absurd cc
+token_o id (entries.Cbo block op) is = absurd cc
+token_o id (entries.Reg chan off width value) is = absurd cc
+token_o id (entries.Mail buf to) is = absurd cc
+token_o id (entries.Mark pred succ) is = absurd cc
+
+-- so no token is queued
+pub untokened : (sc : Scenario) (f : List ℕ) (w : WorldState) (h : HartNo) (o : Op) (s : Step) (rest : List Step) (id : LotId) (e : QueueEntry) → IsClaiming sc f w h o s rest → In e (queue_of w.machine h.0) → is_lot_token id e ≡ false
+untokened sc f w h o s rest id e k queued =
+    false_from_ne_true (is_lot_token id e) (λ is. both_ways (is_o e) (none_at is_o (queue_of w.machine h.0) e (its_quiet sc f w h o s rest k) queued) (token_o id e is))
 
 -- ---- its other lots
 
--- one that is lent is still
-pub its_still : (sc : Scenario) (f : List ℕ) (w : WorldState) (h : HartNo) (o : Op) (s : Step) (rest : List Step) (lot : Lot) → IsClaiming sc f w h o s rest → In lot (driver_of w h.0).lots → is_wanted lot.side ≡ false → IsStill (driver_of w h.0).fixed lot
-its_still sc f w h o s rest lot k there lent =
+-- one that is lent is neither end
+pub no_end : (sc : Scenario) (f : List ℕ) (w : WorldState) (h : HartNo) (o : Op) (s : Step) (rest : List Step) (lot : Lot) → IsClaiming sc f w h o s rest → In lot (driver_of w h.0).lots → is_wanted lot.side ≡ false → (is_lot source lot ≡ false) × (is_lot target lot ≡ false)
+no_end sc f w h o s rest lot k there lent =
     let d = driver_of w h.0 in
     let c = k.claim in
     let names = (its_holds sc f w h o s rest k).driver.apart in
     let never : (id : LotId) (end : Lot) → In end d.lots → end.id ≡ id → is_wanted end.side ≡ true → is_lot id lot ≡ true → ⊥ =
-    λ id end in_lots named wanted is. both_ways (is_wanted lot.side) lent (ap (λ (l : Lot). is_wanted l.side) (same_named d.lots id lot end names there in_lots is (its_name end id named)) ∙ wanted) in
-    all_at (λ (l : Lot). is_lot source l ≡ false → is_lot target l ≡ false → IsStill d.fixed l) d.lots lot c.others there (false_from_ne_true (is_lot source lot) (never source c.reads c.source_is.here c.source_is.id_is (ap is_wanted c.wanted.0)))
-    (false_from_ne_true (is_lot target lot) (never target c.writes c.target_is.here c.target_is.id_is (ap is_wanted c.wanted.1)))
+    λ id end in_lots named wanted is. both_ways (is_wanted lot.side) lent (ap (λ (l : Lot). is_wanted l.side) (same_named d.lots id lot end names there in_lots is (its_name end id named)) ∙ wanted) in (
+      false_from_ne_true (is_lot source lot) (never source c.reads c.source_is.here c.source_is.id_is (ap is_wanted c.wanted.0)),
+      false_from_ne_true (is_lot target lot) (never target c.writes c.target_is.here c.target_is.id_is (ap is_wanted c.wanted.1)),
+    )
+
+-- it is still
+pub its_still : (sc : Scenario) (f : List ℕ) (w : WorldState) (h : HartNo) (o : Op) (s : Step) (rest : List Step) (lot : Lot) → IsClaiming sc f w h o s rest → In lot (driver_of w h.0).lots → is_wanted lot.side ≡ false → IsStill (driver_of w h.0).fixed lot
+its_still sc f w h o s rest lot k there lent =
+    let d = driver_of w h.0 in
+    let off = no_end sc f w h o s rest lot k there lent in
+    all_at (λ (l : Lot). is_lot source l ≡ false → is_lot target l ≡ false → IsStill d.fixed l) d.lots lot k.claim.others there off.0 off.1
+
+-- with light fences the plan lends no lot but its ends
+lends_none : (sc : Scenario) (f : List ℕ) (w : WorldState) (h : HartNo) (o : Op) (s : Step) (rest : List Step) (lot : Lot) → IsClaiming sc f w h o s rest → (driver_of w h.0).fixed.light ≡ true → (is_lot source lot ≡ false) × (is_lot target lot ≡ false) → list_any (ends_lending lot.id) (s ∷ rest) ≡ false
+lends_none sc f w h o s rest lot k light off =
+    let fx = (driver_of w h.0).fixed in
+    let c = k.claim in
+    let plan = copy_steps fx c.chan c.config c.reads c.writes in
+    let ended : HasEnd source (s ∷ rest) = subst (λ (r : List Step). HasEnd source r) (sym c.steps) (subst (λ (i : LotId). HasEnd i plan) c.source_is.id_is (copy_ends fx c.chan c.config c.reads c.writes)) in
+    let far : lot.id ≡ source → ⊥ = λ is. both_ways (is_lot source lot) off.0 (its_name lot source is) in
+    false_from_ne_true (list_any (ends_lending lot.id) (s ∷ rest)) (λ lends. elim (ends_two (s ∷ rest) lot.id source (k.one light) (lend_has_end lot.id (s ∷ rest) lends) ended far).0 [
+      | inl is ↦ far is
+      | inr is ↦ both_ways (is_lot target lot) off.1 (its_name lot target is)
+    ])
+
+lending_side : (side : Side) → is_lending_side side ≡ true → side ≡ sides.Lending
+lending_side sides.Lending is = refl
+lending_side sides.Wanted is = absurd cc
+lending_side sides.Device is = absurd cc
+lending_side sides.Returning is = absurd cc
+lending_side sides.Synced is = absurd cc
+lending_side sides.Own is = absurd cc
+
+-- none is being lent: its token would be queued
+pub its_unlent : (sc : Scenario) (f : List ℕ) (w : WorldState) (h : HartNo) (o : Op) (s : Step) (rest : List Step) (lot : Lot) → IsClaiming sc f w h o s rest → In lot (driver_of w h.0).lots → is_lending_side lot.side ≡ false
+its_unlent sc f w h o s rest lot k there =
+    let d = driver_of w h.0 in
+    let q = queue_of w.machine h.0 in
+    false_from_ne_true (is_lending_side lot.side) (λ lends.
+    let side = lending_side lot.side lends in
+    let lent = ap is_wanted side in
+    let light = lend_light d.fixed lot side (its_still sc f w h o s rest lot k there lent) in
+    let stands : All (TokenStands (s ∷ rest) q) d.lots = subst (λ (r : List Step). All (TokenStands r q) d.lots) k.rest_is (k.here.now.flat.bytes.tokens h.0 k.here.lt light) in
+    let sent = lent_sent (s ∷ rest) lot side (lends_none sc f w h o s rest lot k light (no_end sc f w h o s rest lot k there lent)) in
+    let queued = sent_queued (s ∷ rest) q lot (all_at (TokenStands (s ∷ rest) q) d.lots lot stands there) sent in
+    both_ways (is_lot_token lot.id (lot_token lot)) (untokened sc f w h o s rest lot.id (lot_token lot) k queued) (same_id lot.id))
+
+restful : (f : DriverConfig) (n : MapId) (owner : Owner) (lot : Lot) → is_lending_side lot.side ≡ false → IsStill f lot → owner ≡ owner_of_side n lot.side → IsRestful owner
+restful f n owner lot unlent (StillDevice is) same = subst IsRestful (sym (same ∙ ap (owner_of_side n) is)) tt
+restful f n owner lot unlent (StillSynced is kind) same = subst IsRestful (sym (same ∙ ap (owner_of_side n) is)) tt
+restful f n owner lot unlent (StillOwn is kind) same = subst IsRestful (sym (same ∙ ap (owner_of_side n) is)) tt
+restful f n owner lot unlent (StillSent is light) same = absurd (both_ways (is_lending_side lot.side) unlent (ap is_lending_side is))
 
 -- so nothing is to come of the hart's mappings
 pub its_restful : (sc : Scenario) (f : List ℕ) (w : WorldState) (h : HartNo) (o : Op) (s : Step) (rest : List Step) (x : ℕ) (n : MapId) → IsClaiming sc f w h o s rest → mapping_in (owner_of w x) ≡ Some n → n.hart.0 ≡ h.0 → IsRestful (owner_of w x)
@@ -169,7 +197,7 @@ its_restful sc f w h o s rest x n k is own =
     let flat = k.here.now.flat in
     let m = mapped sc f w n x flat (owned_ram sc f w x n flat is) is in
     let there : In m.is.lot (driver_of w h.0).lots = subst (λ (g : ℕ). In m.is.lot (driver_of w g).lots) own m.is.here.lot_in in
-    still_restful (driver_of w h.0).fixed n (owner_of w x) m.is.lot (its_full sc f w h o s rest k) (its_still sc f w h o s rest m.is.lot k there m.is.lent) m.owner
+    restful (driver_of w h.0).fixed n (owner_of w x) m.is.lot (its_unlent sc f w h o s rest m.is.lot k there) (its_still sc f w h o s rest m.is.lot k there m.is.lent) m.owner
 
 -- and no operation on a block of theirs is queued that a mapping or an area tells
 queued_one : (sc : Scenario) (f : List ℕ) (w : WorldState) (h : HartNo) (o : Op) (s : Step) (rest : List Step) (c : Book) (owner : ℕ → Owner) (pool : Span) (e : QueueEntry) → IsClaiming sc f w h o s rest → IsQueued (book_of w) (owner_of w) pool w.machine.size h.0 e

@@ -3,7 +3,7 @@
 use Rattle.std.specs.Prelude.{flat_map, slice_get}
 use Rattle.std.specs.List.{list_any}
 use Rattle.std.proofs.Common.{◌≡◌, ℕ, Bool, true, false, List, [], ◌∷◌, ◌++◌, refl, sym, ap, ◌∙◌, inl, inr, subst, append_assoc, Some}
-use Rattle.std.proofs.lemmas.Bool.{both_ways, cond-false, or_left, or_right, or_from}
+use Rattle.std.proofs.lemmas.Bool.{both_ways, cases_Bool, cond-true, cond-false, or_left, or_right, or_from, or_parts}
 use Rattle.std.proofs.lemmas.List.Elements.{All-head, All-tail}
 use Rattle.std.proofs.lemmas.List.Folds.{list_any-append}
 use Rattle.nc_num.specs.Places.{covers}
@@ -38,6 +38,7 @@ use Rattle.nc_row_plans.specs.Plans.{WritesBack, IsPlaceOf, IsEntryOf}
 use Rattle.nc_row_plans.proofs.LendingPlans.{is_plain, Are, are_append, are_flat, copies_plain, if_plain, cbos_are, none_of, plans_lend}
 use Rattle.nc_row_plans.proofs.PlanBegins.{stands_behind, covered_behind, marked_behind}
 use Rattle.nc_flatness.specs.Plans.{IsStill, IsBeside, device_of}
+use Rattle.nc_flatness.specs.Tokens.{lot_token}
 use Rattle.nc_flatness.proofs.Rests.{lend_ends}
 use Rattle.nc_flat_starts.proofs.CopyPlans.{coming_front}
 use Rattle.nc_flat_starts.proofs.PlanComes.{append_steps, plain_ends, ends_behind}
@@ -57,7 +58,6 @@ pub record MayLend (f : DriverConfig) (m : MachineState) : Type 0 where
   pub block : IsBlockSize m.size
   pub size : f.size ≡ m.size
   pub writes : WritesBack f.effects
-  pub unlight : f.light ≡ false
 
 -- ---- the steps that lend
 
@@ -69,7 +69,7 @@ back_plain : (e : Effects) (size : ℕ) (p : Part) → Are is_plain (written_bac
 unfolding written_back
 back_plain e size p = cbos_are is_plain (lend_op e p.dir) (blocks size p.device) (λ b. refl)
 
--- loads, stores and cache operations, and then a full fence
+-- loads, stores and cache operations, and then a full fence, or with light fences a marker and the token
 abbrev pub lending_ops : DriverConfig → Lot → List HartOp
 lending_ops f lot = carried f.effects f.size (parts f lot)
 
@@ -81,9 +81,15 @@ lending_plain f lot =
     let ps = parts f lot in
     are_append is_plain (flat_map copied_in ps) (flat_map (written_back f.effects f.size) ps) (are_flat is_plain copied_in ps in_plain) (are_flat is_plain (written_back f.effects f.size) ps (back_plain f.effects f.size))
 
-pub lending_is : (f : DriverConfig) (lot : Lot) (more : List Step) → f.light ≡ false → lend_steps f lot ++ more ≡ op_steps (lending_ops f lot) ++ (give_step lot.id ∷ more)
-lending_is f lot more unlight =
-    append_steps (op_steps (lending_ops f lot)) (lending_end f lot) more ∙ ap (λ (ss : List Step). op_steps (lending_ops f lot) ++ (ss ++ more)) (cond-false f.light (token_steps lot) (give_step lot.id ∷ []) unlight)
+pub lending_is : (f : DriverConfig) (lot : Lot) (more : List Step) → lend_steps f lot ++ more ≡ op_steps (lending_ops f lot) ++ (lending_end f lot ++ more)
+lending_is f lot more = append_steps (op_steps (lending_ops f lot)) (lending_end f lot) more
+
+-- what holds of both ends of a lending
+pub lending_end_by : (P : List Step → Type 0) (f : DriverConfig) (lot : Lot) → P (token_steps lot) → P (give_step lot.id ∷ []) → P (lending_end f lot)
+lending_end_by P f lot light full_fences = elim (cases_Bool f.light) [
+  | inl is ↦ subst P (sym (cond-true f.light (token_steps lot) (give_step lot.id ∷ []) is)) light
+  | inr off ↦ subst P (sym (cond-false f.light (token_steps lot) (give_step lot.id ∷ []) off)) full_fences
+]
 
 -- ---- the lot that is lent first
 
@@ -127,27 +133,38 @@ ops_coming n id (o ∷ ops) rest all some =
     next n id (hart_step o) (op_steps ops ++ rest) (plain_ends id o (All-head (λ (k : HartOp). is_plain k ≡ true) o ops all)) (ends_behind id ops rest some)
     ∙ ap (λ (es : List QueueEntry). op_coming o ++ es) (ops_coming n id ops rest (All-tail (λ (k : HartOp). is_plain k ≡ true) o ops all) some) ∙ sym (append_assoc (op_coming o) (flat_map op_coming ops) (coming n id rest))
 
--- entries that name none of the mappings of the lot that comes behind
-record PutsFirst (n : MapId) (id : LotId) (steps rest : List Step) : Type 0 where
+-- the same of steps
+steps_coming : (n : MapId) (id : LotId) (steps rest : List Step) → list_any (ends id) steps ≡ false → list_any (ends id) rest ≡ true → coming n id (steps ++ rest) ≡ flat_map (λ (s : Step). act_coming s.act) steps ++ coming n id rest
+steps_coming n id [] rest none some = refl
+steps_coming n id (s ∷ steps) rest none some =
+    let off = or_parts (ends id s) (list_any (ends id) steps) none in
+    let later = list_any-append (ends id) steps rest ∙ or_right (list_any (ends id) steps) (list_any (ends id) rest) some in
+    next n id s (steps ++ rest) off.0 later ∙ ap (λ (es : List QueueEntry). act_coming s.act ++ es) (steps_coming n id steps rest off.1 some)
+    ∙ sym (append_assoc (act_coming s.act) (flat_map (λ (t : Step). act_coming t.act) steps) (coming n id rest))
+
+-- entries that name none of the mappings of the lot that comes behind, where a token in front of it does not
+record PutsFirst (n : MapId) (id : LotId) (first : Lot) (steps rest : List Step) : Type 0 where
   puts : List QueueEntry
   comes : coming n id (steps ++ rest) ≡ puts ++ coming n id rest
-  unnamed : list_any (names n) puts ≡ false
+  unnamed : names n (lot_token first) ≡ false → list_any (names n) puts ≡ false
 
-puts_first : (f : DriverConfig) (lot : Lot) (n : MapId) (id : LotId) (rest : List Step) → f.light ≡ false → ends id (give_step lot.id) ≡ false → list_any (ends id) rest ≡ true → PutsFirst n id (lend_steps f lot) rest
-puts_first f lot n id rest unlight off ended =
+puts_first : (f : DriverConfig) (lot : Lot) (n : MapId) (id : LotId) (rest : List Step) → list_any (ends id) (lending_end f lot) ≡ false → list_any (ends id) rest ≡ true → PutsFirst n id lot (lend_steps f lot) rest
+puts_first f lot n id rest off ended =
     let ops = lending_ops f lot in
-    let give = give_step lot.id in
-    let end = give ∷ rest in
+    let end = lending_end f lot in
     let plain = lending_plain f lot in
     let a = flat_map op_coming ops in
-    let b = act_coming give.act in
+    let b = flat_map (λ (s : Step). act_coming s.act) end in
     let last = coming n id rest in
-    let whole : coming n id (lend_steps f lot ++ rest) ≡ a ++ (b ++ last) =
-    ap (coming n id) (lending_is f lot rest unlight) ∙ ops_coming n id ops end plain (or_right (ends id give) (list_any (ends id) rest) ended) ∙ ap (λ (es : List QueueEntry). a ++ es) (next n id give rest off ended) in
+    let later = list_any-append (ends id) end rest ∙ or_right (list_any (ends id) end) (list_any (ends id) rest) ended in
+    let whole : coming n id (lend_steps f lot ++ rest) ≡ a ++ (b ++ last) = ap (coming n id) (lending_is f lot rest) ∙ ops_coming n id ops (end ++ rest) plain later ∙ ap (λ (es : List QueueEntry). a ++ es) (steps_coming n id end rest off ended) in
     record {
       puts = a ++ b;
       comes = whole ∙ sym (append_assoc a b last);
-      unnamed = list_any-append (names n) a b ∙ or_from (list_any (names n) a) (list_any (names n) b) (none_of (names n) is_plain ops (plain_unnamed n) plain) refl;
+      unnamed = λ free.
+          list_any-append (names n) a b
+          ∙ or_from (list_any (names n) a) (list_any (names n) b) (none_of (names n) is_plain ops (plain_unnamed n) plain)
+          (lending_end_by (λ (ss : List Step). list_any (names n) (flat_map (λ (s : Step). act_coming s.act) ss) ≡ false) f lot (or_from (names n (lot_token lot)) false free refl) refl);
     }
 
 ahead_behind : (p w : QueueEntry → Bool) (n : MapId) (q c : List QueueEntry) → list_any (names n) q ≡ false → LendsAhead p w n c → LendsAhead p w n (q ++ c)
@@ -160,13 +177,13 @@ ahead_behind p w n q c none is = record {
 
 -- ---- the lot that is lent behind another
 
-pub later_lent : (f : DriverConfig) (m : MachineState) (first lot : Lot) (rest : List Step) → MayLend f m → ends lot.id (give_step first.id) ≡ false → LendsEnd f m lot rest → LendsEnd f m lot (lend_steps f first ++ rest)
-later_lent f m first lot rest k off l =
-    let put : (n : MapId) → PutsFirst n lot.id (lend_steps f first) rest = λ n. puts_first f first n lot.id rest k.unlight off l.ended in
+pub later_lent : (f : DriverConfig) (m : MachineState) (first lot : Lot) (rest : List Step) → list_any (ends lot.id) (lending_end f first) ≡ false → ((n : MapId) → IsEntryOf n lot → names n (lot_token first) ≡ false) → LendsEnd f m lot rest → LendsEnd f m lot (lend_steps f first ++ rest)
+later_lent f m first lot rest off free l =
+    let put : (n : MapId) → PutsFirst n lot.id first (lend_steps f first) rest = λ n. puts_first f first n lot.id rest off l.ended in
     record {
       ended = list_any-append (ends lot.id) (lend_steps f first) rest ∙ or_right (list_any (ends lot.id) (lend_steps f first)) (list_any (ends lot.id) rest) l.ended;
-      to = λ n p y entry at. let b = put n in subst (λ (es : List QueueEntry). LendsAhead (gives_here m y) (back m y) n es) (sym b.comes) (ahead_behind (gives_here m y) (back m y) n b.puts (coming n lot.id rest) b.unnamed (l.to n p y entry at));
-      from = λ n p y entry at. let b = put n in subst (λ (es : List QueueEntry). LendsAhead (gives_block m y) (back m y) n es) (sym b.comes) (ahead_behind (gives_block m y) (back m y) n b.puts (coming n lot.id rest) b.unnamed (l.from n p y entry at));
+      to = λ n p y entry at. let b = put n in subst (λ (es : List QueueEntry). LendsAhead (gives_here m y) (back m y) n es) (sym b.comes) (ahead_behind (gives_here m y) (back m y) n b.puts (coming n lot.id rest) (b.unnamed (free n entry)) (l.to n p y entry at));
+      from = λ n p y entry at. let b = put n in subst (λ (es : List QueueEntry). LendsAhead (gives_block m y) (back m y) n es) (sym b.comes) (ahead_behind (gives_block m y) (back m y) n b.puts (coming n lot.id rest) (b.unnamed (free n entry)) (l.from n p y entry at));
       stores = λ n i e y there bounced on.
           let b = put n in
           ap (list_any (gives_at f.size y)) b.comes ∙ list_any-append (gives_at f.size y) b.puts (coming n lot.id rest)

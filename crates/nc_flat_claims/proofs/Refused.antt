@@ -1,10 +1,10 @@
 -- A claim that finds its channel granted: the copy gives up, nothing of it was lent, and the lots that waited are gone.
-use Rattle.std.specs.Prelude.{Some, not, Bool, true, false, option_map, slice_get}
-use Rattle.std.proofs.Common.{[], ◌≡◌, ℕ, List, ◌∷◌, refl, sym, ap, ◌∙◌, inl}
-use Rattle.std.proofs.lemmas.Bool.{both_ways}
+use Rattle.std.specs.Prelude.{Some, All, not, Bool, true, false, option_map, slice_get}
+use Rattle.std.proofs.Common.{[], ◌≡◌, ℕ, List, ◌∷◌, refl, sym, ap, ◌∙◌, inl, subst}
 use Rattle.nc_num.specs.declared.names.HartNo.{HartNo}
 use Rattle.nc_num.specs.declared.names.MapId.{MapId}
 use Rattle.nc_model.specs.declared.owners.Owner.TheVariants.{Thread}
+use Rattle.nc_queue.specs.declared.entry.Entry.{Entry as QueueEntry}
 use Rattle.nc_ops.specs.declared.ops.Op.{Op}
 use Rattle.nc_scen.specs.declared.scenario.Scenario.{Scenario}
 use Rattle.nc_rules.specs.declared.answers.Refusal.{Refusal}
@@ -17,7 +17,7 @@ use Rattle.nc_num.specs.declared.names.Dir.TheVariants.{ToDev}
 use Rattle.nc_rules.specs.declared.steps.Step.{Step}
 use Rattle.nc_rules.specs.Driver.{give_up}
 use Rattle.nc_rules.specs.Lots.{is_wanted}
-use Rattle.nc_rules.specs.Machine.{MachineState}
+use Rattle.nc_rules.specs.Machine.{MachineState, queue_of}
 use Rattle.nc_rules.specs.Turns.{without_wanted}
 use Rattle.nc_rules.specs.EventTouches.{owner_of}
 use Rattle.nc_rules.specs.World.{WorldState, driver_of}
@@ -29,14 +29,17 @@ use Rattle.nc_rows.proofs.Steps.{steps_ahead}
 use Rattle.nc_flatness.specs.Books.{loan_by, loan_of, book_of, mapping_in}
 use Rattle.nc_flatness.specs.Flatness.{IsMapping, BytesStand}
 use Rattle.nc_flatness.specs.Plans.{IsStill}
+use Rattle.nc_flatness.specs.Tokens.{TokenStands}
 use Rattle.nc_flatness.proofs.Outcomes.{gone}
+use Rattle.nc_flatness.proofs.Stands.{none_stands}
+use Rattle.nc_flatness.proofs.Tokens.{unlent_unsent}
 use Rattle.nc_flat_scripts.proofs.ActRows.{stays_row}
 use Rattle.nc_flat_starts.proofs.Befores.{driven, known_here, seen_aside}
 use Rattle.nc_flat_starts.proofs.Frames.{IsPlace, rewrites_none, StaysAside, loan_aside}
 use Rattle.nc_flat_starts.proofs.Lots.{kept_loans}
 use Rattle.nc_flat_starts.proofs.Quiets.{idle_copy}
 use Rattle.nc_flat_starts.proofs.TurnBytes.{turn_bytes}
-use Rattle.nc_flat_claims.proofs.Claimings.{IsClaiming, its_full, its_still, its_silent, its_restful}
+use Rattle.nc_flat_claims.proofs.Claimings.{IsClaiming, untokened, its_still, its_unlent, its_silent, its_restful}
 use Rattle.nc_flat_claims.proofs.ClaimMachines.{IsClaimNext, claim_goes_by, claim_queued, claim_calm}
 
 -- a lot without a place
@@ -83,7 +86,12 @@ refused_bytes sc f w h o s rest m r k is =
       };
       lasting = tt;
       queue = claim_queued sc f w h o s rest m (book_of v) (owner_of v) k is;
-      tokens = λ light. absurd (both_ways fx.light (its_full sc f w h o s rest k) light);
+      tokens = λ light.
+          subst (λ (q : List QueueEntry). All (TokenStands [] q) (without_wanted d.lots)) (sym (is.stays.queues h.0))
+          (all_in (TokenStands [] (queue_of w.machine h.0)) (without_wanted d.lots)
+          (λ lot there.
+          let p = of_filter (λ (l : Lot). not (is_wanted l.side)) lot d.lots there in
+          none_stands [] (queue_of w.machine h.0) lot (λ e queued. untokened sc f w h o s rest lot.id e k queued) (unlent_unsent [] lot (its_unlent sc f w h o s rest lot k p.0))));
       passes = λ x u there unslotted beside off row. stays_row (book_of w) (owner_of w x) u w.machine m x is.shape is.stays row;
       lies = λ i e x n there place mapped. absurd (none_at i e x place);
       row = λ i e x there place row. absurd (none_at i e x place);
