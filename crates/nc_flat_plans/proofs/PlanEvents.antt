@@ -9,6 +9,7 @@ use Rattle.nc_scripts.specs.Drivers.{IsAtWork, IsPhase}
 use Rattle.nc_rules.specs.declared.steps.Phase.{Phase}
 use Rattle.nc_rules.specs.declared.steps.Phase.TheVariants.{Work}
 use Rattle.nc_rules.specs.declared.steps.Step.{Step}
+use Rattle.nc_rules.specs.Copies.{copy_steps}
 use Rattle.nc_rules.specs.Driver.{in_hand}
 use Rattle.nc_rules.specs.World.{WorldState, driver_of}
 use Rattle.nc_flatness.specs.Lending.{is_lending}
@@ -17,7 +18,6 @@ use Rattle.nc_flatness.specs.Flatness.{PlanOf, StandsAt}
 use Rattle.nc_flatness.specs.Steps.{IsNow, Goes, PlansAreFlat, OfLots, kind_of_act, kind_of_next}
 use Rattle.nc_flatness.proofs.Rests.{plan_next}
 use Rattle.nc_flatness.proofs.CopySteps.{of_lots}
-use Rattle.nc_rules.specs.Copies.{copy_steps}
 use Rattle.nc_flat_plans.proofs.Drivers.{IsNext, plan_left}
 use Rattle.nc_flat_plans.proofs.Loads.{loaded_goes}
 use Rattle.nc_flat_plans.proofs.Stores.{stored_goes}
