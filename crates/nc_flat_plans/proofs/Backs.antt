@@ -1,6 +1,6 @@
 -- The last step of a plan that takes back: the lot is its hart's again, synced or not mapped any more.
 use Rattle.std.specs.Prelude.{None, All, if◌then◌else◌, Bool, true, false}
-use Rattle.std.proofs.Common.{◌≡◌, ◌⊎◌, ℕ, ◌<◌, List, [], ◌∷◌, ◌++◌, refl, ap, ◌∙◌, inl, inr, subst}
+use Rattle.std.proofs.Common.{◌≡◌, ℕ, ◌<◌, List, [], ◌∷◌, ◌++◌, refl, ap, ◌∙◌, inl, inr, subst}
 use Rattle.std.proofs.lemmas.Bool.{or_left, cond-false}
 use Rattle.nc_num.specs.Memory.{byte}
 use Rattle.nc_num.specs.Places.{covers}
@@ -37,7 +37,7 @@ use Rattle.nc_flatness.proofs.Outcomes.{gone}
 use Rattle.nc_flat_starts.proofs.Frames.{IsPlace, IsOff, GoesBy, last_none}
 use Rattle.nc_flat_plans.proofs.OwnRows.{BackAs, back_home}
 use Rattle.nc_flat_plans.proofs.Drivers.{IsNext, IsDone, stay_lots, stay_transfers, same_id}
-use Rattle.nc_flat_plans.proofs.Places.{IsUnder, its_id, its_place, in_ram, unslotted, StillAt, back_alone}
+use Rattle.nc_flat_plans.proofs.Places.{IsUnder, its_id, its_place, in_ram, unslotted, StillAt, WaitsAt}
 use Rattle.nc_flat_plans.proofs.OwnCopies.{SameChannels}
 use Rattle.nc_flat_plans.proofs.Shifts.{IsShift, side_shift, end_shift}
 use Rattle.nc_flat_plans.proofs.StepFrames.{step_bytes}
@@ -92,8 +92,8 @@ turns_one id lot t (inr end) off = ap (turns_lot id) end ∙ off
 -- ---- the bytes behind it
 
 pub record ComesHome (sc : Scenario) (f : List ℕ) (w : WorldState) (h : HartNo) (k : MachineState) (went : Went) (lot : Lot) : Type 0 where
-  pub alone : (lot.side ≡ sides.Returning) ⊎ (lot.side ≡ sides.Device)
   pub passes : (x v : ℕ) → x < sc.ram → covers (slots_of sc) x ≡ false → IsOff lot x → StillAt w h lot x → Row (book_of w) (owner_of w x) v w.machine x → Row (book_of w) (owner_of w x) v k x
+  pub waits : (x : ℕ) → x < sc.ram → covers (slots_of sc) x ≡ false → IsOff lot x → WaitsAt w h lot x → Row (book_of w) (owner_of w x) (byte f x) w.machine x → Row (book_of (gone w h k went)) (owner_of w x) (byte f x) k x
   pub channels : SameChannels w.machine k h.0
   pub back : (i : ℕ) (e : Entry) (x : ℕ) → IsPlace lot i e x → Row (book_of w) (owner_of w x) (byte f x) w.machine x → BackAs lot.list.dir (its_id h lot i) (byte f x) [] k x (its_place w h lot i e x)
   pub queue : All (IsQueued (book_of (gone w h k went)) (owner_of (gone w h k went)) k.pool k.size h.0) (queue_of k h.0)
@@ -101,14 +101,14 @@ pub record ComesHome (sc : Scenario) (f : List ℕ) (w : WorldState) (h : HartNo
   pub tokens : went.driver.fixed.light ≡ true → All (TokenStands went.driver.rest (queue_of k h.0)) went.driver.lots
 
 pub home_bytes : (sc : Scenario) (f : List ℕ) (w : WorldState) (h : HartNo) (o : Op) (s : Step) (rest : List Step) (k : MachineState) (went : Went) (lot : Lot) → IsNext sc f w h o s rest → IsDone (driver_of w h.0) s rest went → IsUnder sc f w h lot
-    → is_area lot.kind ≡ false → IsHome w h went lot → rest_last rest ≡ None → GoesBy w h k → ComesHome sc f w h k went lot → BytesStand sc f (gone w h k went)
+    → is_area lot.kind ≡ false → (home : IsHome w h went lot) → rest_last rest ≡ None → GoesBy w h k → ComesHome sc f w h k went lot → BytesStand sc f (gone w h k went)
 home_bytes sc f w h o s rest k went lot next done u plain home last by c =
     let v = gone w h k went in
     let all : (i : ℕ) (e : Entry) (x : ℕ) → IsPlace lot i e x → Row (book_of w) (owner_of w x) (byte f x) w.machine x → ThreadRow h.0 (byte f x) k x × PoolRow (byte f x) k (its_place w h lot i e x) =
     λ i e x p row. back_home lot.list.dir k (its_id h lot i) (byte f x) x (its_place w h lot i e x) (c.back i e x p row) in
     step_bytes sc f w h o s rest k went lot (home_to h home.synced) next done u plain home.shift by (record {
       passes = c.passes;
-      waits = λ x there off beyond at row. absurd (back_alone w h lot x c.alone at);
+      waits = c.waits;
       channels = c.channels;
       row = λ i e x p row. as_home sc f w h k went lot i e x (byte f x) home.synced u p home.shift (all i e x p row).0;
       queue = c.queue;

@@ -32,7 +32,7 @@ use Rattle.nc_flatness.specs.Plans.{HasEnd, IsWriteBack, IsDrop}
 use Rattle.nc_flatness.specs.Steps.{Goes}
 use Rattle.nc_flatness.proofs.Outcomes.{gone}
 use Rattle.nc_flatness.proofs.Loans.{loan_is}
-use Rattle.nc_flatness.proofs.Rests.{behind}
+use Rattle.nc_flatness.proofs.Rests.{behind, lend_has_end}
 use Rattle.nc_flatness.proofs.Seen.{device_place_of}
 use Rattle.nc_flat_starts.proofs.Frames.{IsPlace, rest_hart}
 use Rattle.nc_flat_plans.proofs.OwnRows.{back_op}
@@ -96,8 +96,9 @@ pub written_goes : (sc : Scenario) (f : List ℕ) (w : WorldState) (h : HartNo) 
 written_goes sc f w h o s rest next is =
     let cbo = hart_ops.Cbo is.op is.block in
     let k : IsOpNext sc f w h o cbo s rest = record { next = next; act = ap (λ (t : Step). t.act) is.step } in
-    let u : IsUnder sc f w h is.lot = lends_under sc f w h o s rest is.lot false next is.hand (behind is.lot.id s rest is.later) in
-    op_event sc f w h o is.op is.block s rest is.lot k u (inl is.hand.side_is) is.step (writes_kept is.op is.writes) (λ x over. writes_whole w.machine is.block is.op x is.writes) is.hand.area_is is.later is.next
+    let later = lend_has_end is.lot.id rest is.later in
+    let u : IsUnder sc f w h is.lot = lends_under sc f w h o s rest is.lot false next is.hand (behind is.lot.id s rest later) in
+    op_event sc f w h o is.op is.block s rest is.lot k u (inl is.hand.side_is) is.step (writes_kept is.op is.writes) (λ x over. writes_whole w.machine is.block is.op x is.writes) is.hand.area_is later is.next
     (written_queued w (gone w h (issue_next w.machine h.0 cbo) (went_by w h cbo)) h.0 is.op is.block.0 is.writes)
 
 -- ---- a block is dropped

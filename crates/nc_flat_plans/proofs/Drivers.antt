@@ -27,7 +27,7 @@ use Rattle.nc_holds.proofs.OwnerEnds.{left_all}
 use Rattle.nc_rows.specs.Ahead.{ends, posts, stores_io, sends, is_settling, settling, act_coming, coming, sending}
 use Rattle.nc_rows.proofs.Steps.{steps_ahead}
 use Rattle.nc_flatness.specs.Lending.{is_lending}
-use Rattle.nc_flatness.specs.Plans.{HasEnd, StepGoes, Loads, Stores, WritesBack, Drops, Gives, Fences, Ends, Zeroes, Flushes, Settles, GivesArea, TakesBack, Marks, Posts, Claims, Registers, Polls, TakesTarget, TakesSource, IsStill, PlanGoes, EndsOne}
+use Rattle.nc_flatness.specs.Plans.{HasEnd, StepGoes, Loads, Stores, WritesBack, Drops, Gives, Fences, Ends, Zeroes, Flushes, Settles, GivesArea, TakesBack, Marks, Posts, Claims, Registers, Polls, TakesTarget, TakesSource, IsStill, lots_behind, PlanGoes, EndsOne}
 use Rattle.nc_flatness.specs.Flatness.{IsMapping, PlanLeft, PlanIs, PlanOf, Drives}
 use Rattle.nc_flatness.specs.Steps.{IsNow, OfLots, kind_of_act}
 use Rattle.nc_flatness.proofs.Lents.{sides_mapping}
@@ -45,6 +45,7 @@ pub record IsNext (sc : Scenario) (f : List ℕ) (w : WorldState) (h : HartNo) (
   -- it is one of lots
   pub kind : kind_of_act s.act ≡ OfLots
   pub goes : StepGoes (driver_of w h.0).fixed (driver_of w h.0).lots s rest
+  pub plan : PlanGoes (driver_of w h.0).fixed (driver_of w h.0).lots (s ∷ rest)
   pub left : PlanGoes (driver_of w h.0).fixed (lots_after_both s.first s.last (driver_of w h.0).lots) rest
   pub one : (driver_of w h.0).fixed.light ≡ true → EndsOne (s ∷ rest)
 
@@ -202,7 +203,7 @@ load_posts f lots s rest b (TakesSource is) = ap (λ (t : Step). stores_io (send
 
 plan_posts : (f : DriverConfig) (lots : List Lot) (rest : List Step) (b : ℕ) → PlanGoes f lots rest → list_any (posts b) rest ≡ false
 plan_posts f lots [] b left = refl
-plan_posts f lots (s ∷ rest) b left = ap (λ (t : Bool). t || list_any (posts b) rest) (load_posts f lots s rest b left.0) ∙ plan_posts f (lots_after_both s.first s.last lots) rest b left.1
+plan_posts f lots (s ∷ rest) b left = ap (λ (t : Bool). t || list_any (posts b) rest) (load_posts f lots s rest b left.0) ∙ plan_posts f (lots_after_both s.first s.last (lots_behind s.act lots)) rest b left.1
 
 pub plan_silent : (f : DriverConfig) (lots : List Lot) (rest : List Step) (b : ℕ) → PlanGoes f lots rest → sending b rest ≡ []
 plan_silent f lots rest b left = steps_ahead.send_none b rest (plan_posts f lots rest b left)
@@ -217,7 +218,7 @@ coming_next lot n s rest later plain = steps_ahead.next n lot.id s rest plain la
 pub moves_later : (sc : Scenario) (f : List ℕ) (w : WorldState) (h : HartNo) (o : Op) (s : Step) (rest : List Step) (lot : Lot) → IsNext sc f w h o s rest → In lot (driver_of w h.0).lots → (IsStill (driver_of w h.0).fixed lot → ⊥) → ends lot.id s ≡ false → HasEnd lot.id rest
 moves_later sc f w h o s rest lot next here moves plain =
     let d = driver_of w h.0 in
-    sym (ap (λ (b : Bool). b || list_any (ends lot.id) rest) plain) ∙ ends_later d.fixed d.lots (s ∷ rest) lot (next.goes, next.left) here moves
+    sym (ap (λ (b : Bool). b || list_any (ends lot.id) rest) plain) ∙ ends_later d.fixed d.lots (s ∷ rest) lot next.plan here moves
 
 pub returns_later : (sc : Scenario) (f : List ℕ) (w : WorldState) (h : HartNo) (o : Op) (s : Step) (rest : List Step) (lot : Lot) → IsNext sc f w h o s rest → In lot (driver_of w h.0).lots → lot.side ≡ sides.Returning → ends lot.id s ≡ false → HasEnd lot.id rest
 returns_later sc f w h o s rest lot next here side plain = moves_later sc f w h o s rest lot next here (back_moves (driver_of w h.0).fixed lot side) plain

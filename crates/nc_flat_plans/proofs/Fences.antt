@@ -2,7 +2,7 @@
 use Rattle.std.specs.Prelude.{All, if◌then◌else◌, Bool, true, false}
 use Rattle.std.specs.List.{list_any}
 use Rattle.std.proofs.Common.{◌≡◌, ℕ, List, [], ◌∷◌, ◌++◌, refl, sym, ap, ◌∙◌, inl, inr, subst}
-use Rattle.std.proofs.lemmas.Bool.{or_left, or_from, both_ways, false_from_ne_true}
+use Rattle.std.proofs.lemmas.Bool.{or_left, or_from, both_ways}
 use Rattle.nc_num.specs.Memory.{byte}
 use Rattle.nc_num.specs.declared.names.HartNo.{HartNo}
 use Rattle.nc_num.specs.declared.names.MapId.{MapId}
@@ -28,7 +28,7 @@ use Rattle.nc_rules.specs.Driver.{is_script}
 use Rattle.nc_rules.specs.EventTouches.{owner_of}
 use Rattle.nc_rules.specs.World.{WorldState, driver_of}
 use Rattle.nc_holds.proofs.ListsA.{all_at, at_get}
-use Rattle.nc_rows.specs.Ahead.{same_lot, stores_io, tokens_lot, ends, gives_lot, act_coming, token, coming}
+use Rattle.nc_rows.specs.Ahead.{same_lot, stores_io, tokens_lot, ends, gives_lot, act_coming, token, coming, turns_lot}
 use Rattle.nc_rows.specs.Parts.{rest_last}
 use Rattle.nc_rows.proofs.Steps.{steps_ahead}
 use Rattle.nc_flatness.specs.Books.{book_of}
@@ -37,12 +37,11 @@ use Rattle.nc_flatness.specs.Flatness.{BytesStand}
 use Rattle.nc_flatness.specs.Tokens.{TokenStands}
 use Rattle.nc_flatness.specs.Steps.{Goes}
 use Rattle.nc_flatness.proofs.Outcomes.{gone}
-use Rattle.nc_flatness.proofs.Loans.{one_lot}
-use Rattle.nc_flatness.proofs.Rests.{turn_name, by_turn}
+use Rattle.nc_flatness.proofs.Rests.{by_turn}
 use Rattle.nc_flat_starts.proofs.Frames.{goes_still, last_none}
 use Rattle.nc_flat_plans.proofs.OwnRows.{lent_full, back_full}
 use Rattle.nc_flat_plans.proofs.Drivers.{IsNext, IsDone, stay_lots, stay_transfers, done_so, returns_later, same_id}
-use Rattle.nc_flat_plans.proofs.Places.{IsUnder, lends_under, back_under, its_id, its_place, ways, far_lot, back_alone}
+use Rattle.nc_flat_plans.proofs.Places.{IsUnder, lends_under, back_under, its_id, its_place, ways, waits_far}
 use Rattle.nc_flat_plans.proofs.OwnCopies.{channels_stay}
 use Rattle.nc_flat_plans.proofs.Waits.{waits_fence}
 use Rattle.nc_flat_plans.proofs.Shifts.{sided, held, stay_shift, side_shift}
@@ -50,9 +49,9 @@ use Rattle.nc_flat_plans.proofs.StepTokens.{kept_tokens}
 use Rattle.nc_flat_plans.proofs.StepFrames.{step_bytes}
 use Rattle.nc_flat_plans.proofs.StepQueues.{queue_clear}
 use Rattle.nc_flat_plans.proofs.StepSeen.{unseen_before, moved_seen}
-use Rattle.nc_flat_plans.proofs.OwnPlaces.{to_come, lent_as, back_as, as_given, as_back}
+use Rattle.nc_flat_plans.proofs.OwnPlaces.{to_come, lent_as, back_as, as_given, as_back, home_to}
 use Rattle.nc_flat_plans.proofs.Puts.{IsStaying, stay_comes}
-use Rattle.nc_flat_plans.proofs.Backs.{last_comes, home_shift, home_bytes}
+use Rattle.nc_flat_plans.proofs.Backs.{last_comes, home_shift, home_bytes, turns_one}
 use Rattle.nc_flat_plans.proofs.Issues.{IsOpNext, op_may, emptied, fence_stays, fence_silent, went_by, op_goes}
 
 -- the machine stays
@@ -93,7 +92,7 @@ given_goes sc f w h o s rest next is =
       passes = λ x b there off beyond still row. row;
       waits = λ x there off beyond at row.
           let it = at.other.at.is.lot in
-          let far : same_lot it.id lot.id ≡ false = false_from_ne_true (same_lot it.id lot.id) (λ same. far_lot lot it at.other.off (one_lot sc f w h.0 it lot u.flat at.other.here u.here (turn_name it.id lot.id same))) in
+          let far = waits_far sc f w h lot x u at in
           waits_fence sc f w h o s rest went lot (sided sides.Device) x (byte f x) next done u shift (ap act_coming k.act) none at (ap (ends it.id) is.step ∙ or_from (same_lot it.id lot.id) false far refl) row;
       channels = channels_stay m h.0;
       row = λ i e x p row.
@@ -132,7 +131,8 @@ fenced_goes sc f w h o s rest next is =
     fence_event sc f w h o s rest k
     (step_bytes sc f w h o s rest m went lot (sided lot.side) next done u plain shift (goes_still sc f w h u.flat.bytes) (record {
       passes = λ x b there off beyond still row. row;
-      waits = λ x there off beyond at row. absurd (back_alone w h lot x (inl is.hand.side_is) at);
+      waits = λ x there off beyond at row.
+          waits_fence sc f w h o s rest went lot (sided lot.side) x (byte f x) next done u shift (ap act_coming k.act) none at (stays.plain at.other.at.is.lot.id) row;
       channels = channels_stay m h.0;
       row = λ i e x p row.
           let b = byte f x in
@@ -172,11 +172,15 @@ ended_goes sc f w h o s rest next is =
     let turn : s.last ≡ is.turn = ap (λ (t : Step). t.last) is.step in
     let plain = is.hand.area_is in
     let back : IsBack lot.id s.last = subst (λ (t : Turn). IsBack lot.id t) (sym turn) is.is_back in
+    let home = home_shift sc f w h went lot s rest u plain done first back in
     let none = emptied w h (op_may sc f w h o full s rest k) in
     fence_event sc f w h o s rest k
-    (home_bytes sc f w h o s rest m went lot next done u plain (home_shift sc f w h went lot s rest u plain done first back) is.next (goes_still sc f w h u.flat.bytes) (record {
-      alone = inl is.hand.side_is;
+    (home_bytes sc f w h o s rest m went lot next done u plain home is.next (goes_still sc f w h u.flat.bytes) (record {
       passes = λ x b there off beyond still row. row;
+      waits = λ x there off beyond at row.
+          let it = at.other.at.is.lot in
+          waits_fence sc f w h o s rest went lot (home_to h home.synced) x (byte f x) next done u home.shift (ap act_coming k.act) none at
+          (or_from (turns_lot it.id s.last) (stores_io (tokens_lot it.id) s.act) (turns_one it.id lot.id s.last back (waits_far sc f w h lot x u at)) (ap (stores_io (tokens_lot it.id)) k.act)) row;
       channels = channels_stay m h.0;
       back = λ i e x p row.
           let b = byte f x in

@@ -24,6 +24,7 @@ pub mod AreaRows
 pub mod AreaSteps
 pub mod AreaFences
 pub mod LightSteps
+pub mod Posted
 pub mod LightEvents
 pub mod Takes
 pub mod PlanEvents

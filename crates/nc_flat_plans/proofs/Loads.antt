@@ -50,7 +50,7 @@ use Rattle.nc_flatness.specs.Steps.{Goes}
 use Rattle.nc_flatness.specs.Flatness.{Flatness}
 use Rattle.nc_flatness.specs.Tokens.{is_lot_token}
 use Rattle.nc_flatness.proofs.Outcomes.{gone}
-use Rattle.nc_flatness.proofs.Rests.{behind}
+use Rattle.nc_flatness.proofs.Rests.{behind, lend_has_end}
 use Rattle.nc_flat_starts.proofs.Frames.{IsPlace}
 use Rattle.nc_flat_plans.proofs.OwnRows.{dir_end, of_either_false}
 use Rattle.nc_flat_plans.proofs.Drivers.{IsNext, IsDone, done_so, returns_later}
@@ -239,7 +239,7 @@ in_loads sc f w h o s rest next is goes =
     let lot = c.lot in
     let span = is.span in
     let e = c.entry in
-    let u : IsUnder sc f w h lot = lends_under sc f w h o s rest lot false next goes.hand (behind lot.id s rest goes.later) in
+    let u : IsUnder sc f w h lot = lends_under sc f w h o s rest lot false next goes.hand (behind lot.id s rest (lend_has_end lot.id rest goes.later)) in
     let k : IsOpNext sc f w h o (hart_ops.Load span Pma) s rest = record { next = next; act = ap (λ (t : Step). t.act) is.step } in
     let some = piece_some sc f w h o s rest span k in
     let within : IsWithin span e.span = subst (λ (r : Span). IsWithin span r) goes.from_is is.within in
@@ -251,7 +251,7 @@ in_loads sc f w h o s rest next is goes =
       under = u;
       moves = inl goes.hand.side_is;
       mapping = goes.hand.area_is;
-      later = goes.later;
+      later = lend_has_end lot.id rest goes.later;
       step = is.step;
       entry = c.here.entry;
       start = span.at;

@@ -58,7 +58,7 @@ own_copy sc f g w h o s rest k went next done same owned bytes =
     copy_step sc f g w (gone w h k went) h.0 s rest flat next.now.there (record {
       work = next.phase;
       rest_is = next.rest_is;
-      goes = (next.goes, next.left);
+      goes = next.plan;
       kind = next.kind;
       now = driver_here w h k went lt ∙ done.driver;
       channels = λ c granted. (channel_same w.machine k c same.devices, grantee_same w.machine k c same.devices ∙ granted);

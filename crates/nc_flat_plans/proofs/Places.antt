@@ -1,8 +1,8 @@
 -- The places of the lot in hand: what their mappings are, and where the channel sees them; and the places beside.
-use Rattle.std.specs.Prelude.{Some, All, ◌&&◌, not, Bool, true, false, slice_get}
+use Rattle.std.specs.Prelude.{Some, All, ◌&&◌, Bool, true, false, slice_get}
 use Rattle.std.specs.List.{list_any}
 use Rattle.std.proofs.Common.{◌≡◌, ◌⊎◌, ℕ, ◌<◌, List, [], ◌∷◌, length, refl, sym, ap, ◌∙◌, inl, inr, subst, arith}
-use Rattle.std.proofs.lemmas.Bool.{cases_Bool, both_ways, and_parts, and_from, or_left, or_right}
+use Rattle.std.proofs.lemmas.Bool.{cases_Bool, both_ways, and_parts, and_from, or_left, or_right, false_from_ne_true}
 use Rattle.nc_num.specs.Places.{covers}
 use Rattle.nc_num.specs.declared.names.HartNo.{HartNo}
 use Rattle.nc_num.specs.declared.names.MapId.{MapId}
@@ -30,13 +30,14 @@ use Rattle.nc_scripts.proofs.LotLaws.{named_so, its_name}
 use Rattle.nc_holds.specs.Held.{IsEntryOf}
 use Rattle.nc_holds.proofs.ListsA.{all_at}
 use Rattle.nc_rows.specs.Rows.{Loan, device_place}
+use Rattle.nc_rows.specs.Ahead.{same_lot, ends}
 use Rattle.nc_flatness.specs.Books.{is_entry_of, book_of, mapping_in}
-use Rattle.nc_flatness.specs.Plans.{IsStill, StillSent, IsWaiting, IsBeside, IsInHand, HasEnd}
+use Rattle.nc_flatness.specs.Plans.{IsStill, StillSent, IsBeside, IsInHand, HasEnd, IsEndName}
 use Rattle.nc_flatness.specs.Flatness.{Flatness}
 use Rattle.nc_flatness.proofs.Areas.{entry_pooled, entry_unpooled}
 use Rattle.nc_flatness.specs.Tokens.{is_lending_side}
 use Rattle.nc_flatness.proofs.Loans.{IsLoan, lot_in, entry_loan, one_lot, one_of, apart_lots, own_entry, get_below, area_direct}
-use Rattle.nc_flatness.proofs.Rests.{ends_later, back_moves, lend_moves}
+use Rattle.nc_flatness.proofs.Rests.{ends_later, back_moves, lend_moves, at_plan, ends_two, turn_name}
 use Rattle.nc_flatness.proofs.Tokens.{any_in}
 use Rattle.nc_flatness.proofs.Owned.{IsMapped, mapped, entry_owned, entry_ram, of_buffer}
 use Rattle.nc_flatness.proofs.Seen.{seen, place_ways, mapped_unslotted, seen_lent}
@@ -81,7 +82,7 @@ back_under sc f w h o s rest lot area next hand =
       here = hand.here;
       others = hand.others;
       moves = inr (inl hand.side_is);
-      ended = subst (λ (r : List Step). HasEnd lot.id r) (sym next.rest_is) (ends_later d.fixed d.lots (s ∷ rest) lot (next.goes, next.left) hand.here (back_moves d.fixed lot hand.side_is));
+      ended = subst (λ (r : List Step). HasEnd lot.id r) (sym next.rest_is) (ends_later d.fixed d.lots (s ∷ rest) lot next.plan hand.here (back_moves d.fixed lot hand.side_is));
     }
 
 pub lent_side : (lot : Lot) → IsMoving lot.side → is_wanted lot.side ≡ false
@@ -209,27 +210,31 @@ beside sc f w h lot k x u there off is own =
 pub far_entry : (sc : Scenario) (f : List ℕ) (w : WorldState) (h : HartNo) (lot : Lot) (k : MapId) (x : ℕ) → IsUnder sc f w h lot → IsOther w h lot k x → is_entry_of k lot ≡ false
 far_entry sc f w h lot k x u o = apart_lots sc f w h.0 k lot o.at.is.lot u.flat u.here o.here o.off o.at.is.entry_of
 
--- ---- what waits beside it: the destination of a copy, while the source is being lent
+-- ---- what goes along beside it: the other end of a copy, while both are being lent
 
+-- the end of its stay is to come too
 pub record WaitsAt (w : WorldState) (h : HartNo) (lot : Lot) (x : ℕ) : Type 0 where
   pub id : MapId
   pub mapped : mapping_in (owner_of w x) ≡ Some id
   pub own : id.hart.0 ≡ h.0
   pub other : IsOther w h lot id x
-  pub waits : IsWaiting lot other.at.is.lot
-  pub full : (driver_of w h.0).fixed.light ≡ false
+  pub lends : other.at.is.lot.side ≡ sides.Lending
+  pub plain : is_area other.at.is.lot.kind ≡ false
+  pub later : HasEnd other.at.is.lot.id (driver_of w h.0).rest
+  -- the lot in hand is an end of the copy
+  pub label : lot.id.label.0 ≡ 1000
+
+-- the mapping is of a lot that is being lent, and the end of its stay is to come
+abbrev goes_along : List Step → MapId → Lot → Bool
+goes_along rest k lot = is_lending_side lot.side && (is_entry_of k lot && list_any (ends lot.id) rest)
+
+-- such a mapping goes along
+abbrev pub along : WorldState → HartNo → MapId → Bool
+along w h k = list_any (goes_along (driver_of w h.0).rest k) (driver_of w h.0).lots
 
 -- all else beside it is still
 abbrev pub StillAt : WorldState → HartNo → Lot → ℕ → Type 0
-StillAt w h lot x = (k : MapId) → mapping_in (owner_of w x) ≡ Some k → k.hart.0 ≡ h.0 → (o : IsOther w h lot k x) × IsStill (driver_of w h.0).fixed o.at.is.lot
-
--- the mapping is of a lot that is being lent
-abbrev is_lent_of : MapId → Lot → Bool
-is_lent_of k lot = is_lending_side lot.side && is_entry_of k lot
-
--- with full fences such a mapping waits
-abbrev pub along : WorldState → HartNo → MapId → Bool
-along w h k = not (driver_of w h.0).fixed.light && list_any (is_lent_of k) (driver_of w h.0).lots
+StillAt w h lot x = (k : MapId) → mapping_in (owner_of w x) ≡ Some k → k.hart.0 ≡ h.0 → (o : IsOther w h lot k x) × IsStill (driver_of w h.0).fixed o.at.is.lot × (along w h k ≡ false)
 
 lending_so : (side : Side) → is_lending_side side ≡ true → side ≡ sides.Lending
 lending_so sides.Lending is = refl
@@ -239,32 +244,60 @@ lending_so sides.Returning is = absurd cc
 lending_so sides.Synced is = absurd cc
 lending_so sides.Own is = absurd cc
 
-not_so : (b : Bool) → not b ≡ true → b ≡ false
-not_so true is = absurd cc
-not_so false is = refl
-
 any_here : (p : Lot → Bool) (lots : List Lot) (lot : Lot) → In lot lots → p lot ≡ true → list_any p lots ≡ true
 any_here p [] lot here is = absurd here
 any_here p (x ∷ lots) lot (inl same) is = or_left (p x) (list_any p lots) (ap p same ∙ is)
 any_here p (x ∷ lots) lot (inr here) is = or_right (p x) (list_any p lots) (any_here p lots lot here is)
 
+-- an end of a copy
+end_label : (id : LotId) → IsEndName id → id.label.0 ≡ 1000
+end_label id (inl is) = ap (λ (j : LotId). j.label.0) is
+end_label id (inr is) = ap (λ (j : LotId). j.label.0) is
+
+-- is no area
+area_label : (pool : Span) (k : Kind) (id : LotId) (es : List Entry) → is_area k ≡ true → FitsKind pool k id es → id.label.0 ≡ 1000 → ⊥
+area_label pool kinds.Single id es area fits label = absurd cc
+area_label pool kinds.List id es area fits label = absurd cc
+area_label pool kinds.Area id es area fits label = omega (arith, fits.0.label, label)
+area_label pool kinds.Copy id es area fits label = absurd cc
+
+end_plain : (sc : Scenario) (f : List ℕ) (w : WorldState) (h : ℕ) (lot : Lot) → Flatness sc f w → In lot (driver_of w h).lots → lot.id.label.0 ≡ 1000 → is_area lot.kind ≡ false
+end_plain sc f w h lot flat here label =
+    false_from_ne_true (is_area lot.kind) (λ area. area_label (driver_of w h).fixed.pool lot.kind lot.id lot.list.entries area (lot_in sc f w h lot flat here).kind label)
+
 pub along_waits : (sc : Scenario) (f : List ℕ) (w : WorldState) (h : HartNo) (lot : Lot) (k : MapId) (x : ℕ) → IsUnder sc f w h lot → x < sc.ram → IsOff lot x → mapping_in (owner_of w x) ≡ Some k → k.hart.0 ≡ h.0 → along w h k ≡ true → WaitsAt w h lot x
 along_waits sc f w h lot k x u there off is own goes =
     let d = driver_of w h.0 in
-    let parts = and_parts (not d.fixed.light) (list_any (is_lent_of k) d.lots) goes in
-    let full = not_so d.fixed.light parts.0 in
-    let some = any_in (is_lent_of k) d.lots parts.1 in
-    let lent = and_parts (is_lending_side some.0.side) (is_entry_of k some.0) some.2 in
+    let some = any_in (goes_along d.rest k) d.lots goes in
+    let lent = and_parts (is_lending_side some.0.side) (is_entry_of k some.0 && list_any (ends some.0.id) d.rest) some.2 in
+    let both = and_parts (is_entry_of k some.0) (list_any (ends some.0.id) d.rest) lent.1 in
     let o = beside sc f w h lot k x u there off is own in
-    let same : some.0 ≡ o.at.is.lot = one_of sc f w h.0 k some.0 o.at.is.lot u.flat some.1 o.here lent.1 o.at.is.entry_of in
-    let side : o.at.is.lot.side ≡ sides.Lending = ap (λ (l : Lot). l.side) (sym same) ∙ lending_so some.0.side lent.0 in
-    elim o.way [
-      | inl still ↦ absurd (lend_moves d.fixed o.at.is.lot side full still)
-      | inr waits ↦ record { id = k; mapped = is; own = own; other = o; waits = waits; full = full }
+    let it = o.at.is.lot in
+    let same : some.0 ≡ it = one_of sc f w h.0 k some.0 it u.flat some.1 o.here both.0 o.at.is.entry_of in
+    let side : it.side ≡ sides.Lending = ap (λ (l : Lot). l.side) (sym same) ∙ lending_so some.0.side lent.0 in
+    let later : HasEnd it.id d.rest = subst (λ (l : Lot). HasEnd l.id d.rest) same both.1 in
+    elim (cases_Bool d.fixed.light) [
+      | inl light ↦
+          let plan = at_plan d lot.id (u.flat.bytes.drives h.0 u.lt) u.ended in
+          let ends_both = ends_two d.rest lot.id it.id (plan.left.one light) u.ended later (λ named. far_lot lot it o.off (one_lot sc f w h.0 it lot u.flat o.here u.here (sym named))) in
+          record { id = k; mapped = is; own = own; other = o; lends = side; plain = end_plain sc f w h.0 it u.flat o.here (end_label it.id ends_both.1); later = later; label = end_label lot.id ends_both.0 }
+      | inr full ↦ elim o.way [
+        | inl still ↦ absurd (lend_moves d.fixed it side full still)
+        | inr waits ↦ record { id = k; mapped = is; own = own; other = o; lends = side; plain = ap is_area waits.kind; later = later; label = ap (λ (id : LotId). id.label.0) waits.source_is }
+      ]
     ]
 
-pub still_other : (sc : Scenario) (f : List ℕ) (w : WorldState) (h : HartNo) (lot : Lot) (k : MapId) (x : ℕ) → (o : IsOther w h lot k x) → along w h k ≡ false → IsStill (driver_of w h.0).fixed o.at.is.lot
-still_other sc f w h lot k x o none =
+-- one that is being lent and does not go along has nothing to come
+pub along_unended : (w : WorldState) (h : HartNo) (k : MapId) (lot : Lot) → In lot (driver_of w h.0).lots → is_entry_of k lot ≡ true → lot.side ≡ sides.Lending → along w h k ≡ false → list_any (ends lot.id) (driver_of w h.0).rest ≡ false
+along_unended w h k lot here entry side none =
+    let d = driver_of w h.0 in
+    let later = list_any (ends lot.id) d.rest in
+    false_from_ne_true later (λ on.
+    let goes : goes_along d.rest k lot ≡ true = and_from (is_lending_side lot.side) (is_entry_of k lot && later) (ap is_lending_side side) (and_from (is_entry_of k lot) later entry on) in
+    both_ways (along w h k) none (any_here (goes_along d.rest k) d.lots lot here goes))
+
+pub still_other : (sc : Scenario) (f : List ℕ) (w : WorldState) (h : HartNo) (lot : Lot) (k : MapId) (x : ℕ) → IsUnder sc f w h lot → (o : IsOther w h lot k x) → along w h k ≡ false → IsStill (driver_of w h.0).fixed o.at.is.lot
+still_other sc f w h lot k x u o none =
     let d = driver_of w h.0 in
     let it = o.at.is.lot in
     elim o.way [
@@ -272,30 +305,26 @@ still_other sc f w h lot k x o none =
       | inr waits ↦ elim (cases_Bool d.fixed.light) [
         | inl light ↦ StillSent waits.waits light
         | inr full ↦
-            let some : list_any (is_lent_of k) d.lots ≡ true = any_here (is_lent_of k) d.lots it o.here (and_from (is_lending_side it.side) (is_entry_of k it) (ap is_lending_side waits.waits) o.at.is.entry_of) in
-            absurd (both_ways (along w h k) none (and_from (not d.fixed.light) (list_any (is_lent_of k) d.lots) (ap not full) some))
+            let plan = at_plan d lot.id (u.flat.bytes.drives h.0 u.lt) u.ended in
+            let later : HasEnd it.id d.rest = ends_later d.fixed d.lots d.rest it plan.left.goes o.here (lend_moves d.fixed it waits.waits full) in
+            absurd (both_ways (list_any (ends it.id) d.rest) (along_unended w h k it o.here o.at.is.entry_of waits.waits none) later)
       ]
     ]
 
 pub along_still : (sc : Scenario) (f : List ℕ) (w : WorldState) (h : HartNo) (lot : Lot) (x : ℕ) → IsUnder sc f w h lot → x < sc.ram → IsOff lot x → ((k : MapId) → mapping_in (owner_of w x) ≡ Some k → k.hart.0 ≡ h.0 → along w h k ≡ false) → StillAt w h lot x
 along_still sc f w h lot x u there off none k is own =
     let o = beside sc f w h lot k x u there off is own in
-    (o, still_other sc f w h lot k x o (none k is own))
+    (o, still_other sc f w h lot k x u o (none k is own), none k is own)
 
--- none waits for an area
-area_label : (pool : Span) (k : Kind) (id : LotId) (es : List Entry) → is_area k ≡ true → FitsKind pool k id es → id.label.0 ≡ 1000 → ⊥
-area_label pool kinds.Single id es area fits label = absurd cc
-area_label pool kinds.List id es area fits label = absurd cc
-area_label pool kinds.Area id es area fits label = omega (arith, fits.0.label, label)
-area_label pool kinds.Copy id es area fits label = absurd cc
+-- it has another name
+pub waits_far : (sc : Scenario) (f : List ℕ) (w : WorldState) (h : HartNo) (lot : Lot) (x : ℕ) → IsUnder sc f w h lot → (at : WaitsAt w h lot x) → same_lot at.other.at.is.lot.id lot.id ≡ false
+waits_far sc f w h lot x u at =
+    let it = at.other.at.is.lot in
+    false_from_ne_true (same_lot it.id lot.id) (λ same. far_lot lot it at.other.off (one_lot sc f w h.0 it lot u.flat at.other.here u.here (turn_name it.id lot.id same)))
 
+-- none goes along with an area
 pub area_named : (sc : Scenario) (f : List ℕ) (w : WorldState) (h : HartNo) (lot : Lot) → IsUnder sc f w h lot → is_area lot.kind ≡ true → lot.id.label.0 ≡ 1000 → ⊥
-area_named sc f w h lot u area label = area_label (driver_of w h.0).fixed.pool lot.kind lot.id lot.list.entries area (lot_in sc f w h.0 lot u.flat u.here).kind label
+area_named sc f w h lot u area label = both_ways (is_area lot.kind) (end_plain sc f w h.0 lot u.flat u.here label) area
 
 pub area_alone : (sc : Scenario) (f : List ℕ) (w : WorldState) (h : HartNo) (lot : Lot) (x : ℕ) → IsUnder sc f w h lot → is_area lot.kind ≡ true → WaitsAt w h lot x → ⊥
-area_alone sc f w h lot x u area at = area_named sc f w h lot u area (ap (λ (id : LotId). id.label.0) at.waits.source_is)
-
--- nor for a lot that is taken back
-pub back_alone : (w : WorldState) (h : HartNo) (lot : Lot) (x : ℕ) → (lot.side ≡ sides.Returning) ⊎ (lot.side ≡ sides.Device) → WaitsAt w h lot x → ⊥
-back_alone w h lot x (inl is) at = let both : sides.Returning ≡ sides.Lending = sym is ∙ at.waits.lent in absurd (cc)
-back_alone w h lot x (inr is) at = let both : sides.Device ≡ sides.Lending = sym is ∙ at.waits.lent in absurd (cc)
+area_alone sc f w h lot x u area at = area_named sc f w h lot u area at.label

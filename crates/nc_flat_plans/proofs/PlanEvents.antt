@@ -9,13 +9,15 @@ use Rattle.nc_scripts.specs.Drivers.{IsAtWork, IsPhase}
 use Rattle.nc_rules.specs.declared.steps.Phase.{Phase}
 use Rattle.nc_rules.specs.declared.steps.Phase.TheVariants.{Work}
 use Rattle.nc_rules.specs.declared.steps.Step.{Step}
+use Rattle.nc_rules.specs.Copies.{copy_steps}
 use Rattle.nc_rules.specs.Driver.{in_hand}
 use Rattle.nc_rules.specs.World.{WorldState, driver_of}
 use Rattle.nc_flatness.specs.Lending.{is_lending}
 use Rattle.nc_flatness.specs.Plans.{StepGoes, Loads, Stores, WritesBack, Drops, Gives, Fences, Ends, Zeroes, Flushes, Settles, GivesArea, TakesBack, Marks, Posts, Claims, Registers, Polls, TakesTarget, TakesSource, PlanGoes, EndsOne}
 use Rattle.nc_flatness.specs.Flatness.{PlanOf, StandsAt}
 use Rattle.nc_flatness.specs.Steps.{IsNow, Goes, PlansAreFlat, OfLots, kind_of_act, kind_of_next}
-use Rattle.nc_rules.specs.Copies.{copy_steps}
+use Rattle.nc_flatness.proofs.Rests.{plan_next}
+use Rattle.nc_flatness.proofs.CopySteps.{of_lots}
 use Rattle.nc_flat_plans.proofs.Drivers.{IsNext, plan_left}
 use Rattle.nc_flat_plans.proofs.Loads.{loaded_goes}
 use Rattle.nc_flat_plans.proofs.Stores.{stored_goes}
@@ -60,7 +62,7 @@ rest_by sc f w h o [] now hand is phase left kind plan one =
     absurd (omega (arith, work.some, ap (λ (r : List Step). length r) left))
 rest_by sc f w h o (s ∷ rest) now hand is phase left kind plan one =
     step_by sc f w h o s rest
-    (record { now = now; hand = hand; lends = is; phase = phase; rest_is = left; kind = kind; goes = plan.0; left = plan.1; one = one }) plan.0
+    (record { now = now; hand = hand; lends = is; phase = phase; rest_is = left; kind = kind; goes = plan.0; plan = plan; left = plan_next (driver_of w h.0).fixed (driver_of w h.0).lots s rest plan (of_lots s.act kind).polls; one = one }) plan.0
 
 pub plans_go : PlansAreFlat
 plans_go sc f w h o now hand is phase kind =

@@ -96,7 +96,7 @@ waiting_plain sc f w h lot n x l at is own known =
     let same : at.id ≡ n = cc in
     let here : (book_of w).loan at.id ≡ Some l = ap (λ (j : MapId). (book_of w).loan j) same ∙ ap (λ (g : ℕ). loan_of (driver_of w g) n) own ∙ known in
     let loan : it.loan ≡ l = same_some it.loan l (sym it.known ∙ here) in
-    sym (ap (λ (j : Loan). j.area) loan) ∙ it.is.area ∙ ap is_area at.waits.kind
+    sym (ap (λ (j : Loan). j.area) loan) ∙ it.is.area ∙ at.plain
 
 -- the rows, the queue, the slots and the coherent pool behind it, where flat memory is g
 pub record IsBehind (sc : Scenario) (f g : List ℕ) (w : WorldState) (h : HartNo) (k : MachineState) (went : Went) (lot : Lot) (to : MapId → Owner) : Type 0 where
@@ -142,7 +142,7 @@ turns_so sc f g w h o s rest k went lot to next done u shift writes b =
       along = along w h;
       others = λ x n there off is own.
           let other = beside sc f w h lot n x u there off is own in
-          (shift.others n (far_entry sc f w h lot n x u other), λ none. aside sc f w h o s rest went lot n x next done u other (still_other sc f w h lot n x other none) own);
+          (shift.others n (far_entry sc f w h lot n x u other), λ none. aside sc f w h o s rest went lot n x next done u other (still_other sc f w h lot n x u other none) none own);
       goes_along = λ x n there out off is own goes.
           let at = along_waits sc f w h lot n x u there off is own goes in
           record {
@@ -154,7 +154,7 @@ turns_so sc f g w h o s rest k went lot to next done u shift writes b =
       free = b.free;
       silent = λ b.
           ap (λ (r : List Step). sending b r) done.rest ∙ plan_silent d.fixed _ rest b next.left
-          ∙ sym (ap (λ (r : List Step). sending b r) next.rest_is ∙ plan_silent d.fixed d.lots (s ∷ rest) b (next.goes, next.left));
+          ∙ sym (ap (λ (r : List Step). sending b r) next.rest_is ∙ plan_silent d.fixed d.lots (s ∷ rest) b next.plan);
       fixed = done.fixed;
       drives = done.drives;
       lasting = b.lasting;

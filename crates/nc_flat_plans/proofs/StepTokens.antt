@@ -1,8 +1,8 @@
 -- A step of a plan that queues no token: the tokens of its hart's lots stand as they did.
 use Rattle.std.specs.Prelude.{All, ◌||◌, Bool, true, false, filter}
 use Rattle.std.specs.List.{list_any}
-use Rattle.std.proofs.Common.{◌≡◌, ℕ, List, ◌∷◌, refl, sym, ap, ◌∙◌, inl, inr, subst}
-use Rattle.std.proofs.lemmas.Bool.{or_from, both_ways}
+use Rattle.std.proofs.Common.{◌≡◌, ℕ, List, ◌∷◌, refl, sym, ap, ◌∙◌, inl, inr, subst, arith, ◌<◌, length}
+use Rattle.std.proofs.lemmas.Bool.{both_ways}
 use Rattle.std.proofs.lemmas.List.{append-nil}
 use Rattle.nc_num.specs.declared.names.HartNo.{HartNo}
 use Rattle.nc_plan.specs.Plans.{In}
@@ -21,16 +21,18 @@ use Rattle.nc_rules.specs.Turns.{lots_after}
 use Rattle.nc_rules.specs.Copies.{copy_steps}
 use Rattle.nc_rules.specs.Driver.{DriverState, Went}
 use Rattle.nc_rules.specs.World.{WorldState, driver_of}
-use Rattle.nc_scripts.proofs.Lists.{all_in, all_to}
+use Rattle.nc_scripts.proofs.Lists.{all_in}
+use Rattle.nc_scripts.specs.Drivers.{AreApart}
 use Rattle.nc_holds.proofs.ListsA.{all_at}
-use Rattle.nc_rows.specs.Ahead.{turns_lot, stores_io, tokens_lot, ends}
+use Rattle.nc_rows.specs.Ahead.{turns_lot, stores_io, tokens_lot}
 use Rattle.nc_row_issues.specs.Laws.{Enters}
 use Rattle.nc_flatness.specs.Plans.{IsBack, StepGoes, Loads, Stores, WritesBack, Drops, Gives, Fences, Ends, Zeroes, Flushes, Settles, GivesArea, TakesBack, Marks, Posts, Claims, Registers, Polls, TakesTarget, TakesSource}
 use Rattle.nc_flatness.specs.Steps.{OfLots, kind_of_act, kind_of_next}
-use Rattle.nc_flatness.specs.Tokens.{is_lot_token, is_sent, TokenStands}
-use Rattle.nc_flatness.proofs.Rests.{by_turn}
+use Rattle.nc_flatness.specs.Tokens.{is_lot_token, is_sent, TokenStands, ends_lending}
+use Rattle.nc_flatness.specs.Flatness.{Flatness}
+use Rattle.nc_flatness.proofs.Rests.{lending_off}
 use Rattle.nc_flatness.proofs.Stands.{BeforeTurn, turn_stands}
-use Rattle.nc_flatness.proofs.Tokens.{ended_unsent}
+use Rattle.nc_flatness.proofs.Lents.{last_unsent}
 use Rattle.nc_flat_plans.proofs.Drivers.{IsNext, IsDone}
 
 -- ---- the queue
@@ -99,15 +101,21 @@ never_lends f lots s rest kind (TakesSource is) = ap is_lend is.last
 
 -- ---- the tokens behind it
 
+pub driver_apart : (sc : Scenario) (f : List ℕ) (w : WorldState) (h : HartNo) → Flatness sc f w → h.0 < length sc.harts → AreApart (driver_of w h.0).lots
+driver_apart sc f w h flat there = (flat.world.holds.each h.0 (omega (arith, there, flat.world.of_scenario.harts))).driver.apart
+
 -- a first turn is of lots that are not sent, and lends none
 pub record IsUnsent (d : DriverState) (s : Step) (rest : List Step) : Type 0 where
   pub lends : (id : LotId) → s.first ≡ turns.Lend id → ⊥
   pub unsent : (lot : Lot) → In lot d.lots → turns_lot lot.id s.first ≡ true → is_sent (s ∷ rest) lot ≡ false
+  -- nor is the last turn of one that is
+  pub last : (lot : Lot) → In lot (lots_after s.first d.lots) → turns_lot lot.id s.last ≡ true → is_sent (s ∷ rest) lot ≡ false
 
-pub stay_unsent : (d : DriverState) (s : Step) (rest : List Step) → s.first ≡ turns.Stay → IsUnsent d s rest
-stay_unsent d s rest first = record {
+stay_unsent : (d : DriverState) (s : Step) (rest : List Step) → AreApart d.lots → StepGoes d.fixed d.lots s rest → s.first ≡ turns.Stay → IsUnsent d s rest
+stay_unsent d s rest apart goes first = record {
   lends = λ id is. let both : turns.Stay ≡ turns.Lend id = sym first ∙ is in absurd cc;
   unsent = λ lot here is. let both : false ≡ true = sym (ap (turns_lot lot.id) first) ∙ is in absurd cc;
+  last = λ lot here is. last_unsent d.fixed d.lots s rest lot apart goes (subst (λ (t : Turn). In lot (lots_after t d.lots)) first here) is;
 }
 
 pub turned_tokens : (sc : Scenario) (f : List ℕ) (w : WorldState) (h : HartNo) (o : Op) (s : Step) (rest : List Step) (k : MachineState) (went : Went) → IsNext sc f w h o s rest → IsDone (driver_of w h.0) s rest went → IsUnsent (driver_of w h.0) s rest
@@ -123,15 +131,15 @@ turned_tokens sc f w h o s rest k went next done opens none same light =
     let opened : All (TokenStands (s ∷ rest) q) (lots_after s.first d.lots) =
     turn_stands s.first (s ∷ rest) (s ∷ rest) q q d.lots (record { tokens = λ id. refl; others = λ id off. refl; lends = λ id is. absurd (opens.lends id is) }) first in
     let before : All (BeforeTurn s.last (s ∷ rest) q) (lots_after s.first d.lots) =
-    all_to (TokenStands (s ∷ rest) q) (BeforeTurn s.last (s ∷ rest) q) (lots_after s.first d.lots) opened (λ lot stands. record { stands = stands; turned = λ is. ended_unsent (s ∷ rest) lot (by_turn lot.id s rest s.last refl is) }) in
+    all_in (BeforeTurn s.last (s ∷ rest) q) (lots_after s.first d.lots) (λ lot here. record { stands = all_at (TokenStands (s ∷ rest) q) (lots_after s.first d.lots) lot opened here; turned = λ is. opens.last lot here is }) in
     let now : All (TokenStands rest r) (lots_after s.last (lots_after s.first d.lots)) =
     turn_stands s.last (s ∷ rest) rest q r (lots_after s.first d.lots) (record {
       tokens = same;
-      others = λ id off. sym (ap (λ (b : Bool). b || list_any (ends id) rest) (or_from (turns_lot id s.last) (stores_io (tokens_lot id) s.act) off (none id)));
+      others = λ id off. sym (ap (λ (b : Bool). b || list_any (ends_lending id) rest) (lending_off id s off (none id)));
       lends = λ id is. absurd (both_ways (is_lend s.last) (never_lends d.fixed d.lots s rest next.kind next.goes) (ap is_lend is));
     }) before in
     subst (λ (ss : List Step). All (TokenStands ss r) went.driver.lots) (sym done.rest) (subst (λ (ls : List Lot). All (TokenStands rest r) ls) (sym done.lots) now)
 
 pub kept_tokens : (sc : Scenario) (f : List ℕ) (w : WorldState) (h : HartNo) (o : Op) (s : Step) (rest : List Step) (k : MachineState) (went : Went) → IsNext sc f w h o s rest → IsDone (driver_of w h.0) s rest went → s.first ≡ turns.Stay
     → ((id : LotId) → stores_io (tokens_lot id) s.act ≡ false) → SameTokens w.machine k h → went.driver.fixed.light ≡ true → All (TokenStands went.driver.rest (queue_of k h.0)) went.driver.lots
-kept_tokens sc f w h o s rest k went next done first none same light = turned_tokens sc f w h o s rest k went next done (stay_unsent (driver_of w h.0) s rest first) none same light
+kept_tokens sc f w h o s rest k went next done first none same light = turned_tokens sc f w h o s rest k went next done (stay_unsent (driver_of w h.0) s rest (driver_apart sc f w h next.now.flat next.now.there) next.goes first) none same light

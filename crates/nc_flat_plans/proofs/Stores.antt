@@ -2,7 +2,7 @@
 use Rattle.std.specs.Prelude.{Option, Some, None, ◌||◌, ◌-◌, Bool, true, false, slice_get}
 use Rattle.std.specs.List.{list_any}
 use Rattle.std.proofs.Common.{◌≡◌, ◌⊎◌, ℕ, ◌<◌, List, [], ◌∷◌, refl, sym, ap, ◌∙◌, inl, inr, subst, arith}
-use Rattle.std.proofs.lemmas.Bool.{cases_Bool, both_ways}
+use Rattle.std.proofs.lemmas.Bool.{cases_Bool, both_ways, or_from}
 use Rattle.nc_num.specs.Memory.{byte}
 use Rattle.nc_num.specs.Places.{covers}
 use Rattle.nc_num.specs.declared.names.HartNo.{HartNo}
@@ -41,12 +41,13 @@ use Rattle.nc_rows.specs.Parts.{StoreIsQueued, IsPiece, LastIs, act_last, rest_l
 use Rattle.nc_rows.specs.Rows.{gives_here}
 use Rattle.nc_row_issues.proofs.PlacePushes.{calm_pushed}
 use Rattle.nc_row_issues.proofs.RowIssues.{rows_issue}
+use Rattle.nc_row_issues.specs.Laws.{NoByte}
 use Rattle.nc_row_plans.specs.Laws.{Puts}
 use Rattle.nc_flatness.specs.Books.{book_of}
 use Rattle.nc_flatness.specs.Plans.{HasEnd, HasFull, HasByte, IsWithin, GoesIn, ComesOut, IsBack, IsStore}
 use Rattle.nc_flatness.specs.Steps.{Goes}
 use Rattle.nc_flatness.proofs.Outcomes.{gone}
-use Rattle.nc_flatness.proofs.Rests.{behind}
+use Rattle.nc_flatness.proofs.Rests.{behind, lend_has_end}
 use Rattle.nc_flatness.proofs.Loans.{loan_is}
 use Rattle.nc_flatness.proofs.Lasts.{moved_on}
 use Rattle.nc_flatness.proofs.Seen.{seen, device_long, device_place_of}
@@ -54,7 +55,7 @@ use Rattle.nc_flat_plans.proofs.OwnRows.{BackAs, back_put}
 use Rattle.nc_flat_plans.proofs.Passes.{store_plain, passes_by}
 use Rattle.nc_flat_plans.proofs.Drivers.{IsNext, done_so, returns_later}
 use Rattle.nc_flat_plans.proofs.PoolPlaces.{slot_unpooled}
-use Rattle.nc_flat_plans.proofs.Places.{IsUnder, lends_under, back_under, its_id, its_loan, its_place, known, in_ram, unslotted, unpooled, seen_its}
+use Rattle.nc_flat_plans.proofs.Places.{IsUnder, lends_under, back_under, its_id, its_loan, its_place, known, in_ram, unslotted, unpooled, seen_its, waits_far}
 use Rattle.nc_flat_plans.proofs.Shifts.{IsStay, held}
 use Rattle.nc_flat_plans.proofs.StepTokens.{same_entered, kept_tokens}
 use Rattle.nc_flat_plans.proofs.StepFrames.{enters_by}
@@ -66,6 +67,7 @@ use Rattle.nc_flat_plans.proofs.OwnPlaces.{to_come, back_as, home_to}
 use Rattle.nc_flat_plans.proofs.Puts.{IsStaying, IsPut, put_bytes}
 use Rattle.nc_flat_plans.proofs.Backs.{turns_one, last_comes, home_shift, home_bytes}
 use Rattle.nc_flat_plans.proofs.Issues.{IsOpNext, op_there, op_enters, store_silent, went_by, op_goes}
+use Rattle.nc_flat_plans.proofs.Waits.{waits_put, waits_seen}
 
 -- ---- the piece
 
@@ -246,9 +248,14 @@ last_goes sc f w h o s rest dst from to lot i e k out at first back last =
     let home = home_shift sc f w h went lot s rest u k.mapping done first back in
     op_goes sc f w h o op s rest k.op (store_silent w h (driver_of w h.0).phase dst Pma Last k.op.next.phase)
     (home_bytes sc f w h o s rest n went lot k.op.next done u k.mapping home last (enters_by sc f w h n entry u.flat by refl) (record {
-      alone = inl out.hand.side_is;
       passes = λ x b there off beyond still row.
           rows_issue.passed (book_of w) (owner_of w x) b m n h.0 entry x by (passes_by (book_of w) (owner_of w x) m h.0 entry x put.plain (put.clear x there off beyond) (posted_beside sc f w h lot x u still)) row;
+      waits = λ x there off beyond at row.
+          let it = at.other.at.is.lot in
+          let clear = put.clear x there off beyond in
+          waits_put sc f w h o s rest n went lot (home_to h home.synced) entry x k.op.next done u home.shift by (ap act_coming k.op.act) at
+          (or_from (turns_lot it.id s.last) (stores_io (tokens_lot it.id) s.act) (turns_one it.id lot.id s.last back (waits_far sc f w h lot x u at)) (ap (stores_io (tokens_lot it.id)) k.op.act))
+          clear.byte (subst (λ (z : ℕ). NoByte m entry z) (waits_seen w h lot x at) clear.device) row;
       channels = channels_entered m n h.0 entry by refl;
       back = λ j d x p row.
           let id = its_id h lot j in
@@ -275,12 +282,13 @@ in_goes sc f w h o s rest next is goes =
     let c = is.copied in
     let lot = c.lot in
     let dst = piece_to is.from is.to is.span in
-    let u : IsUnder sc f w h lot = lends_under sc f w h o s rest lot false next goes.hand (behind lot.id s rest goes.later) in
+    let later = lend_has_end lot.id rest goes.later in
+    let u : IsUnder sc f w h lot = lends_under sc f w h o s rest lot false next goes.hand (behind lot.id s rest later) in
     let k : IsPieceNext sc f w h o s rest dst lot = record { op = record { next = next; act = is.act }; under = u; mapping = goes.hand.area_is } in
     let some = piece_some sc f w h o s rest dst k.op in
     let there = to_slot sc f w h lot c.i c.entry is.from is.to is.span u c.here.entry c.bounced (goes.from_is, goes.to_is) is.within some in
     elim is.last [
-      | inl stay ↦ piece_goes sc f w h o s rest dst lot k (record { first = is.first; last = stay }) goes.later is.next (slot_put sc f w h o s rest dst lot c.i c.entry k is.once goes.hand.side_is there) (slot_queued sc f w h lot c.i c.entry dst u there)
+      | inl stay ↦ piece_goes sc f w h o s rest dst lot k (record { first = is.first; last = stay }) later is.next (slot_put sc f w h o s rest dst lot c.i c.entry k is.once goes.hand.side_is there) (slot_queued sc f w h lot c.i c.entry dst u there)
       | inr back ↦ let both : sides.Lending ≡ sides.Returning = sym goes.hand.side_is ∙ back.1 in absurd (cc)
     ]
 

@@ -3,14 +3,14 @@
 use Rattle.std.specs.Prelude.{Some, All, ◌/◌, ◌||◌, true, false, slice_get}
 use Rattle.std.specs.List.{list_any}
 use Rattle.std.proofs.Common.{◌≡◌, ℕ, List, ◌∷◌, ◌++◌, refl, sym, ap, ◌∙◌, inl, inr, subst}
-use Rattle.std.proofs.lemmas.Bool.{both_ways}
+use Rattle.std.proofs.lemmas.Bool.{both_ways, or_from}
 use Rattle.std.proofs.lemmas.List.{append-nil}
 use Rattle.nc_num.specs.Memory.{byte}
 use Rattle.nc_num.specs.Places.{covers}
 use Rattle.nc_num.specs.declared.names.HartNo.{HartNo}
 use Rattle.nc_num.specs.declared.places.Span.{Span}
 use Rattle.nc_plan.specs.Parts.{comes_back}
-use Rattle.nc_plan.specs.Plans.{full}
+use Rattle.nc_plan.specs.Plans.{full, In}
 use Rattle.nc_plan.specs.declared.ops.HartOp.TheVariants as hart_ops
 use Rattle.nc_queue.specs.Entries.{has_op}
 use Rattle.nc_queue.specs.Laws.{Stands}
@@ -50,12 +50,13 @@ use Rattle.nc_flatness.proofs.Outcomes.{gone}
 use Rattle.nc_flatness.proofs.Rests.{full_ends, behind, by_turn, kept_in, turn_name}
 use Rattle.nc_flatness.proofs.Seen.{device_covers, device_place_of}
 use Rattle.nc_flatness.proofs.Tokens.{unlent_unsent}
+use Rattle.nc_flatness.proofs.Lents.{all_sided}
 use Rattle.nc_flat_starts.proofs.Frames.{IsPlace, goes_still, rest_hart, last_none}
 use Rattle.nc_flat_plans.proofs.OwnRows.{BackAs, dir_map, either_true, back_op}
 use Rattle.nc_flat_plans.proofs.Passes.{drops_kept, op_plain, op_byte, op_block, op_whole, passes_by}
 use Rattle.nc_flat_plans.proofs.Drivers.{IsNext, done_so, coming_next, same_id}
 use Rattle.nc_flat_plans.proofs.PoolPlaces.{lent_pooled, pool_apart}
-use Rattle.nc_flat_plans.proofs.Places.{IsUnder, its_id, its_loan, its_place, known, device_unpooled, back_alone}
+use Rattle.nc_flat_plans.proofs.Places.{IsUnder, its_id, its_loan, its_place, known, device_unpooled, waits_far}
 use Rattle.nc_flat_plans.proofs.Besides.{posted_beside}
 use Rattle.nc_flat_plans.proofs.OwnCopies.{channels_stay, channels_entered}
 use Rattle.nc_flat_plans.proofs.Shifts.{sided, seen_mapped, held, side_shift, taken_shift}
@@ -63,11 +64,12 @@ use Rattle.nc_flat_plans.proofs.StepTokens.{IsUnsent, same_entered, turned_token
 use Rattle.nc_flat_plans.proofs.StepFrames.{driven, known_now, step_bytes, enters_by}
 use Rattle.nc_flat_plans.proofs.StepQueues.{own_drop, other_zeroed, queue_stays, queue_more, queue_clear}
 use Rattle.nc_flat_plans.proofs.StepSeen.{unseen_before}
-use Rattle.nc_flat_plans.proofs.OwnPlaces.{to_come, given_as, as_taken}
+use Rattle.nc_flat_plans.proofs.OwnPlaces.{to_come, given_as, as_taken, home_to}
 use Rattle.nc_flat_plans.proofs.Cbos.{dropped_queued}
 use Rattle.nc_flat_plans.proofs.Backs.{home_bytes}
 use Rattle.nc_flat_plans.proofs.Fences.{fence_event}
 use Rattle.nc_flat_plans.proofs.Issues.{IsOpNext, op_may, op_enters, emptied, kept_silent, went_by, op_goes}
+use Rattle.nc_flat_plans.proofs.Waits.{waits_put, waits_fence}
 
 -- ---- the lot before the step
 
@@ -92,13 +94,20 @@ taken_under sc f w h o s rest lot next taken ended others = record {
 }
 
 -- none of its tokens is queued
-taken_unsent : (sc : Scenario) (f : List ℕ) (w : WorldState) (h : HartNo) (s : Step) (rest : List Step) (lot : Lot) → IsUnder sc f w h lot → IsTaken (driver_of w h.0).lots lot s → IsUnsent (driver_of w h.0) s rest
-taken_unsent sc f w h s rest lot u taken = record {
+taken_unsent : (sc : Scenario) (f : List ℕ) (w : WorldState) (h : HartNo) (s : Step) (rest : List Step) (lot : Lot) → IsUnder sc f w h lot → IsTaken (driver_of w h.0).lots lot s → ((id : LotId) → turns_lot id s.last ≡ true → same_lot id lot.id ≡ true) → IsUnsent (driver_of w h.0) s rest
+taken_unsent sc f w h s rest lot u taken last = record {
   lends = λ id is. let both : turns.Return lot.id ≡ turns.Lend id = sym taken.first ∙ is in absurd cc;
   unsent = λ other here is.
       let named : same_lot other.id lot.id ≡ true = sym (ap (turns_lot other.id) taken.first) ∙ is in
       let same : other ≡ lot = one_lot sc f w h.0 other lot u.flat here u.here (turn_name other.id lot.id named) in
       unlent_unsent (s ∷ rest) other (ap (λ (l : Lot). is_lending_side l.side) same ∙ ap is_lending_side taken.side);
+  last = λ other here is.
+      let lots = (driver_of w h.0).lots in
+      let Q : Lot → Type 0 = λ (l : Lot). same_lot l.id lot.id ≡ true → is_lending_side l.side ≡ false in
+      let all : All Q (set_side sides.Returning lot.id lots) =
+      all_sided (λ (l : Lot). In l lots) Q sides.Returning lot.id lots (all_in (λ (l : Lot). In l lots) lots (λ l there. there)) (λ l there hit named. refl) (λ l there miss named. absurd (both_ways (same_lot l.id lot.id) miss named)) in
+      let there : In other (set_side sides.Returning lot.id lots) = subst (λ (t : Turn). In other (lots_after t lots)) taken.first here in
+      unlent_unsent (s ∷ rest) other (all_at Q (set_side sides.Returning lot.id lots) other all there (last other.id is));
 }
 
 taken_plain : (lots : List Lot) (lot : Lot) (s : Step) → IsTaken lots lot s → is_area lot.kind ≡ false
@@ -166,7 +175,8 @@ target_goes sc f w h o s rest next is =
                 op_whole m g.block g.op x kept (λ met. pool_apart sc f w x (its_place w h lot g.i g.entry at.place) u.flat (lent_pooled sc f w j q x u.flat below owner has area) (device_unpooled sc f w h lot g.i g.entry at.place u plain p) (dropped.here ∙ sym met));
             token = λ j owner own. refl;
           }) (posted_beside sc f w h lot x u still)) row;
-      waits = λ x below slot beyond waits row. absurd (back_alone w h lot x (inr is.taken.side) waits);
+      waits = λ x below slot beyond at row.
+          waits_put sc f w h o s rest n went lot (sided sides.Returning) e x next done u shift by (ap act_coming k.act) at (off at.other.at.is.lot.id) (op_byte m g.block g.op x kept) (op_byte m g.block g.op _ kept) row;
       channels = channels_entered m n h.0 e by refl;
       row = λ i c x q row.
           let b = byte f x in
@@ -187,7 +197,7 @@ target_goes sc f w h o s rest next is =
           (λ b was. other_zeroed sc f w h n went lot (sided sides.Returning) s rest b u plain next.rest_is done.rest shift (λ j none. off j) was));
       lasting = last_none (book_of v) f h.0 (hart_of n h.0).last (rest_last went.driver.rest) (ap rest_last done.rest ∙ g.next);
       calm = λ z slot unseen. calm_pushed m n h.0 e z by (op_byte m g.block g.op z kept) (u.flat.bytes.calm z slot (unseen_before sc f w h n went lot sides.Returning z u shift (inr (inr refl)) unseen));
-      tokens = turned_tokens sc f w h o s rest n went next done (taken_unsent sc f w h s rest lot u is.taken) (λ j. ap (stores_io (tokens_lot j)) k.act) (same_entered m n h e by (λ j. refl));
+      tokens = turned_tokens sc f w h o s rest n went next done (taken_unsent sc f w h s rest lot u is.taken (λ j on. let both : false ≡ true = sym (ap (turns_lot j) last) ∙ on in absurd cc)) (λ j. ap (stores_io (tokens_lot j)) k.act) (same_entered m n h e by (λ j. refl));
     }))
 
 -- ---- the source
@@ -214,13 +224,16 @@ source_goes sc f w h o s rest next is =
     let shift = taken_shift sc f w h went lot u plain done.fixed lots moves in
     fence_event sc f w h o s rest k
     (home_bytes sc f w h o s rest m went lot next done u plain (record { synced = false; shift = shift }) g.next (goes_still sc f w h u.flat.bytes) (record {
-      alone = inr is.taken.side;
       passes = λ x b below slot beyond still row. row;
+      waits = λ x below slot beyond at row.
+          let it = at.other.at.is.lot in
+          waits_fence sc f w h o s rest went lot (home_to h false) x (byte f x) next done u shift (ap act_coming k.act) none at
+          (or_from (turns_lot it.id s.last) (stores_io (tokens_lot it.id) s.act) (ap (turns_lot it.id) is.last ∙ waits_far sc f w h lot x u at) (ap (stores_io (tokens_lot it.id)) k.act)) row;
       channels = channels_stay m h.0;
       back = λ i c x q row.
           let has = given_as sc f w h m lot i c x (byte f x) u plain q is.taken.side row in
           dir_map dir _ _ _ _ (λ stays to. to) (λ comes from. absurd (both_ways (comes_back dir) is.stays comes)) has;
       queue = queue_clear (book_of v) (owner_of v) m.pool m.size h.0 (queue_of m h.0) none;
       stays = λ z slot calm. calm;
-      tokens = turned_tokens sc f w h o s rest m went next done (taken_unsent sc f w h s rest lot u is.taken) (λ j. ap (stores_io (tokens_lot j)) k.act) (λ j. refl);
+      tokens = turned_tokens sc f w h o s rest m went next done (taken_unsent sc f w h s rest lot u is.taken (λ j on. sym (ap (turns_lot j) is.last) ∙ on)) (λ j. ap (stores_io (tokens_lot j)) k.act) (λ j. refl);
     }))

@@ -1,4 +1,4 @@
--- The destination of a copy waits while the source is being lent: its row goes on as far as the plan does.
+-- An end of a copy goes along while the plan is of the other: its row goes on as far as the plan does.
 use Rattle.std.specs.Prelude.{Option, Some, ◌||◌, ◌/◌, Bool, true, false}
 use Rattle.std.specs.List.{list_any}
 use Rattle.std.proofs.Common.{◌≡◌, ℕ, List, [], ◌∷◌, ◌++◌, refl, sym, ap, ◌∙◌, inl, inr, subst}
@@ -21,7 +21,6 @@ use Rattle.nc_rules.specs.declared.lots.LotId.{LotId}
 use Rattle.nc_rules.specs.declared.steps.Step.{Step}
 use Rattle.nc_rules.specs.Lots.{owner_of_side}
 use Rattle.nc_rules.specs.Machine.{MachineState, queue_of}
-use Rattle.nc_rules.specs.Turns.{is_area}
 use Rattle.nc_rules.specs.Driver.{Went}
 use Rattle.nc_rules.specs.EventTouches.{owner_of}
 use Rattle.nc_rules.specs.World.{WorldState, driver_of}
@@ -32,16 +31,15 @@ use Rattle.nc_row_issues.specs.Laws.{Enters, NoByte}
 use Rattle.nc_flatness.specs.Books.{loan_of, book_of}
 use Rattle.nc_flatness.specs.Plans.{HasEnd}
 use Rattle.nc_flatness.proofs.Outcomes.{gone}
-use Rattle.nc_flatness.proofs.Rests.{lend_moves}
 use Rattle.nc_flatness.proofs.Seen.{seen, seen_lent}
 use Rattle.nc_flat_starts.proofs.Frames.{loan_hart, rest_hart}
 use Rattle.nc_flat_plans.proofs.OwnRows.{LentAs, dir_map, lent_put, either_false, of_either_false}
-use Rattle.nc_flat_plans.proofs.Drivers.{IsNext, IsDone, moves_later, coming_next}
+use Rattle.nc_flat_plans.proofs.Drivers.{IsNext, IsDone, coming_next}
 use Rattle.nc_flat_plans.proofs.Places.{IsUnder, WaitsAt, far_entry}
 use Rattle.nc_flat_plans.proofs.Shifts.{IsShift}
 use Rattle.nc_flat_plans.proofs.StepFrames.{driven}
 
--- ---- a full fence of the source goes off its line, where no write is queued
+-- ---- a full fence of the plan goes off its line, where no write is queued
 
 bare_w : (e : Entry) → is_w (bare e) ≡ is_w e
 bare_w (entries.Store span bytes kind) = refl
@@ -119,14 +117,14 @@ abbrev pub WaitsAs : (w : WorldState) (h : HartNo) (lot : Lot) (x : ℕ) → Wai
 WaitsAs w h lot x at v ahead m = LentAs at.other.at.loan.grant.dir at.id v ahead m x (waits_place w h lot x at)
 
 waits_owner : (w : WorldState) (h : HartNo) (lot : Lot) (x : ℕ) → (at : WaitsAt w h lot x) → owner_of w x ≡ Lending at.id
-waits_owner w h lot x at = at.other.at.owner ∙ ap (owner_of_side at.id) at.waits.waits
+waits_owner w h lot x at = at.other.at.owner ∙ ap (owner_of_side at.id) at.lends
 
 -- it is seen there
 pub waits_seen : (w : WorldState) (h : HartNo) (lot : Lot) (x : ℕ) → (at : WaitsAt w h lot x) → seen w x ≡ waits_place w h lot x at
 waits_seen w h lot x at = seen_lent w at.id at.other.at.loan x at.other.at.known (inl (waits_owner w h lot x at))
 
 waits_plain : (w : WorldState) (h : HartNo) (lot : Lot) (x : ℕ) → (at : WaitsAt w h lot x) → at.other.at.loan.area ≡ false
-waits_plain w h lot x at = at.other.at.is.area ∙ ap is_area at.waits.kind
+waits_plain w h lot x at = at.other.at.is.area ∙ at.plain
 
 pub waits_as : (w : WorldState) (h : HartNo) (lot : Lot) (x v : ℕ) (m : MachineState) (steps : List Step) → (at : WaitsAt w h lot x) → (driver_of w h.0).rest ≡ steps → Row (book_of w) (owner_of w x) v m x → WaitsAs w h lot x at v (waits_for w h lot x at steps) m
 waits_as w h lot x v m steps at rest_is row =
@@ -159,10 +157,10 @@ pub waits_comes : (sc : Scenario) (f : List ℕ) (w : WorldState) (h : HartNo) (
     → waits_for w h lot x at (s ∷ rest) ≡ act_coming s.act ++ waits_for w h lot x at rest
 waits_comes sc f w h o s rest lot x next at plain =
     let it = at.other.at.is.lot in
-    let later : HasEnd it.id rest = moves_later sc f w h o s rest it next at.other.here (lend_moves (driver_of w h.0).fixed it at.waits.waits at.full) plain in
+    let later : HasEnd it.id rest = sym (ap (λ (b : Bool). b || list_any (ends it.id) rest) plain) ∙ ap (list_any (ends it.id)) (sym next.rest_is) ∙ at.later in
     coming_next it at.id s rest later plain
 
--- ---- an entry of the source's
+-- ---- an entry of the plan's
 
 pub waits_put : (sc : Scenario) (f : List ℕ) (w : WorldState) (h : HartNo) (o : Op) (s : Step) (rest : List Step) (k : MachineState) (went : Went) (lot : Lot) (to : MapId → Owner) (e : Entry) (x : ℕ) → IsNext sc f w h o s rest → IsDone (driver_of w h.0) s rest went → IsUnder sc f w h lot
     → IsShift w h went lot to → Enters w.machine k h.0 e → act_coming s.act ≡ bare e ∷ [] → (at : WaitsAt w h lot x) → ends at.other.at.is.lot.id s ≡ false → NoByte w.machine e x → NoByte w.machine e (waits_place w h lot x at)
@@ -186,7 +184,7 @@ waits_none sc f w h o s rest k went lot to x v next done u shift entry at plain 
     as_waits sc f w h k went lot to x v rest u shift done.rest at
     (subst (λ (es : List Entry). WaitsAs w h lot x at v es k) comes (waits_as w h lot x v k (s ∷ rest) at next.rest_is row))
 
--- the full fence with which the source is its channel's
+-- a full fence
 pub waits_fence : (sc : Scenario) (f : List ℕ) (w : WorldState) (h : HartNo) (o : Op) (s : Step) (rest : List Step) (went : Went) (lot : Lot) (to : MapId → Owner) (x v : ℕ) → IsNext sc f w h o s rest → IsDone (driver_of w h.0) s rest went → IsUnder sc f w h lot
     → IsShift w h went lot to → act_coming s.act ≡ entries.Mark 15 15 ∷ [] → list_any is_w (queue_of w.machine h.0) ≡ false → (at : WaitsAt w h lot x) → ends at.other.at.is.lot.id s ≡ false
     → Row (book_of w) (owner_of w x) v w.machine x → Row (book_of (gone w h w.machine went)) (owner_of w x) v w.machine x
