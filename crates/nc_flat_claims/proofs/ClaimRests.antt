@@ -1,12 +1,11 @@
 -- The plan of a copy behind its claim: both ends are lent, its channel is set up, started, polled and released, and both ends
 -- come back. The stores to registers that it puts are those of its transfer.
-use Rattle.std.specs.Prelude.{Bool, true, false, map, flat_map, ◌&&◌, ◌||◌}
+use Rattle.std.specs.Prelude.{Bool, true, map, flat_map, ◌&&◌}
 use Rattle.std.specs.List.{list_any}
 use Rattle.std.proofs.Common.{◌≡◌, ℕ, List, [], ◌∷◌, ◌++◌, refl, sym, ap, ◌∙◌}
-use Rattle.std.proofs.lemmas.Bool.{or_right, or_from}
+use Rattle.std.proofs.lemmas.Bool.{or_right}
 use Rattle.std.proofs.lemmas.List.Elements.{All-head, All-tail}
 use Rattle.std.proofs.lemmas.List.Folds.{list_any-append}
-use Rattle.std.proofs.lemmas.List.{append-nil}
 use Rattle.nc_num.specs.declared.names.ChanNo.{ChanNo}
 use Rattle.nc_queue.specs.declared.entry.Entry.{Entry as QueueEntry}
 use Rattle.nc_plan.specs.Plans.{full, cbos, blocks, copies, dropped, copied_back, returning, return_op}
@@ -23,13 +22,13 @@ use Rattle.nc_rules.specs.declared.steps.Turn.TheVariants as turns
 use Rattle.nc_rules.specs.Copies.{copy_step, claim_step, back_steps, end_part, copy_steps}
 use Rattle.nc_rules.specs.Lots.{DriverConfig, parts}
 use Rattle.nc_rules.specs.Plans.{hart_step, op_steps, beginning, ending, lending_end, lend_steps, return_steps}
-use Rattle.nc_rows.specs.Ahead.{posts, op_coming, act_coming}
+use Rattle.nc_rows.specs.Ahead.{op_coming, act_coming}
 use Rattle.nc_row_plans.proofs.LendingPlans.{is_plain, Are, are_flat, copies_plain, if_plain, cbos_are}
 use Rattle.nc_transfers.specs.Transfers.{Ends}
 use Rattle.nc_flatness.specs.Copying.{is_poll, polls, registers, registers_coming, register_entries}
 use Rattle.nc_flatness.specs.Plans.{IsClaim, token_step}
 use Rattle.nc_flatness.proofs.CopySteps.{coming_by}
-use Rattle.nc_flat_starts.proofs.PlanComes.{append_steps, steps_append, silent_ops}
+use Rattle.nc_flat_starts.proofs.PlanComes.{append_steps, steps_append}
 use Rattle.nc_flat_claims.proofs.EndsAhead.{lending_ops, give_step, lending_plain, lending_is, lending_end_by}
 
 -- ---- the step, and what is behind it
@@ -114,27 +113,16 @@ none_behind [] all = refl
 none_behind (o ∷ ops) all =
     coming_by (hart_step o) (op_steps ops) ∙ ap (λ (es : List QueueEntry). es ++ registers_coming (op_steps ops)) (dry o (All-head (λ (k : HartOp). is_plain k ≡ true) o ops all)) ∙ none_behind ops (All-tail (λ (k : HartOp). is_plain k ≡ true) o ops all)
 
-abbrev drops_in : DriverConfig → Lot → List HartOp
-drops_in f lot = flat_map (dropped f.effects f.size) (parts f lot)
-
-abbrev homes_in : DriverConfig → Lot → List HartOp
-homes_in f lot = flat_map copied_back (parts f lot)
-
-drops_plain : (f : DriverConfig) (lot : Lot) → Are is_plain (drops_in f lot)
-drops_plain f lot = are_flat is_plain (dropped f.effects f.size) (parts f lot) (dropped_plain f.effects f.size)
-
-homes_plain : (f : DriverConfig) (lot : Lot) → Are is_plain (homes_in f lot)
-homes_plain f lot = are_flat is_plain copied_back (parts f lot) home_plain
-
-return_is : (f : DriverConfig) (lot : Lot) → return_steps f lot ≡ op_steps (drops_in f lot) ++ (hart_step full ∷ op_steps (homes_in f lot))
-unfolding returning
-return_is f lot =
-    let drops = drops_in f lot in
-    let homes = homes_in f lot in
-    steps_append (drops ++ full ∷ []) homes ∙ ap (λ (ss : List Step). ss ++ op_steps homes) (steps_append drops (full ∷ [])) ∙ append_steps (op_steps drops) (op_steps (full ∷ [])) (op_steps homes)
-
 dry_returning : (f : DriverConfig) (lot : Lot) → registers_coming (return_steps f lot) ≡ []
-dry_returning f lot = ap registers_coming (return_is f lot) ∙ dry_ops (drops_in f lot) (hart_step full ∷ op_steps (homes_in f lot)) (drops_plain f lot) ∙ none_behind (homes_in f lot) (homes_plain f lot)
+unfolding returning
+dry_returning f lot =
+    let ps = parts f lot in
+    let drops = flat_map (dropped f.effects f.size) ps in
+    let homes = flat_map copied_back ps in
+    let all_drops = are_flat is_plain (dropped f.effects f.size) ps (dropped_plain f.effects f.size) in
+    let all_homes = are_flat is_plain copied_back ps home_plain in
+    ap registers_coming (steps_append (drops ++ full ∷ []) homes ∙ ap (λ (ss : List Step). ss ++ op_steps homes) (steps_append drops (full ∷ [])) ∙ append_steps (op_steps drops) (op_steps (full ∷ [])) (op_steps homes))
+    ∙ dry_ops drops (hart_step full ∷ op_steps homes) all_drops ∙ none_behind homes all_homes
 
 ending_dry : (turn : Turn) (steps : List Step) → registers_coming (ending turn steps) ≡ registers_coming steps
 ending_dry turn [] = refl
@@ -169,35 +157,3 @@ its_registers f chan cfg src dst source target =
     let six = register_entries chan (plan_ends f cfg src dst source target) in
     let moved : registers_coming (behind_target f chan cfg src dst) ≡ six ++ registers_coming last = refl in
     dry_lending f src (behind_source f chan cfg src dst) ∙ dry_lending f dst (behind_target f chan cfg src dst) ∙ moved ∙ ap (λ (es : List QueueEntry). six ++ es) none
-
--- ---- no message comes
-
-silent_lending : (b : ℕ) (f : DriverConfig) (lot : Lot) (rest : List Step) → list_any (posts b) rest ≡ false → list_any (posts b) (lend_steps f lot ++ rest) ≡ false
-silent_lending b f lot rest none =
-    ap (list_any (posts b)) (lending_is f lot rest)
-    ∙ silent_ops b (lending_ops f lot) (lending_end f lot ++ rest) (lending_plain f lot) (lending_end_by (λ (ss : List Step). list_any (posts b) (ss ++ rest) ≡ false) f lot none none)
-
-silent_returning : (b : ℕ) (f : DriverConfig) (lot : Lot) → list_any (posts b) (return_steps f lot) ≡ false
-silent_returning b f lot =
-    let homes = homes_in f lot in
-    let last : list_any (posts b) (op_steps homes) ≡ false = ap (list_any (posts b)) (sym (append-nil (op_steps homes))) ∙ silent_ops b homes [] (homes_plain f lot) refl in
-    ap (list_any (posts b)) (return_is f lot) ∙ silent_ops b (drops_in f lot) (hart_step full ∷ op_steps homes) (drops_plain f lot) last
-
-ending_posts : (b : ℕ) (turn : Turn) (steps : List Step) → list_any (posts b) (ending turn steps) ≡ list_any (posts b) steps
-ending_posts b turn [] = refl
-ending_posts b turn (s ∷ []) = refl
-ending_posts b turn (s ∷ t ∷ rest) = ap (λ (k : Bool). posts b s || k) (ending_posts b turn (t ∷ rest))
-
-beginning_posts : (b : ℕ) (turn : Turn) (steps : List Step) → list_any (posts b) (beginning turn steps) ≡ list_any (posts b) steps
-beginning_posts b turn [] = refl
-beginning_posts b turn (s ∷ rest) = refl
-
-silent_back : (b : ℕ) (f : DriverConfig) (lot : Lot) → list_any (posts b) (back_steps f lot) ≡ false
-silent_back b f lot = beginning_posts b (turns.Return lot.id) (ending (turns.End lot.id) (return_steps f lot)) ∙ ending_posts b (turns.End lot.id) (return_steps f lot) ∙ silent_returning b f lot
-
-pub copy_silent : (f : DriverConfig) (chan : ChanNo) (cfg : ℕ) (src dst : Lot) (b : ℕ) → list_any (posts b) (copy_steps f chan cfg src dst) ≡ false
-copy_silent f chan cfg src dst b =
-    let back = back_steps f dst in
-    let last = back_steps f src in
-    let backs : list_any (posts b) (back ++ last) ≡ false = list_any-append (posts b) back last ∙ or_from (list_any (posts b) back) (list_any (posts b) last) (silent_back b f dst) (silent_back b f src) in
-    ap (list_any (posts b)) (plan_lined f chan cfg src dst) ∙ silent_lending b f src (behind_source f chan cfg src dst) (silent_lending b f dst (behind_target f chan cfg src dst) backs)

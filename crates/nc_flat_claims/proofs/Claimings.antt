@@ -32,7 +32,7 @@ use Rattle.nc_rules.specs.Copies.{source, target, copy_steps}
 use Rattle.nc_rules.specs.Driver.{in_hand, next_act, next_of}
 use Rattle.nc_rules.specs.Lots.{DriverConfig, is_lot, is_wanted, lot_waits, owner_of_side}
 use Rattle.nc_rules.specs.Machine.{queue_of}
-use Rattle.nc_rules.specs.Turns.{lots_after_both}
+use Rattle.nc_rules.specs.Turns.{is_area, lots_after_both}
 use Rattle.nc_rules.specs.EventTouches.{owner_of}
 use Rattle.nc_rules.specs.World.{WorldState, driver_of}
 use Rattle.nc_scripts.specs.Drivers.{FitsKind, IsAtWork, IsPhase}
@@ -54,9 +54,12 @@ use Rattle.nc_flatness.proofs.Rests.{lend_has_end, same_id, copy_ends, lend_ligh
 use Rattle.nc_flatness.proofs.Tokens.{lent_sent, sent_queued}
 use Rattle.nc_flat_scripts.proofs.ScriptEvents.{IsHere, may_next}
 use Rattle.nc_flat_scripts.proofs.SendEvents.{next_work}
-use Rattle.nc_flat_starts.proofs.Bases.{IsMember, member_lot}
+use Rattle.nc_flat_starts.proofs.Bases.{IsMember, member_lot, member_planned}
+use Rattle.nc_flat_starts.proofs.CopyPlans.{copy_silent}
 use Rattle.nc_flat_starts.proofs.Frames.{IsRestful}
-use Rattle.nc_flat_claims.proofs.ClaimRests.{step_is, copy_silent}
+use Rattle.nc_flat_starts.proofs.OpenRows.{writing, dropping}
+use Rattle.nc_flat_starts.proofs.PlanOps.{IsPlanned}
+use Rattle.nc_flat_claims.proofs.ClaimRests.{step_is}
 
 -- hart h's plan makes step s next, which claims the channel of a copy, and this rest is left behind it
 pub record IsClaiming (sc : Scenario) (f : List ℕ) (w : WorldState) (h : HartNo) (o : Op) (s : Step) (rest : List Step) : Type 0 where
@@ -101,7 +104,13 @@ end_entry sc f w h lots lot b kind =
 
 -- the plan puts no message
 pub its_silent : (sc : Scenario) (f : List ℕ) (w : WorldState) (h : HartNo) (o : Op) (s : Step) (rest : List Step) (b : ℕ) → IsClaiming sc f w h o s rest → list_any (posts b) (s ∷ rest) ≡ false
-its_silent sc f w h o s rest b k = let c = k.claim in ap (list_any (posts b)) c.steps ∙ copy_silent (driver_of w h.0).fixed c.chan c.config c.reads c.writes b
+its_silent sc f w h o s rest b k =
+    let d = driver_of w h.0 in
+    let c = k.claim in
+    let flat = k.here.now.flat in
+    let planned : (lot : Lot) → In lot d.lots → lot.kind ≡ Copy → IsPlanned d.fixed lot = λ lot there kind. member_planned sc f w h d.lots lot (its_member sc f w h o s rest lot k there) (ap is_area kind) in
+    ap (list_any (posts b)) c.steps
+    ∙ copy_silent d.fixed c.chan c.config c.reads c.writes b (planned c.reads c.source_is.here c.source_is.kind) (planned c.writes c.target_is.here c.target_is.kind) (writing sc f w h flat k.here.lt) (dropping sc f w h flat k.here.lt)
 
 -- ---- its queue
 

@@ -84,7 +84,7 @@ lending_plain f lot =
 pub lending_is : (f : DriverConfig) (lot : Lot) (more : List Step) → lend_steps f lot ++ more ≡ op_steps (lending_ops f lot) ++ (lending_end f lot ++ more)
 lending_is f lot more = append_steps (op_steps (lending_ops f lot)) (lending_end f lot) more
 
--- what holds of both ends of a lending
+-- what holds of a marker and the token, and of a full fence, holds of the end of a lending
 pub lending_end_by : (P : List Step → Type 0) (f : DriverConfig) (lot : Lot) → P (token_steps lot) → P (give_step lot.id ∷ []) → P (lending_end f lot)
 lending_end_by P f lot light full_fences = elim (cases_Bool f.light) [
   | inl is ↦ subst P (sym (cond-true f.light (token_steps lot) (give_step lot.id ∷ []) is)) light
