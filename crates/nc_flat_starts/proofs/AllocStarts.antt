@@ -60,6 +60,7 @@ use Rattle.nc_row_plans.proofs.PlanBegins.{rows_begin}
 use Rattle.nc_flatness.specs.Books.{loan_by}
 use Rattle.nc_flatness.specs.Flatness.{is_mapping, IsMapping, BytesStand}
 use Rattle.nc_flatness.specs.Plans.{IsStill}
+use Rattle.nc_flatness.proofs.Rests.{settling_lends}
 use Rattle.nc_flatness.specs.Tokens.{is_lending_side}
 use Rattle.nc_flatness.proofs.Copies.{is_copy}
 use Rattle.nc_flatness.proofs.Outcomes.{gone}
@@ -218,6 +219,7 @@ alloc_opens sc f w h o went lot a driver transfers =
       transfers = transfers;
       lent = refl;
       of_plan = k.plan;
+      ends_it = λ lent. settling_lends lot.id plan k.settles;
       unsent = unsent;
       goes = k.goes;
       was = λ i. Pool;

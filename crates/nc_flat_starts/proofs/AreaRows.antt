@@ -102,6 +102,7 @@ give_opens sc f w h o went lots lot b area hand lends no_copy own driver transfe
       transfers = transfers;
       lent = refl;
       of_plan = k.plan;
+      ends_it = λ lent. k.lends;
       unsent = ap is_lending_side own;
       goes = k.goes;
       was = λ i. owner_of_side (map_id h lot.id i) lot.side;
@@ -167,6 +168,7 @@ take_opens sc f w h o went lots lot turn b area hand lends no_copy side before b
       transfers = transfers;
       lent = refl;
       of_plan = k.plan;
+      ends_it = λ lent. absurd cc;
       unsent = taken_unsent lot side;
       goes = k.goes;
       was = λ i. owner_of_side (map_id h lot.id i) lot.side;

@@ -88,6 +88,7 @@ return_opens sc f w h o went lots lot turn b plain hand lends no_copy device bef
       transfers = transfers;
       lent = refl;
       of_plan = k.plan;
+      ends_it = λ lent. absurd cc;
       unsent = ap is_lending_side device;
       goes = k.goes;
       was = λ i. owner_of_side (map_id h lot.id i) lot.side;

@@ -195,7 +195,7 @@ in_slot_so ram f e k whole is bounced slot =
     let lies = in_its_slot (f.slots_at + 2048 * k) e.span (omega arith) (is.small bounced) in
     record { low = omega (arith, at, lies.starts); high = omega (arith, at, lies.ends, lies.length); few = (is.slot k slot).few; long = ap (λ (s : Span). s.len) device }
 
-one_word : (at k j x : ℕ) → at + 2048 * k ≤ x → x < at + 2048 * k + 2048 → at + 2048 * j ≤ x → x < at + 2048 * j + 2048 → k ≡ j
+pub one_word : (at k j x : ℕ) → at + 2048 * k ≤ x → x < at + 2048 * k + 2048 → at + 2048 * j ≤ x → x < at + 2048 * j + 2048 → k ≡ j
 one_word at k j x a b c d = omega arith
 
 -- ---- what its plans need

@@ -1,8 +1,8 @@
 -- A call at a start or in a search: it opens the operation, searches for a slot, or gives up.
-use Rattle.std.specs.Prelude.{Option, Some, All, ◌==◌, not, Bool, true, false, if◌then◌else◌, option_map}
+use Rattle.std.specs.Prelude.{Option, Some, All, ◌==◌, ◌&&◌, not, Bool, true, false, if◌then◌else◌, option_map}
 use Rattle.std.specs.List.{list_any, find}
 use Rattle.std.proofs.Common.{◌≡◌, ℕ, ◌<◌, List, [], ◌∷◌, length, map, refl, sym, ap, ◌∙◌, inl, inr, subst}
-use Rattle.std.proofs.lemmas.Bool.{both_ways, and_from, eq-eqb}
+use Rattle.std.proofs.lemmas.Bool.{both_ways, cases_Bool, false_from_ne_true, and_from, eq-eqb}
 use Rattle.std.proofs.lemmas.List.{append-nil}
 use Rattle.nc_num.specs.declared.names.ChanNo.{ChanNo}
 use Rattle.nc_num.specs.declared.names.Dir.{Dir}
@@ -50,22 +50,26 @@ use Rattle.nc_holds.proofs.EventFrom.{EveryoneIn}
 use Rattle.nc_holds.proofs.ListsA.{of_append, all_at}
 use Rattle.nc_holds.proofs.OwnerEnds.{left_all}
 use Rattle.nc_holds.proofs.OwnerLots.{same_named}
-use Rattle.nc_rows.specs.Ahead.{posts}
+use Rattle.nc_rows.specs.Ahead.{ends, posts, settling, coming}
+use Rattle.nc_rows.proofs.Steps.{steps_ahead}
 use Rattle.nc_rows.specs.Parts.{rest_last}
 use Rattle.nc_flatness.specs.Books.{loan_by, loan_of}
 use Rattle.nc_flatness.specs.Copying.{CopyOp, copy_op, polls, transfers, IsOneRange}
 use Rattle.nc_flatness.specs.Lending.{is_lending}
 use Rattle.nc_flatness.specs.Flatness.{IsMapping, IsStillOrWanted, makes_kind, IsStillOrMade, PlanOf, Drives, BytesStand, Flatness}
-use Rattle.nc_flatness.specs.Plans.{IsStill, StillDevice, StillSynced, StillOwn, StillSent}
-use Rattle.nc_flatness.specs.Tokens.{TokenStands}
+use Rattle.nc_flatness.specs.Plans.{IsEndName, IsStill, StillDevice, StillSynced, StillOwn, StillSent}
+use Rattle.nc_flatness.specs.Tokens.{lot_token, is_lending_side, ends_lending, is_sent, TokenStands}
+use Rattle.nc_flatness.proofs.Loans.{loan_is}
+use Rattle.nc_flatness.proofs.Rests.{lend_has_end}
+use Rattle.nc_flatness.proofs.Tokens.{unlent_unsent, unended_settling}
 use Rattle.nc_flatness.proofs.Copies.{is_copy}
 use Rattle.nc_flatness.proofs.Outcomes.{gone}
-use Rattle.nc_flatness.proofs.Owned.{mapped}
 use Rattle.nc_flat_starts.proofs.Bases.{IsBase, with_these, kind_is, label_one, IsMember, member_planned}
 use Rattle.nc_flat_starts.proofs.Befores.{driven}
+use Rattle.nc_flat_starts.proofs.CopyBesides.{ends_beside}
 use Rattle.nc_flat_starts.proofs.CopyPlans.{CopyGoes, copy_goes}
 use Rattle.nc_flat_starts.proofs.CopyRanges.{AreRanged, ranged_stands}
-use Rattle.nc_flat_starts.proofs.Frames.{IsRestful}
+use Rattle.nc_flat_starts.proofs.Frames.{IsRestful, SameRest}
 use Rattle.nc_flat_starts.proofs.Lots.{loan_in, find_only, kept_loans}
 use Rattle.nc_flat_starts.proofs.OpenRows.{writing, dropping, sizes, lend_opens}
 use Rattle.nc_flat_starts.proofs.Opens.{opens_bytes}
@@ -89,8 +93,7 @@ pub record IsCall (sc : Scenario) (f : List ℕ) (w : WorldState) (h : HartNo) (
   pub hand : in_hand (driver_of w h.0) ≡ Some o
   pub lends : is_lending o ≡ true
   pub idle : (driver_of w h.0).rest ≡ []
-  -- of a copy: fences are full, and its ranges are known
-  pub full : (k : CopyOp) → o ≡ copy_op k → (driver_of w h.0).fixed.light ≡ false
+  -- of a copy its ranges are known
   pub copy : (k : CopyOp) → o ≡ copy_op k → AreRanged w h.0 k lots
 
 pub call_base : (sc : Scenario) (f : List ℕ) (w : WorldState) (h : HartNo) (o : Op) (lots : List Lot) (lot : Lot) → IsCall sc f w h o lots → In lot lots → lot_waits lot ≡ false → Others (IsStill (driver_of w h.0).fixed) lot.id lots → IsBase sc f w h lots lot
@@ -370,7 +373,6 @@ copy_opens sc f w h k lots c made none =
     let dst = made_two.1 in
     let e = made_two.2 in
     let r = c.copy k refl in
-    let full = c.full k refl in
     let names = c.each.knows.names in
     let member : (lot : Lot) → In lot lots → IsMember sc f w h lots lot = λ lot here. record { flat = c.flat; lt = c.lt; slots = c.slots; each = c.each; here = here; placed = all_at (λ (l : Lot). lot_waits l ≡ false) lots lot (none_any lot_waits lots none) here } in
     let its_name_s = its_name src source e.source_id in
@@ -392,7 +394,6 @@ copy_opens sc f w h k lots c made none =
     copy_goes fx m k.chan k.config src dst lots once (record {
       block = c.flat.world.machine.block_size;
       size = sizes sc f w h c.flat c.lt;
-      unlight = full;
       writes = writing sc f w h c.flat c.lt;
       drops = dropping sc f w h c.flat c.lt;
       ends = record {
@@ -414,7 +415,20 @@ copy_opens sc f w h k lots c made none =
       source_wanted = e.source_wanted;
       target_wanted = e.target_wanted;
       others = e.others;
+      beside = ends_beside sc f w h lots src dst (member src e.source_in) (member dst e.target_in) (ap is_area e.source_kind) (ap is_area e.target_kind) e.source_id e.target_id;
     }) in
+    let end_wanted : (lot : Lot) → In lot lots → IsEndName lot.id → lot.side ≡ sides.Wanted =
+    λ lot here is. elim is [
+      | inl of_source ↦ ap (λ (l : Lot). l.side) (same_named lots source lot src names here e.source_in (its_name lot source of_source) its_name_s) ∙ e.source_wanted
+      | inr of_target ↦ ap (λ (l : Lot). l.side) (same_named lots target lot dst names here e.target_in (its_name lot target of_target) its_name_t) ∙ e.target_wanted
+    ] in
+    let apart : (lot : Lot) → In lot d.lots → is_wanted lot.side ≡ false → list_any (ends lot.id) plan ≡ false =
+    λ lot here lent. false_from_ne_true (list_any (ends lot.id) plan) (λ ended. both_ways (is_wanted lot.side) lent (ap is_wanted (end_wanted lot (c.kept lot here lent) (goes.ends lot.id ended)))) in
+    let same_sent : (lot : Lot) → In lot lots → is_sent plan lot ≡ is_sent [] lot =
+    λ lot here. elim (cases_Bool (list_any (ends_lending lot.id) plan)) [
+      | inl lends ↦ let wanted : is_lending_side lot.side ≡ false = ap is_lending_side (end_wanted lot here (goes.ends lot.id (lend_has_end lot.id plan lends))) in unlent_unsent plan lot wanted ∙ sym (unlent_unsent [] lot wanted)
+      | inr off ↦ ap (λ (t : Bool). is_lending_side lot.side && not t) off
+    ] in
     let rest : went.driver.rest ≡ plan = ap (λ (j : DriverState). j.rest) its_driver in
     quiet_bytes sc f w h went (record {
       flat = c.flat;
@@ -422,20 +436,24 @@ copy_opens sc f w h k lots c made none =
       idle = c.idle;
       silent = λ b. ap (list_any (posts b)) rest ∙ goes.silent b;
       first = ap rest_last rest;
-      aside = λ x n there is own.
-          let p = mapped sc f w n x c.flat there is in
-          let here : In p.is.lot d.lots = subst (λ (g : ℕ). In p.is.lot (driver_of w g).lots) own p.is.here.lot_in in
-          let still = lent_still fx p.is.lot (all_at (IsStillOrWanted fx) d.lots p.is.lot c.still here) p.is.lent in
-          inl (still_restful fx n (owner_of w x) p.is.lot full still p.owner);
+      aside = λ x n there is own. inr (λ l known.
+          let q = loan_is sc f w n l c.flat (ap (λ (g : ℕ). loan_of (driver_of w g) n) own ∙ known) in
+          let here : In q.lot d.lots = subst (λ (g : ℕ). In q.lot (driver_of w g).lots) own q.here.lot_in in
+          let unended = apart q.lot here q.lent in
+          subst (λ (id : LotId). SameRest n id d.rest went.driver.rest) (sym q.lot_is)
+          (record { comes = ap (coming n q.lot.id) rest ∙ steps_ahead.none n q.lot.id plan unended ∙ sym (ap (coming n q.lot.id) c.idle); settles = ap (settling q.lot.id) rest ∙ unended_settling q.lot.id plan unended ∙ sym (ap (settling q.lot.id) c.idle) }));
       transfers = so.transfers;
       fixed = ap (λ (j : DriverState). j.fixed) its_driver;
       loans = λ n. ap (λ (j : DriverState). loan_of j n) its_driver ∙ c.loans n;
       drives = subst (λ (j : DriverState). Drives j) (sym its_driver) (record {
         lots = c.mappings;
-        stands = subst (λ (q : Option Op). PlanOf behind q) (sym c.hand) (record { goes = goes.goes; one = λ light. absurd (both_ways fx.light full light) });
+        stands = subst (λ (q : Option Op). PlanOf behind q) (sym c.hand) (record { goes = goes.goes; one = λ light a b ended too. inr (goes.ends a ended, goes.ends b too) });
         idle = tt;
       });
-      tokens = λ light. absurd (both_ways fx.light full (ap (λ (j : DriverState). j.fixed.light) (sym its_driver) ∙ light));
+      tokens = subst (λ (j : DriverState). j.fixed.light ≡ true → All (TokenStands j.rest (queue_of m h.0)) j.lots) (sym its_driver)
+          (λ light.
+          let stood = lots_stand sc f w h lots c.flat c.lt c.idle names c.kept c.lent light in
+          all_in (TokenStands plan (queue_of m h.0)) lots (λ lot here. all_at (TokenStands [] (queue_of m h.0)) lots lot stood here ∙ ap (λ (t : Bool). if t then lot_token lot ∷ [] else []) (sym (same_sent lot here))));
       copying = ranged_stands sc f w h went o lots (driven sc f w h c.flat c.lt) c.copy (ap in_hand its_driver ∙ c.hand) (ap (λ (j : DriverState). j.fixed) its_driver) (ap (λ (j : DriverState). j.lots) its_driver) so.transfers (ap transfers rest ∙ goes.unclaimed)
           (λ work. ap polls rest ∙ goes.polled);
     })

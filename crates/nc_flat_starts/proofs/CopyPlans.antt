@@ -1,9 +1,10 @@
 -- The plan of a copy goes through: both ends are lent with its claim, each is given in turn, the channel is set up, started,
 -- polled and released, and each end is taken back.
-use Rattle.std.specs.Prelude.{Some, All, ◌||◌, ◌/◌, not, Bool, true, false, map, flat_map, slice_get}
+use Rattle.std.specs.Prelude.{Some, All, if◌then◌else◌, ◌||◌, ◌/◌, ◌==◌, not, Bool, true, false, map, flat_map, slice_get}
 use Rattle.std.specs.List.{list_any}
-use Rattle.std.proofs.Common.{◌≡◌, ℕ, ◌<◌, List, [], ◌∷◌, ◌++◌, refl, sym, ap, ◌∙◌, inl, inr, subst, arith}
-use Rattle.std.proofs.lemmas.Bool.{both_ways, cases_Bool, cond-true, cond-false, or_from, or_left, or_right, and_right, not_from_true, not_from_false}
+use Rattle.std.proofs.Common.{◌≡◌, ◌⊎◌, ℕ, zero, suc, ◌<◌, List, [], ◌∷◌, ◌++◌, refl, sym, ap, ◌∙◌, inl, inr, subst, arith}
+use Rattle.std.proofs.lemmas.Bool.{both_ways, cases_Bool, cond-true, cond-false, or_from, or_left, or_right, and_right, not_from_true, not_from_false, false_from_ne_true, eqb-true}
+use Rattle.std.proofs.lemmas.List.{append-nil}
 use Rattle.std.proofs.lemmas.List.Elements.{All-nil, All-cons, All-head, All-tail}
 use Rattle.std.proofs.lemmas.List.Folds.{list_any-append}
 use Rattle.nc_num.specs.Sizes.{IsBlockSize}
@@ -12,10 +13,13 @@ use Rattle.nc_num.specs.declared.names.ChanNo.{ChanNo}
 use Rattle.nc_num.specs.declared.names.Dir.{Dir}
 use Rattle.nc_num.specs.declared.names.Dir.TheVariants.{ToDev, FromDev}
 use Rattle.nc_num.specs.declared.names.MapId.{MapId}
-use Rattle.nc_queue.specs.Entries.{has_op}
+use Rattle.nc_num.specs.declared.names.MemType.TheVariants.{Pma}
+use Rattle.nc_queue.specs.Entries.{has_op, gives_in}
 use Rattle.nc_queue.specs.Laws.{Stands}
 use Rattle.nc_queue.specs.declared.entry.Entry.{Entry as QueueEntry}
-use Rattle.nc_model.proofs.Faults.{covers-low, covers-high}
+use Rattle.nc_queue.specs.declared.entry.Entry.TheVariants as entries
+use Rattle.nc_lines.specs.Lines.{gives_at}
+use Rattle.nc_model.proofs.Faults.{covers-from, covers-low, covers-high}
 use Rattle.nc_calls.specs.PlaceLaws.{drops_copies}
 use Rattle.nc_pdma_regs.specs.Config.{repeat_of}
 use Rattle.nc_plan.specs.Parts.{comes_back}
@@ -47,17 +51,21 @@ use Rattle.nc_scripts.proofs.Lists.{all_in, all_to, all_filtered}
 use Rattle.nc_scripts.proofs.LotLaws.{its_name}
 use Rattle.nc_holds.proofs.ListsA.{all_at, at_get, in_filter}
 use Rattle.nc_holds.proofs.OwnerLots.{same_named}
-use Rattle.nc_rows.specs.Ahead.{same_lot, ends, posts, is_full, act_coming, coming}
+use Rattle.nc_rows.specs.Ahead.{same_lot, ends, posts, is_full, token, act_coming, coming}
 use Rattle.nc_rows.specs.Parts.{rest_last}
 use Rattle.nc_rows.proofs.Steps.{next, last}
 use Rattle.nc_row_plans.specs.Plans.{WritesBack, DropsBlocks}
 use Rattle.nc_row_plans.proofs.ReturningPlans.{plans_return}
 use Rattle.nc_flatness.specs.Copying.{is_poll, polls, claims, transfers}
-use Rattle.nc_flatness.specs.Plans.{IsStill, StillDevice, IsBeside, IsInHand, LoadsFirst, IsCopyEnd, Claims, Registers, Polls, TakesTarget, TakesSource, PlanGoes, device_of}
-use Rattle.nc_flat_starts.proofs.PlanComes.{plain_ends, ends_behind, append_steps}
-use Rattle.nc_flat_starts.proofs.PlanOps.{IsPlanned, in_even, IsDropping, dropped_are, cbo_last, dropping_plain}
-use Rattle.nc_flat_starts.proofs.PlansGo.{drop_at, drops_go, lend_goes, lend_first, lend_silent}
-use Rattle.nc_flat_starts.proofs.ReturnsGo.{back_turns, IsBehind, drops_of, IsReturn, Straight, CopiedOut, return_is, ReturnTail, tail_so, return_plan}
+use Rattle.nc_flatness.specs.Tokens.{is_lending_side, ends_lending}
+use Rattle.nc_flatness.proofs.Rests.{turn_name}
+use Rattle.nc_flatness.specs.Plans.{IsStill, StillDevice, StillSent, IsBeside, IsInHand, IsQuiet, HasEnd, IsEndName, given_now, LoadsFirst, IsCopyEnd, Claims, Registers, Polls, TakesTarget, TakesSource, PlanGoes, device_of}
+use Rattle.nc_flat_starts.proofs.PlanComes.{EndsOnly, plain_ends, ends_behind, store_gives, append_steps}
+use Rattle.nc_flat_starts.proofs.Pieces.{Move, stored, IsMove, stored_in}
+use Rattle.nc_flat_starts.proofs.NoBytes.{IsOfBytes, of_place, of_block, all_coming, none_comes}
+use Rattle.nc_flat_starts.proofs.PlanOps.{in_cut, out_cut, IsPlanned, in_even, out_even, IsDropping, dropped_are, cbo_last, dropping_plain}
+use Rattle.nc_flat_starts.proofs.PlansGo.{drop_at, drops_go, lots_lent, IsBehindToken, lend_goes, lend_first, lend_silent, lend_only, lend_unlent, lend_none}
+use Rattle.nc_flat_starts.proofs.ReturnsGo.{back_turns, IsBehind, drops_of, IsReturn, Straight, CopiedOut, return_is, ReturnTail, tail_so, return_plan, return_none, return_unlent}
 use Rattle.nc_flat_starts.proofs.Sides.{Others, turned_lot, set_here, hand_beside, without_all}
 
 -- ---- the lots, of which two are the ends
@@ -161,28 +169,82 @@ source_hand f src dst lots two kind its_kind e = record {
     beside other (IsTarget is) off = inr (record { source_is = two.source_is; lent = refl; target_is = ap (λ (l : Lot). l.id) is ∙ two.target_is; kind = ap (λ (l : Lot). l.kind) is ∙ its_kind; waits = ap (λ (l : Lot). l.side) is })
     beside other (IsOther far off_too still) off = inl still
 
--- the target is in hand while the source is its channel's
-target_hand : (f : DriverConfig) (src dst : Lot) (side : Side) (lots : List Lot) → IsEndKind dst → AreEndsIn f src dst sides.Device side lots → IsInHand f lots (turned_lot side dst) false side
-target_hand f src dst side lots kind e = record {
+-- the side of an end that was lent: with light fences its token may be queued
+abbrev side_lent : DriverConfig → Side
+side_lent f = if f.light then sides.Lending else sides.Device
+
+lent_still : (f : DriverConfig) (lot : Lot) → lot.side ≡ side_lent f → IsStill f lot
+lent_still f lot is = by f.light refl is
+  where
+    by : (t : Bool) → f.light ≡ t → lot.side ≡ (if t then sides.Lending else sides.Device) → IsStill f lot
+    by true light is = StillSent is light
+    by false light is = StillDevice is
+
+-- the target is in hand while the source, of side a, is still
+target_hand : (f : DriverConfig) (src dst : Lot) (a side : Side) (lots : List Lot) → ((lot : Lot) → lot.side ≡ a → IsStill f lot) → IsEndKind dst → AreEndsIn f src dst a side lots → IsInHand f lots (turned_lot side dst) false side
+target_hand f src dst a side lots still_at kind e = record {
   here = e.target_in;
   area_is = ap is_area kind;
   side_is = refl;
-  others = all_to (IsRole f src dst sides.Device side) (λ (other : Lot). is_lot dst.id other ≡ false → IsBeside f (turned_lot side dst) other) lots e.roles beside;
+  others = all_to (IsRole f src dst a side) (λ (other : Lot). is_lot dst.id other ≡ false → IsBeside f (turned_lot side dst) other) lots e.roles beside;
 }
   where
-    beside : (other : Lot) → IsRole f src dst sides.Device side other → is_lot dst.id other ≡ false → IsBeside f (turned_lot side dst) other
-    beside other (IsSource is) off = inl (StillDevice (ap (λ (l : Lot). l.side) is))
+    beside : (other : Lot) → IsRole f src dst a side other → is_lot dst.id other ≡ false → IsBeside f (turned_lot side dst) other
+    beside other (IsSource is) off = inl (still_at other (ap (λ (l : Lot). l.side) is))
     beside other (IsTarget is) off = absurd (both_ways (is_lot dst.id other) off (is_source dst side other is))
     beside other (IsOther far off_too still) off = inl still
 
--- both are the channel's
-all_still : (f : DriverConfig) (src dst : Lot) (lots : List Lot) → AreEndsIn f src dst sides.Device sides.Device lots → All (IsStill f) lots
-all_still f src dst lots e = all_to (IsRole f src dst sides.Device sides.Device) (IsStill f) lots e.roles still
+-- both have a side with which a lot is still
+all_still : (f : DriverConfig) (src dst : Lot) (a : Side) (lots : List Lot) → ((lot : Lot) → lot.side ≡ a → IsStill f lot) → AreEndsIn f src dst a a lots → All (IsStill f) lots
+all_still f src dst a lots still_at e = all_to (IsRole f src dst a a) (IsStill f) lots e.roles still
   where
-    still : (lot : Lot) → IsRole f src dst sides.Device sides.Device lot → IsStill f lot
-    still lot (IsSource is) = StillDevice (ap (λ (l : Lot). l.side) is)
-    still lot (IsTarget is) = StillDevice (ap (λ (l : Lot). l.side) is)
+    still : (lot : Lot) → IsRole f src dst a a lot → IsStill f lot
+    still lot (IsSource is) = still_at lot (ap (λ (l : Lot). l.side) is)
+    still lot (IsTarget is) = still_at lot (ap (λ (l : Lot). l.side) is)
     still lot (IsOther far off is) = is
+
+-- ---- ends that are lent
+
+source_lent : (f : DriverConfig) (src dst : Lot) (b : Side) (lots : List Lot) → AreTwo src dst → AreEndsIn f src dst sides.Lending b lots → AreEndsIn f src dst (side_lent f) b (lots_lent f src.id lots)
+source_lent f src dst b lots two e = by f.light
+  where
+    by : (t : Bool) → AreEndsIn f src dst (if t then sides.Lending else sides.Device) b (if t then lots else lots_after (turns.Give src.id) lots)
+    by true = e
+    by false = source_turn f src dst sides.Lending b sides.Device lots two e
+
+target_lent : (f : DriverConfig) (src dst : Lot) (a : Side) (lots : List Lot) → AreTwo src dst → AreEndsIn f src dst a sides.Lending lots → AreEndsIn f src dst a (side_lent f) (lots_lent f dst.id lots)
+target_lent f src dst a lots two e = by f.light
+  where
+    by : (t : Bool) → AreEndsIn f src dst a (if t then sides.Lending else sides.Device) (if t then lots else lots_after (turns.Give dst.id) lots)
+    by true = e
+    by false = target_turn f src dst a sides.Lending sides.Device lots two e
+
+-- behind the poll both are the channel's
+lent_given : (f : DriverConfig) (lot : Lot) → given_now (turned_lot (side_lent f) lot) ≡ turned_lot sides.Device lot
+lent_given f lot = by f.light
+  where
+    by : (t : Bool) → given_now (turned_lot (if t then sides.Lending else sides.Device) lot) ≡ turned_lot sides.Device lot
+    by true = refl
+    by false = refl
+
+given_each : (P Q : Lot → Type 0) (lots : List Lot) → All P lots → ((lot : Lot) → P lot → Q (given_now lot)) → All Q (map given_now lots)
+given_each P Q [] all step = All-nil Q
+given_each P Q (lot ∷ lots) all step = All-cons Q (given_now lot) (map given_now lots) (step lot (All-head P lot lots all)) (given_each P Q lots (All-tail P lot lots all) step)
+
+given_role : (f : DriverConfig) (src dst lot : Lot) → IsRole f src dst (side_lent f) (side_lent f) lot → IsRole f src dst sides.Device sides.Device (given_now lot)
+given_role f src dst lot (IsSource is) = IsSource (ap given_now is ∙ lent_given f src)
+given_role f src dst lot (IsTarget is) = IsTarget (ap given_now is ∙ lent_given f dst)
+given_role f src dst lot (IsOther far off still) = elim (cases_Bool (is_lending_side lot.side)) [
+  | inl is ↦ subst (IsRole f src dst sides.Device sides.Device) (sym (cond-true (is_lending_side lot.side) (turned_lot sides.Device lot) lot is)) (IsOther far off (StillDevice refl))
+  | inr is_not ↦ subst (IsRole f src dst sides.Device sides.Device) (sym (cond-false (is_lending_side lot.side) (turned_lot sides.Device lot) lot is_not)) (IsOther far off still)
+]
+
+ends_given : (f : DriverConfig) (src dst : Lot) (lots : List Lot) → AreEndsIn f src dst (side_lent f) (side_lent f) lots → AreEndsIn f src dst sides.Device sides.Device (map given_now lots)
+ends_given f src dst lots e = record {
+  source_in = subst (λ (l : Lot). In l (map given_now lots)) (lent_given f src) (in_map given_now (turned_lot (side_lent f) src) lots e.source_in);
+  target_in = subst (λ (l : Lot). In l (map given_now lots)) (lent_given f dst) (in_map given_now (turned_lot (side_lent f) dst) lots e.target_in);
+  roles = given_each (IsRole f src dst (side_lent f) (side_lent f)) (IsRole f src dst sides.Device sides.Device) lots e.roles (given_role f src dst);
+}
 
 -- ---- the ends
 
@@ -339,15 +401,15 @@ backs_go f m chan src dst lots sized drops c e =
     let id = dst.id in
     let now = turned_lot sides.Returning dst in
     let lots_now = set_side sides.Returning id lots in
-    let then = target_turn f src dst sides.Device sides.Device sides.Returning lots c.two e in
-    let hand = target_hand f src dst sides.Returning lots_now c.target_kind then in
+    let turned = target_turn f src dst sides.Device sides.Device sides.Returning lots c.two e in
+    let hand = target_hand f src dst sides.Device sides.Returning lots_now (λ lot side. StillDevice side) c.target_kind turned in
     let is = planned_turned f dst sides.Returning c.target_planned in
     let stays : comes_back src.list.dir ≡ false = ap comes_back c.source_dir in
     let comes : comes_back dst.list.dir ≡ true = ap comes_back c.target_dir in
     let left = lots_after (turns.End id) lots_now in
     let gone : IsLastEnd f src left = record {
-      here = in_filter (λ (lot : Lot). not (is_lot id lot)) (turned_lot sides.Device src) lots_now then.source_in (not_from_false (is_lot id src) (other_name src dst c.two));
-      still = all_filtered (IsRole f src dst sides.Device sides.Returning) (λ (other : Lot). is_lot src.id other ≡ false → IsStill f other) (λ (lot : Lot). not (is_lot id lot)) lots_now then.roles left_still;
+      here = in_filter (λ (lot : Lot). not (is_lot id lot)) (turned_lot sides.Device src) lots_now turned.source_in (not_from_false (is_lot id src) (other_name src dst c.two));
+      still = all_filtered (IsRole f src dst sides.Device sides.Returning) (λ (other : Lot). is_lot src.id other ≡ false → IsStill f other) (λ (lot : Lot). not (is_lot id lot)) lots_now turned.roles left_still;
     } in
     let behind : IsBehind f id left (back_steps f src) = record {
       goes = source_goes f src left c.source_kind c.source_planned stays gone;
@@ -375,12 +437,15 @@ reg_goes f lots chan off width value rest still first go = (Registers (record { 
 abbrev transfer_steps : DriverConfig → ChanNo → ℕ → Lot → Lot → List Step
 transfer_steps f chan cfg src dst = map (copy_step chan) (transfer chan (end_part f src) (end_part f dst) cfg)
 
-transfer_goes : (f : DriverConfig) (chan : ChanNo) (cfg : ℕ) (src dst : Lot) (lots : List Lot) (rest : List Step) → AreCopied f chan src dst → AreEndsIn f src dst sides.Device sides.Device lots → LoadsFirst rest → PlanGoes f lots rest → PlanGoes f lots (transfer_steps f chan cfg src dst ++ rest)
-transfer_goes f chan cfg src dst lots rest c e first go =
+transfer_goes : (f : DriverConfig) (chan : ChanNo) (cfg : ℕ) (src dst : Lot) (lots : List Lot) (rest : List Step) → AreCopied f chan src dst → AreEndsIn f src dst (side_lent f) (side_lent f) lots → ((id : LotId) → list_any (ends_lending id) rest ≡ false) → LoadsFirst rest → PlanGoes f (map given_now lots) rest
+    → PlanGoes f lots (transfer_steps f chan cfg src dst ++ rest)
+transfer_goes f chan cfg src dst lots rest c e unlent first go =
     let p = end_part f src in
     let q = end_part f dst in
-    let still = all_still f src dst lots e in
-    let release = reg_goes f lots chan 0 4 0 rest still first go in
+    let side = side_lent f in
+    let still = all_still f src dst side lots (lent_still f) e in
+    let given = all_still f src dst sides.Device (map given_now lots) (λ lot is. StillDevice is) (ends_given f src dst lots e) in
+    let release = reg_goes f (map given_now lots) chan 0 4 0 rest given first go in
     reg_goes f lots chan 0x004 4 cfg _ still refl
     (reg_goes f lots chan 0x008 8 p.device.len _ still refl
     (reg_goes f lots chan 0x010 8 (bus_of q.device) _ still refl
@@ -390,15 +455,108 @@ transfer_goes f chan cfg src dst lots rest c e first go =
         chan = chan;
         step = refl;
         still = still;
-        reads = turned_lot sides.Device src;
-        writes = turned_lot sides.Device dst;
-        source_is = source_end f chan src dst sides.Device sides.Device lots c e;
-        target_is = target_end f chan src dst sides.Device sides.Device lots c e;
+        reads = turned_lot side src;
+        writes = turned_lot side dst;
+        source_is = source_end f chan src dst side side lots c e;
+        target_is = target_end f chan src dst side side lots c e;
         more = rest;
         release = refl;
+        lent = unlent;
       }),
       release,
     )))))
+
+-- its stores are of no byte
+transfer_none : (f : DriverConfig) (chan : ChanNo) (cfg : ℕ) (src dst : Lot) (rest : List Step) (p : QueueEntry → Bool) → IsOfBytes p → list_any p (all_coming rest) ≡ false → list_any p (all_coming (transfer_steps f chan cfg src dst ++ rest)) ≡ false
+transfer_none f chan cfg src dst rest p of none =
+    let reg : (off width value : ℕ) (b : Bool) → b ≡ false → (p (entries.Reg chan off width value) || b) ≡ false = λ off width value b off_b. or_from (p (entries.Reg chan off width value)) b (of.registers chan off width value) off_b in
+    reg _ _ _ _ (reg _ _ _ _ (reg _ _ _ _ (reg _ _ _ _ (reg _ _ _ _ (reg _ _ _ _ none)))))
+
+-- ---- beside each other
+
+-- where the channel sees one end, the plan of the copy stores nothing: neither into the destination's slot nor out of it,
+-- where no block of the slot is one of the buffer
+pub record AreBeside (f : DriverConfig) (src dst : Lot) : Type 0 where
+  pub ins : (i j : ℕ) (d e : Entry) (y : ℕ) → slice_get src.list.entries i ≡ Some d → slice_get dst.list.entries j ≡ Some e → e.bounced ≡ true → covers (device_of f d) y ≡ true → covers (device_of f e) y ≡ true → ⊥
+  pub outs : (i j : ℕ) (d e : Entry) (y : ℕ) → slice_get src.list.entries i ≡ Some d → slice_get dst.list.entries j ≡ Some e → e.bounced ≡ true → covers (device_of f d) y ≡ true → covers e.span y ≡ true → ⊥
+  pub blocks : (j : ℕ) (e : Entry) (y x : ℕ) → slice_get dst.list.entries j ≡ Some e → e.bounced ≡ true → covers (device_of f e) y ≡ true → covers e.span x ≡ true → x / f.size ≡ y / f.size → ⊥
+
+begin_coming : (turn : Turn) (steps more : List Step) → all_coming (beginning turn steps ++ more) ≡ all_coming (steps ++ more)
+begin_coming turn [] more = refl
+begin_coming turn (s ∷ rest) more = refl
+
+begin_lends : (id : LotId) (turn : Turn) (steps more : List Step) → list_any (ends_lending id) (beginning turn steps ++ more) ≡ list_any (ends_lending id) (steps ++ more)
+begin_lends id turn [] more = refl
+begin_lends id turn (s ∷ rest) more = refl
+
+back_none : (f : DriverConfig) (lot : Lot) (more : List Step) (p : QueueEntry → Bool) → IsPlanned f lot → DropsBlocks f.effects → IsOfBytes p → (comes_back lot.list.dir ≡ true → (m : Move) → IsMove (out_cut f) lot.list.entries m → p (entries.Store (stored (out_cut f) m) [] Pma) ≡ false) → list_any p (all_coming more) ≡ false
+    → list_any p (all_coming (back_steps f lot ++ more)) ≡ false
+back_none f lot more p is drops of stores none = ap (list_any p) (begin_coming (turns.Return lot.id) (ending (turns.End lot.id) (return_steps f lot)) more) ∙ return_none f lot (turns.End lot.id) more p is drops of stores none
+
+back_unlent : (f : DriverConfig) (lot : Lot) (more : List Step) (id : LotId) → IsPlanned f lot → DropsBlocks f.effects → list_any (ends_lending id) more ≡ false → list_any (ends_lending id) (back_steps f lot ++ more) ≡ false
+back_unlent f lot more id is drops none = begin_lends id (turns.Return lot.id) (ending (turns.End lot.id) (return_steps f lot)) more ∙ return_unlent f lot more id is drops none
+
+-- both ways back, one behind the other
+backs_none : (f : DriverConfig) (chan : ChanNo) (src dst : Lot) (p : QueueEntry → Bool) → AreCopied f chan src dst → DropsBlocks f.effects → IsOfBytes p → ((m : Move) → IsMove (out_cut f) dst.list.entries m → p (entries.Store (stored (out_cut f) m) [] Pma) ≡ false) → list_any p (all_coming (back_steps f dst ++ back_steps f src)) ≡ false
+backs_none f chan src dst p c drops of stores =
+    back_none f dst (back_steps f src) p c.target_planned drops of (λ comes. stores)
+    (ap (λ (ss : List Step). list_any p (all_coming ss)) (sym (append-nil (back_steps f src)))
+    ∙ back_none f src [] p c.source_planned drops of (λ comes m is. absurd (both_ways (comes_back src.list.dir) (ap comes_back c.source_dir) comes)) refl)
+
+backs_unlent : (f : DriverConfig) (chan : ChanNo) (src dst : Lot) (id : LotId) → AreCopied f chan src dst → DropsBlocks f.effects → list_any (ends_lending id) (back_steps f dst ++ back_steps f src) ≡ false
+backs_unlent f chan src dst id c drops =
+    back_unlent f dst (back_steps f src) id c.target_planned drops (ap (list_any (ends_lending id)) (sym (append-nil (back_steps f src))) ∙ back_unlent f src [] id c.source_planned drops refl)
+
+-- behind the token of the source
+source_quiet : (f : DriverConfig) (chan : ChanNo) (cfg : ℕ) (src dst : Lot) → AreCopied f chan src dst → AreBeside f src dst → WritesBack f.effects → DropsBlocks f.effects → IsQuiet f (turned_lot sides.Lending src) (lend_steps f dst ++ (transfer_steps f chan cfg src dst ++ (back_steps f dst ++ back_steps f src)))
+source_quiet f chan cfg src dst c beside writes drops =
+    let third = transfer_steps f chan cfg src dst ++ (back_steps f dst ++ back_steps f src) in
+    record {
+      bytes = λ i d y there on n.
+          let p = gives_at f.size y in
+          let of = of_place f.size y in
+          none_comes p n src.id (lend_steps f dst ++ third) refl
+          (lend_none f dst third p c.target_planned writes of
+          (λ m is. store_gives f.size y (stored (in_cut f) m) ∙ false_from_ne_true (covers (stored (in_cut f) m) y) (λ over. beside.ins i is.i d m.entry y there is.entry is.bounced on (stored_in (in_cut f) m y (in_even f) is.within over)))
+          (transfer_none f chan cfg src dst (back_steps f dst ++ back_steps f src) p of
+          (backs_none f chan src dst p c drops of
+          (λ m is. store_gives f.size y (stored (out_cut f) m) ∙ false_from_ne_true (covers (stored (out_cut f) m) y) (λ over. beside.outs i is.i d m.entry y there is.entry is.bounced on (stored_in (out_cut f) m y (out_even f) is.within over))))));
+      blocks = λ comes. absurd (both_ways (comes_back src.list.dir) (ap comes_back c.source_dir) comes);
+    }
+
+-- the destination has one entry
+one_entry : (es : List Entry) (e d : Entry) (i : ℕ) → es ≡ e ∷ [] → slice_get es i ≡ Some d → d ≡ e
+one_entry es e d i only there = by i (ap (λ (xs : List Entry). slice_get xs i) (sym only) ∙ there)
+  where
+    by : (i : ℕ) → slice_get (e ∷ []) i ≡ Some d → d ≡ e
+    by zero is = let same : Some e ≡ Some d = is in cc
+    by (suc i) is = absurd cc
+
+-- behind its token
+target_quiet : (f : DriverConfig) (chan : ChanNo) (cfg : ℕ) (src dst : Lot) → AreCopied f chan src dst → AreBeside f src dst → DropsBlocks f.effects → IsQuiet f (turned_lot sides.Lending dst) (transfer_steps f chan cfg src dst ++ (back_steps f dst ++ back_steps f src))
+target_quiet f chan cfg src dst c beside drops =
+    let backs = back_steps f dst ++ back_steps f src in
+    let third = transfer_steps f chan cfg src dst ++ backs in
+    let none : (p : QueueEntry → Bool) (n : MapId) → p (token n) ≡ false → IsOfBytes p → ((m : Move) → IsMove (out_cut f) dst.list.entries m → p (entries.Store (stored (out_cut f) m) [] Pma) ≡ false) → list_any p (coming n dst.id third) ≡ false =
+    λ p n off of stores. none_comes p n dst.id third off (transfer_none f chan cfg src dst backs p of (backs_none f chan src dst p c drops of stores)) in
+    let same : (i : ℕ) (e : Entry) (m : Move) → slice_get dst.list.entries i ≡ Some e → IsMove (out_cut f) dst.list.entries m → e ≡ m.entry =
+    λ i e m there is. one_entry dst.list.entries c.entry e i c.only there ∙ sym (one_entry dst.list.entries c.entry m.entry is.i c.only is.entry) in
+    record {
+      bytes = λ i e y there on n.
+          none (gives_at f.size y) n refl (of_place f.size y)
+          (λ m is.
+          store_gives f.size y (stored (out_cut f) m)
+          ∙ false_from_ne_true (covers (stored (out_cut f) m) y) (λ over. beside.blocks is.i m.entry y y is.entry is.bounced (subst (λ (d : Entry). covers (device_of f d) y ≡ true) (same i e m there is) on) (stored_in (out_cut f) m y (out_even f) is.within over) refl));
+      blocks = λ comes i e y there on n.
+          none (gives_in f.size (y / f.size)) n refl (of_block f.size (y / f.size))
+          (λ m is.
+          let span = stored (out_cut f) m in
+          or_from (span.at / f.size == y / f.size) false
+          (false_from_ne_true (span.at / f.size == y / f.size)
+          (λ met. beside.blocks is.i m.entry y span.at is.entry is.bounced (subst (λ (d : Entry). covers (device_of f d) y ≡ true) (same i e m there is) on) (stored_in (out_cut f) m span.at (out_even f) is.within (covers-from span span.at (omega arith) (omega (arith, is.some))))
+          (eqb-true (span.at / f.size) (y / f.size) met)))
+          refl);
+    }
 
 -- ---- the whole
 
@@ -419,7 +577,6 @@ wanted_same lot is = ap (λ (s : Side). turned_lot s lot) is
 pub record MayCopy (f : DriverConfig) (m : MachineState) (chan : ChanNo) (src dst : Lot) (lots : List Lot) : Type 0 where
   pub block : IsBlockSize m.size
   pub size : f.size ≡ m.size
-  pub unlight : f.light ≡ false
   pub writes : WritesBack f.effects
   pub drops : DropsBlocks f.effects
   pub ends : AreCopied f chan src dst
@@ -429,6 +586,7 @@ pub record MayCopy (f : DriverConfig) (m : MachineState) (chan : ChanNo) (src ds
   pub source_wanted : src.side ≡ sides.Wanted
   pub target_wanted : dst.side ≡ sides.Wanted
   pub others : All (λ other. is_lot source other ≡ false → is_lot target other ≡ false → IsStill f other) lots
+  pub beside : AreBeside f src dst
 
 start_ends : (f : DriverConfig) (m : MachineState) (chan : ChanNo) (src dst : Lot) (lots : List Lot) → MayCopy f m chan src dst lots → AreEndsIn f src dst sides.Wanted sides.Wanted lots
 start_ends f m chan src dst lots c = record {
@@ -448,36 +606,92 @@ start_ends f m chan src dst lots c = record {
 pub record CopyGoes (f : DriverConfig) (lots : List Lot) (steps : List Step) : Type 0 where
   pub goes : PlanGoes f lots steps
   pub silent : (b : ℕ) → list_any (posts b) steps ≡ false
+  -- it ends the stays of the two ends alone
+  pub ends : (id : LotId) → HasEnd id steps → IsEndName id
   pub polled : polls steps ≡ true
   pub unclaimed : transfers steps ≡ false
+
+steps_whole : (f : DriverConfig) (chan : ChanNo) (cfg : ℕ) (src dst : Lot)
+    → lend_steps f src ++ lend_steps f dst ++ transfer_steps f chan cfg src dst ++ back_steps f dst ++ back_steps f src ≡ lend_steps f src ++ (lend_steps f dst ++ (transfer_steps f chan cfg src dst ++ (back_steps f dst ++ back_steps f src)))
+steps_whole f chan cfg src dst =
+    let third = transfer_steps f chan cfg src dst ++ (back_steps f dst ++ back_steps f src) in
+    append_steps (lend_steps f src ++ lend_steps f dst ++ transfer_steps f chan cfg src dst) (back_steps f dst) (back_steps f src)
+    ∙ append_steps (lend_steps f src ++ lend_steps f dst) (transfer_steps f chan cfg src dst) (back_steps f dst ++ back_steps f src) ∙ append_steps (lend_steps f src) (lend_steps f dst) third
+
+either : (a b : Bool) → (a || b) ≡ true → (a ≡ true) ⊎ (b ≡ true)
+either true b is = inl refl
+either false b is = inr is
+
+begin_ends : (id : LotId) (turn : Turn) (steps : List Step) → list_any (ends id) (beginning turn steps) ≡ list_any (ends id) steps
+begin_ends id turn [] = refl
+begin_ends id turn (s ∷ rest) = refl
+
+back_only : (f : DriverConfig) (lot : Lot) → IsPlanned f lot → DropsBlocks f.effects → EndsOnly lot.id (back_steps f lot)
+back_only f lot is drops b ended = (return_plan f lot (turns.End lot.id) is drops (inr refl)).only b (sym (begin_ends b (turns.Return lot.id) (ending (turns.End lot.id) (return_steps f lot))) ∙ ended)
+
+-- it ends the stays of its two ends alone
+pub copy_two : (f : DriverConfig) (chan : ChanNo) (cfg : ℕ) (src dst : Lot) (id : LotId) → AreTwo src dst → IsPlanned f src → IsPlanned f dst → WritesBack f.effects → DropsBlocks f.effects → list_any (ends id) (copy_steps f chan cfg src dst) ≡ true → IsEndName id
+copy_two f chan cfg src dst id two is_src is_dst writes drops ended =
+    let backs = back_steps f dst ++ back_steps f src in
+    let third = transfer_steps f chan cfg src dst ++ backs in
+    let second = lend_steps f dst ++ third in
+    let first = lend_steps f src ++ second in
+    let whole : (ends id (claim_step chan) || list_any (ends id) first) ≡ true = sym (ap (λ (ss : List Step). list_any (ends id) (claim_step chan ∷ ss)) (steps_whole f chan cfg src dst)) ∙ ended in
+    let at : (xs ys : List Step) → list_any (ends id) (xs ++ ys) ≡ true → (list_any (ends id) xs ≡ true) ⊎ (list_any (ends id) ys ≡ true) = λ xs ys some. either (list_any (ends id) xs) (list_any (ends id) ys) (sym (list_any-append (ends id) xs ys) ∙ some) in
+    let of_source : same_lot id src.id ≡ true → IsEndName id = λ same. inl (turn_name id src.id same ∙ two.source_is) in
+    let of_target : same_lot id dst.id ≡ true → IsEndName id = λ same. inr (turn_name id dst.id same ∙ two.target_is) in
+    elim (either (ends id (claim_step chan)) (list_any (ends id) first) whole) [
+      | inl claimed ↦ elim (either (same_lot id target) false claimed) [ inl same ↦ inr (turn_name id target same) | inr never ↦ absurd (both_ways false refl never) ]
+      | inr later ↦
+          elim (at (lend_steps f src) second later) [
+            | inl here ↦ of_source (lend_only f src is_src writes id here)
+            | inr more ↦
+                elim (at (lend_steps f dst) third more) [
+                  | inl here ↦ of_target (lend_only f dst is_dst writes id here)
+                  | inr back ↦ elim (at (back_steps f dst) (back_steps f src) back) [ inl here ↦ of_target (back_only f dst is_dst drops id here) | inr here ↦ of_source (back_only f src is_src drops id here) ]
+                ]
+          ]
+    ]
+
+-- it has no message
+pub copy_silent : (f : DriverConfig) (chan : ChanNo) (cfg : ℕ) (src dst : Lot) (b : ℕ) → IsPlanned f src → IsPlanned f dst → WritesBack f.effects → DropsBlocks f.effects → list_any (posts b) (copy_steps f chan cfg src dst) ≡ false
+copy_silent f chan cfg src dst b is_src is_dst writes drops =
+    let backs = back_steps f dst ++ back_steps f src in
+    let third = transfer_steps f chan cfg src dst ++ backs in
+    ap (list_any (posts b)) (steps_whole f chan cfg src dst)
+    ∙ lend_silent f src (lend_steps f dst ++ third) b is_src writes
+    (lend_silent f dst third b is_dst writes
+    (list_any-append (posts b) (back_steps f dst) (back_steps f src) ∙ or_from (list_any (posts b) (back_steps f dst)) (list_any (posts b) (back_steps f src)) (back_silent f dst b is_dst drops) (back_silent f src b is_src drops)))
 
 pub copy_goes : (f : DriverConfig) (m : MachineState) (chan : ChanNo) (cfg : ℕ) (src dst : Lot) (lots : List Lot) → repeat_of cfg ≡ false → MayCopy f m chan src dst lots → CopyGoes f lots (copy_steps f chan cfg src dst)
 copy_goes f m chan cfg src dst lots once c =
     let two = c.ends.two in
     let lent_src = set_side sides.Lending src.id lots in
     let lent = set_side sides.Lending dst.id lent_src in
-    let given_src = set_side sides.Device src.id lent in
-    let given = set_side sides.Device dst.id given_src in
+    let lots_two = lots_lent f src.id lent in
+    let lots_three = lots_lent f dst.id lots_two in
     let e0 = start_ends f m chan src dst lots c in
     let e1 = target_turn f src dst sides.Lending sides.Wanted sides.Lending lent_src two (source_turn f src dst sides.Wanted sides.Wanted sides.Lending lots two e0) in
-    let e2 = source_turn f src dst sides.Lending sides.Lending sides.Device lent two e1 in
-    let e3 = target_turn f src dst sides.Device sides.Lending sides.Device given_src two e2 in
+    let e2 = source_lent f src dst sides.Lending lent two e1 in
+    let e3 = target_lent f src dst (side_lent f) lots_two two e2 in
     let is_src = planned_turned f src sides.Lending c.ends.source_planned in
     let is_dst = planned_turned f dst sides.Lending c.ends.target_planned in
     let backs = back_steps f dst ++ back_steps f src in
-    let last_go = backs_go f m chan src dst given (record { block = c.block; size = c.size }) c.drops c.ends e3 in
+    let unlent : (id : LotId) → list_any (ends_lending id) backs ≡ false = λ id. backs_unlent f chan src dst id c.ends c.drops in
+    let last_go = backs_go f m chan src dst (map given_now lots_three) (record { block = c.block; size = c.size }) c.drops c.ends (ends_given f src dst lots_three e3) in
     let third = transfer_steps f chan cfg src dst ++ backs in
-    let third_goes = transfer_goes f chan cfg src dst given backs c.ends e3 last_go.1 last_go.0 in
+    let third_goes = transfer_goes f chan cfg src dst lots_three backs c.ends e3 unlent last_go.1 last_go.0 in
     let second = lend_steps f dst ++ third in
-    let second_goes : PlanGoes f given_src second = lend_goes f given_src (turned_lot sides.Lending dst) third (target_hand f src dst sides.Lending given_src c.ends.target_kind e2) is_dst c.writes c.unlight refl third_goes in
-    let second_first : LoadsFirst second = lend_first f dst third c.ends.target_planned c.writes c.unlight in
+    let behind_dst : f.light ≡ true → IsBehindToken f (turned_lot sides.Lending dst) third = λ light. record { lent = unlent dst.id; quiet = target_quiet f chan cfg src dst c.ends c.beside c.drops } in
+    let second_goes : PlanGoes f lots_two second = lend_goes f lots_two (turned_lot sides.Lending dst) third (target_hand f src dst (side_lent f) sides.Lending lots_two (lent_still f) c.ends.target_kind e2) is_dst c.writes behind_dst refl third_goes in
+    let second_first : LoadsFirst second = lend_first f dst third c.ends.target_planned c.writes in
+    let behind_src : f.light ≡ true → IsBehindToken f (turned_lot sides.Lending src) second =
+    λ light. record { lent = lend_unlent f dst third src.id c.ends.target_planned c.writes light (name_other src dst two) (unlent src.id); quiet = source_quiet f chan cfg src dst c.ends c.beside c.writes c.drops } in
     let first = lend_steps f src ++ second in
-    let first_goes : PlanGoes f lent first = lend_goes f lent (turned_lot sides.Lending src) second (source_hand f src dst lent two c.ends.source_kind c.ends.target_kind e1) is_src c.writes c.unlight second_first second_goes in
+    let first_goes : PlanGoes f lent first = lend_goes f lent (turned_lot sides.Lending src) second (source_hand f src dst lent two c.ends.source_kind c.ends.target_kind e1) is_src c.writes behind_src second_first second_goes in
     let named : PlanGoes f (set_side sides.Lending target (set_side sides.Lending source lots)) first =
     subst (λ (i : LotId). PlanGoes f (set_side sides.Lending target (set_side sides.Lending i lots)) first) two.source_is (subst (λ (i : LotId). PlanGoes f (set_side sides.Lending i lent_src) first) two.target_is first_goes) in
-    let whole : lend_steps f src ++ lend_steps f dst ++ transfer_steps f chan cfg src dst ++ back_steps f dst ++ back_steps f src ≡ first =
-    append_steps (lend_steps f src ++ lend_steps f dst ++ transfer_steps f chan cfg src dst) (back_steps f dst) (back_steps f src)
-    ∙ append_steps (lend_steps f src ++ lend_steps f dst) (transfer_steps f chan cfg src dst) backs ∙ append_steps (lend_steps f src) (lend_steps f dst) third in
+    let whole : lend_steps f src ++ lend_steps f dst ++ transfer_steps f chan cfg src dst ++ back_steps f dst ++ back_steps f src ≡ first = steps_whole f chan cfg src dst in
     subst (λ (ss : List Step). CopyGoes f lots (claim_step chan ∷ ss)) (sym whole) (record {
       goes = (
         Claims (record {
@@ -491,15 +705,12 @@ copy_goes f m chan cfg src dst lots once c =
           wanted = (c.source_wanted, c.target_wanted);
           others = c.others;
           steps = ap (λ (ss : List Step). claim_step chan ∷ ss) (sym whole);
-          next = lend_first f src second c.ends.source_planned c.writes c.unlight;
+          next = lend_first f src second c.ends.source_planned c.writes;
         }),
         named,
       );
-      silent = λ b.
-          lend_silent f src second b c.ends.source_planned c.writes c.unlight
-          (lend_silent f dst third b c.ends.target_planned c.writes c.unlight
-          (list_any-append (posts b) (back_steps f dst) (back_steps f src)
-          ∙ or_from (list_any (posts b) (back_steps f dst)) (list_any (posts b) (back_steps f src)) (back_silent f dst b c.ends.target_planned c.drops) (back_silent f src b c.ends.source_planned c.drops)));
+      silent = λ b. sym (ap (λ (ss : List Step). list_any (posts b) (claim_step chan ∷ ss)) whole) ∙ copy_silent f chan cfg src dst b c.ends.source_planned c.ends.target_planned c.writes c.drops;
+      ends = λ id ended. copy_two f chan cfg src dst id two c.ends.source_planned c.ends.target_planned c.writes c.drops (ap (λ (ss : List Step). list_any (ends id) (claim_step chan ∷ ss)) whole ∙ ended);
       polled = any_behind (λ (s : Step). is_poll s.act) (lend_steps f src) second (any_behind (λ (s : Step). is_poll s.act) (lend_steps f dst) third refl);
       unclaimed = and_right (polls (claim_step chan ∷ first)) (not (claims (claim_step chan ∷ first))) refl;
     })

@@ -56,7 +56,7 @@ start_goes sc f w h o n now hand is phase =
     let d = driver_of w h.0 in
     let went = started d w.owners w.pages in
     goes_go sc f w (events.Issue h) h w.machine went w.slots None [] now.may (issues w h nexts.Start (next_start d o n hand is phase))
-    (λ none. goes_silent sc f [] (gone w h w.machine went) refl (start_bytes sc f w h o (at_steps sc f w h o n now.covered now.flat now.there (start_out w h o n now.may hand phase) hand is phase)))
+    (λ none. goes_silent sc f [] (gone w h w.machine went) refl (start_bytes sc f w h o (at_steps sc f w h o n now.flat now.there (start_out w h o n now.may hand phase) hand is phase)))
 
 -- ---- a search
 
@@ -80,7 +80,7 @@ try_goes sc f w h now =
     let holder = holder_of w.slots k.0 in
     let went = told d (is_none holder) in
     goes_go sc f w (events.Try h) h w.machine went (tried w.slots h k.0) None (try_records h k.0 holder) now.may (ap (at_word w (try_outcome w h)) k.1)
-    (λ none. goes_silent sc f [] (gone w h w.machine went) refl (told_bytes sc f w h k.0 (is_none holder) now.covered now.flat now.there k.1 (λ is. none_so holder is)))
+    (λ none. goes_silent sc f [] (gone w h w.machine went) refl (told_bytes sc f w h k.0 (is_none holder) now.flat now.there k.1 (λ is. none_so holder is)))
 
 told_goes : (sc : Scenario) (f : List ℕ) (w : WorldState) (h : HartNo) (got : Bool) → IsNow sc f w (events.Told h got) → Goes sc f w (events.Told h got)
 unfolding outcome enabled told_outcome
@@ -90,7 +90,7 @@ told_goes sc f w h got now =
     let holder = holder_of w.slots k.0 in
     let went = told d (got_word got holder) in
     goes_go sc f w (events.Told h got) h w.machine went (told_slots got w.slots h k.0) None (told_records h k.0 got holder) now.may (ap (at_word w (told_outcome w h got)) k.1)
-    (λ none. goes_silent sc f [] (gone w h w.machine went) refl (told_bytes sc f w h k.0 (got_word got holder) now.covered now.flat now.there k.1 (λ is. got_so got holder is)))
+    (λ none. goes_silent sc f [] (gone w h w.machine went) refl (told_bytes sc f w h k.0 (got_word got holder) now.flat now.there k.1 (λ is. got_so got holder is)))
 
 pub starts_go : StartsAreFlat
 starts_go = record { start = start_goes; tried = try_goes; told = told_goes }

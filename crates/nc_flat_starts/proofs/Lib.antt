@@ -7,10 +7,12 @@ pub mod Pieces
 pub mod PlanComes
 pub mod Sides
 pub mod PlanOps
+pub mod NoBytes
 pub mod PlanEnds
 pub mod PlansGo
 pub mod ReturnsGo
 pub mod CopyPlans
+pub mod CopyBesides
 pub mod Lots
 pub mod Blocks
 pub mod Tokens

@@ -153,7 +153,6 @@ made_call sc f w h o new s makes e =
         hand = s.hand;
         lends = s.lends;
         idle = s.idle;
-        full = s.full;
         copy = λ c is. ranged_begun w h.0 d.lots new c k.me s.settled (subst (λ (p : Op). begin fx d.lots w.owners w.pages p ≡ Ok new) is e);
       },
       record { old = d.lots; new = new; all = refl; settled = s.settled; names = n.names; wanted = n.wanted },

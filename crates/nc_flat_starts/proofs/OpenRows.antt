@@ -55,6 +55,7 @@ use Rattle.nc_flatness.specs.Lending.{is_lending}
 use Rattle.nc_flatness.proofs.Copies.{is_copy}
 use Rattle.nc_flatness.specs.Flatness.{Flatness}
 use Rattle.nc_flatness.specs.Plans.{IsStill, device_of}
+use Rattle.nc_flatness.proofs.Rests.{lend_lends}
 use Rattle.nc_flatness.specs.Tokens.{is_lending_side}
 use Rattle.nc_flatness.proofs.Seen.{slot_at, slot_slots, slot_whole}
 use Rattle.nc_flat_starts.proofs.Bases.{IsBase, fixed_is, IsMember, member_of, member_lot, member_owner, base_beside, member_beside, base_entry, base_planned, member_unseen, waits_not, slot_in, in_slot_so}
@@ -245,6 +246,7 @@ lend_opens sc f w h o went lots lot b plain hand lends no_copy side driver trans
       transfers = transfers;
       lent = refl;
       of_plan = k.plan;
+      ends_it = λ lent. lend_lends fx lot;
       unsent = ready_unsent lot side;
       goes = k.goes;
       was = λ i. owner_of_side (map_id h lot.id i) lot.side;

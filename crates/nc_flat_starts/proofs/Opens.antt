@@ -2,7 +2,7 @@
 use Rattle.std.specs.Prelude.{Option, Some, All, ◌&&◌, not, Bool, true, false, option_map, slice_get}
 use Rattle.std.specs.List.{list_any}
 use Rattle.std.proofs.Common.{◌≡◌, ◌⊎◌, ℕ, ◌<◌, List, [], length, refl, sym, ap, ◌∙◌, inl, inr, subst}
-use Rattle.std.proofs.lemmas.Bool.{both_ways, false_from_ne_true}
+use Rattle.std.proofs.lemmas.Bool.{both_ways, cases_Bool, false_from_ne_true}
 use Rattle.nc_num.specs.Memory.{byte}
 use Rattle.nc_num.specs.Places.{covers}
 use Rattle.nc_num.specs.declared.names.HartNo.{HartNo}
@@ -44,14 +44,15 @@ use Rattle.nc_rows.proofs.Steps.{steps_ahead}
 use Rattle.nc_flatness.specs.Lending.{is_lending}
 use Rattle.nc_flatness.specs.Books.{loan_by, loan_of, book_of, mapping_in, LiesIn}
 use Rattle.nc_flatness.specs.Flatness.{PlanLeft, PlanIs, PlanOf, Drives, BytesStand}
-use Rattle.nc_flatness.specs.Plans.{PlanGoes}
-use Rattle.nc_flatness.specs.Tokens.{is_lending_side, TokenStands}
+use Rattle.nc_flatness.specs.Plans.{HasLend, PlanGoes}
+use Rattle.nc_flatness.specs.Tokens.{is_lending_side, ends_lending, is_sent, TokenStands}
 use Rattle.nc_flatness.proofs.Copies.{is_copy, copy_none}
 use Rattle.nc_flatness.proofs.Loans.{loan_is}
 use Rattle.nc_flatness.proofs.Outcomes.{gone}
 use Rattle.nc_flatness.proofs.Lents.{all_sided, sides_mapping}
 use Rattle.nc_flatness.proofs.Stands.{stands_by, none_stands}
-use Rattle.nc_flatness.proofs.Tokens.{ended_unsent}
+use Rattle.nc_flatness.proofs.Rests.{unended_unlent}
+use Rattle.nc_flatness.proofs.Tokens.{ended_unsent, unlent_unsent}
 use Rattle.nc_flatness.proofs.Owned.{owned_ram}
 use Rattle.nc_flat_starts.proofs.Bases.{IsBase, me_of}
 use Rattle.nc_flat_starts.proofs.Befores.{IsBefore, driven, its_entry, far_loan, far_mapping, far_from, far_rest, known_here, all_idle, idle_free, seen_aside}
@@ -102,16 +103,20 @@ side_mapping n k sides.Own e = absurd cc
 
 -- ---- tokens
 
--- the lot has its end in the plan, and of the others what is queued stays
-open_stands : (sc : Scenario) (f : List ℕ) (w : WorldState) (h : HartNo) (lots : List Lot) (lot : Lot) (side : Side) (plan : List Step) → IsBefore sc f w h lots lot → is_lending_side lot.side ≡ false → IsPlan lot.id plan → (driver_of w h.0).fixed.light ≡ true
+-- where the lot is lent the plan ends that, and of the others what is queued stays
+open_stands : (sc : Scenario) (f : List ℕ) (w : WorldState) (h : HartNo) (lots : List Lot) (lot : Lot) (side : Side) (plan : List Step) → IsBefore sc f w h lots lot → is_lending_side lot.side ≡ false → IsPlan lot.id plan → (is_lending_side side ≡ true → HasLend lot.id plan) → (driver_of w h.0).fixed.light ≡ true
     → All (TokenStands plan (queue_of w.machine h.0)) (set_side side lot.id lots)
-open_stands sc f w h lots lot side plan b unsent p light =
+open_stands sc f w h lots lot side plan b unsent p lends light =
     let q = queue_of w.machine h.0 in
-    let turned : TokenStands plan q (turned_lot side lot) = none_stands plan q (turned_lot side lot) (no_token sc f w h lots lot b.flat b.lt b.names b.kept b.here unsent) (ended_unsent plan (turned_lot side lot) p.ended) in
+    let its : is_sent plan (turned_lot side lot) ≡ false = elim (cases_Bool (is_lending_side side)) [
+      | inl lent ↦ ended_unsent plan (turned_lot side lot) (lends lent)
+      | inr off ↦ unlent_unsent plan (turned_lot side lot) off
+    ] in
+    let turned : TokenStands plan q (turned_lot side lot) = none_stands plan q (turned_lot side lot) (no_token sc f w h lots lot b.flat b.lt b.names b.kept b.here unsent) its in
     all_sided (λ (l : Lot). In l lots) (TokenStands plan q) side lot.id lots (all_in (λ (l : Lot). In l lots) lots (λ l here. here))
     (λ l here is. subst (λ (k : Lot). TokenStands plan q (turned_lot side k)) (sym (same_named lots lot.id l lot b.names here b.here is (its_name lot lot.id refl))) turned)
     (λ l here off.
-    let none : list_any (ends l.id) plan ≡ false = false_from_ne_true (list_any (ends l.id) plan) (λ ended. both_ways (is_lot lot.id l) off (p.only l.id ended)) in
+    let none : list_any (ends_lending l.id) plan ≡ false = unended_unlent l.id plan (false_from_ne_true (list_any (ends l.id) plan) (λ ended. both_ways (is_lot lot.id l) off (p.only l.id ended))) in
     stands_by [] plan q q l l.side refl (ap (λ (t : Bool). is_lending_side l.side && not t) none) (all_at (TokenStands [] q) lots l (b.tokens light) here))
 
 -- ---- a lot with a new side and a plan
@@ -125,6 +130,8 @@ pub record Opens (sc : Scenario) (f : List ℕ) (w : WorldState) (h : HartNo) (o
   pub transfers : went.moves.transfers ≡ of_those (to_side (driver_of w h.0).fixed.me side) lot.id lots
   pub lent : is_wanted side ≡ false
   pub of_plan : IsPlan lot.id plan
+  -- where it is lent the plan ends that
+  pub ends_it : is_lending_side side ≡ true → HasLend lot.id plan
   pub goes : PlanGoes (driver_of w h.0).fixed (set_side side lot.id lots) plan
   -- with light fences none of its tokens is queued
   pub unsent : is_lending_side lot.side ≡ false
@@ -214,7 +221,7 @@ opens_bytes sc f w h o went lots lot side plan t =
       });
       lasting = last_none (book_of v) f h.0 (hart_of m h.0).last (rest_last went.driver.rest) (ap (λ (j : DriverState). rest_last j.rest) t.driver ∙ t.of_plan.first);
       queue = all_idle sc f w h (book_of v) (owner_of v) b.flat b.idle;
-      tokens = subst (λ (j : DriverState). j.fixed.light ≡ true → All (TokenStands j.rest (queue_of m h.0)) j.lots) (sym t.driver) (λ light. open_stands sc f w h lots lot side plan b t.unsent t.of_plan light);
+      tokens = subst (λ (j : DriverState). j.fixed.light ≡ true → All (TokenStands j.rest (queue_of m h.0)) j.lots) (sym t.driver) (λ light. open_stands sc f w h lots lot side plan b t.unsent t.of_plan t.ends_it light);
       passes = λ x u there unslotted beside off row. row;
       lies = λ i e x k there place is.
           subst (λ (j : MapId). LiesIn ((book_of v).loan j) x) (side_mapping (map_id h lot.id i) k side is) (subst (λ (l : Option Loan). LiesIn l x) (sym (known i e place.entry)) place.on);

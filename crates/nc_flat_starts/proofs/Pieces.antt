@@ -3,7 +3,7 @@ use Rattle.std.specs.Prelude.{All, Some, ◌-◌, Bool, true, false, if◌then�
 use Rattle.std.proofs.Common.{◌≡◌, ◌≢◌, ℕ, zero, suc, ◌+◌, ◌<◌, ◌≤◌, List, [], ◌∷◌, ◌++◌, refl, sym, ap, ◌∙◌, inl, inr, subst, arith}
 use Rattle.std.proofs.lemmas.Bool.{cases_lt}
 use Rattle.std.proofs.lemmas.List.Elements.{All-nil, All-cons, All-head, All-tail, All-append}
-use Rattle.nc_num.specs.Places.{covers, pieces, Tiles}
+use Rattle.nc_num.specs.Places.{covers, pieces, IsPieceLen, Tiles}
 use Rattle.nc_num.specs.declared.places.Span.{Span}
 use Rattle.nc_num.proofs.Tiling.{tiles}
 use Rattle.nc_model.proofs.Faults.{covers-from, covers-low, covers-high}
@@ -26,6 +26,18 @@ tiled_in at len (q ∷ ps) p all (inl same) =
 tiled_in at len (q ∷ ps) p all (inr later) =
     let r = tiled_in (at + q.len) (len - q.len) ps p all.1 later in
     (omega (arith, r.0), omega (arith, r.1, all.0.within))
+
+long_piece : (n : ℕ) → IsPieceLen n → 0 < n
+long_piece n is = elim is [
+  | inl eight ↦ omega (arith, eight)
+  | inr less ↦ elim less [ inl four ↦ omega (arith, four) | inr few ↦ elim few [ inl two ↦ omega (arith, two) | inr one ↦ omega (arith, one) ] ]
+]
+
+-- each has bytes
+tiled_some : (at len : ℕ) (ps : List Span) (p : Span) → Tiles at len ps → In p ps → 0 < p.len
+tiled_some at len [] p all here = absurd here
+tiled_some at len (q ∷ ps) p all (inl same) = subst (λ (s : Span). 0 < s.len) same (long_piece q.len all.0.size)
+tiled_some at len (q ∷ ps) p all (inr later) = tiled_some (at + q.len) (len - q.len) ps p all.1 later
 
 -- each place is in one of them
 tiled_at : (at len : ℕ) (ps : List Span) (x : ℕ) → Tiles at len ps → at ≤ x → x < at + len → (p : Span) × In p ps × (covers p x ≡ true)
@@ -67,6 +79,7 @@ pub record IsMove (cut : Entry → Span × Span) (es : List Entry) (m : Move) : 
   pub entry : slice_get es i ≡ Some m.entry
   pub bounced : m.entry.bounced ≡ true
   pub within : IsWithin m.piece (cut m.entry).0
+  pub some : 0 < m.piece.len
 
 -- no two give one byte
 abbrev pub MovesApart : (Entry → Span × Span) → List Move → Type 0
@@ -87,10 +100,10 @@ CutsEven cut = (e : Entry) → (cut e).1.len ≡ (cut e).0.len
 
 -- ---- of one entry
 
-moves_one : (cut : Entry → Span × Span) (e : Entry) (es : List Entry) (i : ℕ) (ps : List Span) → slice_get es i ≡ Some e → e.bounced ≡ true → ((p : Span) → In p ps → IsWithin p (cut e).0) → All (IsMove cut es) (map (piece_of e) ps)
+moves_one : (cut : Entry → Span × Span) (e : Entry) (es : List Entry) (i : ℕ) (ps : List Span) → slice_get es i ≡ Some e → e.bounced ≡ true → ((p : Span) → In p ps → IsWithin p (cut e).0 × (0 < p.len)) → All (IsMove cut es) (map (piece_of e) ps)
 moves_one cut e es i [] there bounced within = All-nil (IsMove cut es)
 moves_one cut e es i (p ∷ ps) there bounced within =
-    All-cons (IsMove cut es) (piece_of e p) (map (piece_of e) ps) (record { i = i; entry = there; bounced = bounced; within = within p (inl refl) }) (moves_one cut e es i ps there bounced (λ q here. within q (inr here)))
+    All-cons (IsMove cut es) (piece_of e p) (map (piece_of e) ps) (record { i = i; entry = there; bounced = bounced; within = (within p (inl refl)).0; some = (within p (inl refl)).1 }) (moves_one cut e es i ps there bounced (λ q here. within q (inr here)))
 
 -- a store lies in its range
 pub stored_in : (cut : Entry → Span × Span) (m : Move) (x : ℕ) → CutsEven cut → IsWithin m.piece (cut m.entry).0 → covers (stored cut m) x ≡ true → covers (cut m.entry).1 x ≡ true
@@ -113,7 +126,7 @@ apart_one cut e (p ∷ ps) up low = (later ps up.0 (λ q here. low q (inr here))
 -- ---- of all
 
 moves_if : (cut : Entry → Span × Span) (e : Entry) (es : List Entry) (i : ℕ) (t : Bool) → e.bounced ≡ t → slice_get es i ≡ Some e → All (IsMove cut es) (if t then map (piece_of e) (pieces (cut e).0) else [])
-moves_if cut e es i true is there = moves_one cut e es i (pieces (cut e).0) there is (λ p here. tiled_in (cut e).0.at (cut e).0.len (pieces (cut e).0) p (tiles (cut e).0) here)
+moves_if cut e es i true is there = moves_one cut e es i (pieces (cut e).0) there is (λ p here. (tiled_in (cut e).0.at (cut e).0.len (pieces (cut e).0) p (tiles (cut e).0) here, tiled_some (cut e).0.at (cut e).0.len (pieces (cut e).0) p (tiles (cut e).0) here))
 moves_if cut e es i false is there = All-nil (IsMove cut es)
 
 moves_from : (cut : Entry → Span × Span) (es all : List Entry) → ((i : ℕ) (e : Entry) → slice_get es i ≡ Some e → (j : ℕ) × (slice_get all j ≡ Some e)) → All (IsMove cut all) (moves_of cut es)

@@ -2,7 +2,7 @@
 use Rattle.std.specs.Prelude.{Option, Some, None, ◌==◌, ◌||◌, ◌-◌, is_some, Bool, true, false, flat_map}
 use Rattle.std.specs.List.{list_any}
 use Rattle.std.proofs.Common.{◌≡◌, ℕ, List, [], ◌∷◌, ◌++◌, refl, sym, ap, ◌∙◌, inl, inr}
-use Rattle.std.proofs.lemmas.Bool.{and_parts, or_right, cases_Bool, cond-true, cond-false, eqb-true, false_from_ne_true}
+use Rattle.std.proofs.lemmas.Bool.{and_parts, or_right, or_from, cases_Bool, cond-true, cond-false, eqb-true, false_from_ne_true}
 use Rattle.std.proofs.lemmas.List.Elements.{All-nil, All-cons, All-head, All-tail}
 use Rattle.std.proofs.lemmas.List.Folds.{list_any-append}
 use Rattle.nc_num.specs.Memory.{byte}
@@ -25,7 +25,9 @@ use Rattle.nc_rules.specs.Plans.{hart_step, op_steps, turning, ending}
 use Rattle.nc_rows.specs.Ahead.{same_lot, ends, posts, is_full, op_coming, coming}
 use Rattle.nc_rows.proofs.Steps.{next}
 use Rattle.nc_row_plans.proofs.LendingPlans.{is_plain, Are, are_flat}
-use Rattle.nc_flatness.specs.Plans.{EndsOne}
+use Rattle.nc_flatness.specs.Plans.{EndsOne, HasLend}
+use Rattle.nc_flatness.specs.Tokens.{ends_lending}
+use Rattle.nc_flatness.proofs.Rests.{plain_unlent}
 use Rattle.nc_flat_starts.proofs.Pieces.{Move, stored}
 
 -- ---- operations
@@ -42,6 +44,16 @@ plain_ends id (hart.Mark pred succ) is = absurd cc
 pub ends_behind : (id : LotId) (ops : List HartOp) (rest : List Step) → list_any (ends id) rest ≡ true → list_any (ends id) (op_steps ops ++ rest) ≡ true
 ends_behind id [] rest some = some
 ends_behind id (o ∷ ops) rest some = or_right (ends id (hart_step o)) (list_any (ends id) (op_steps ops ++ rest)) (ends_behind id ops rest some)
+
+pub lends_behind : (id : LotId) (ops : List HartOp) (rest : List Step) → HasLend id rest → HasLend id (op_steps ops ++ rest)
+lends_behind id [] rest some = some
+lends_behind id (o ∷ ops) rest some = or_right (ends_lending id (hart_step o)) (list_any (ends_lending id) (op_steps ops ++ rest)) (lends_behind id ops rest some)
+
+pub unlent_ops : (id : LotId) (ops : List HartOp) (rest : List Step) → Are is_plain ops → list_any (ends_lending id) rest ≡ false → list_any (ends_lending id) (op_steps ops ++ rest) ≡ false
+unlent_ops id [] rest all none = none
+unlent_ops id (o ∷ ops) rest all none =
+    or_from (ends_lending id (hart_step o)) (list_any (ends_lending id) (op_steps ops ++ rest)) (plain_unlent id (hart_step o) (plain_ends id o (All-head (λ (k : HartOp). is_plain k ≡ true) o ops all)))
+    (unlent_ops id ops rest (All-tail (λ (k : HartOp). is_plain k ≡ true) o ops all) none)
 
 -- it ends the stay of no lot of another name
 abbrev pub EndsOnly : LotId → List Step → Type 0
@@ -61,7 +73,7 @@ same_name a b same =
     λ i. record { label = record { 0 = label i }; first = first i }
 
 pub only_one : (id : LotId) (rest : List Step) → EndsOnly id rest → EndsOne rest
-only_one id rest only a b here there = same_name a id (only a here) ∙ sym (same_name b id (only b there))
+only_one id rest only a b here there = inl (same_name a id (only a here) ∙ sym (same_name b id (only b there)))
 
 -- none of another name
 pub only_far : (id other : LotId) (rest : List Step) → EndsOnly id rest → (same_lot other id ≡ true → ⊥) → list_any (ends other) rest ≡ false

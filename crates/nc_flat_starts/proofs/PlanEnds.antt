@@ -2,7 +2,7 @@
 -- and its token.
 use Rattle.std.specs.Prelude.{Some, None, ◌==◌, ◌&&◌, ◌||◌, Bool, true, false, if◌then◌else◌}
 use Rattle.std.specs.List.{list_any, find}
-use Rattle.std.proofs.Common.{◌≡◌, ℕ, List, [], ◌∷◌, refl, sym, ap, ◌∙◌, inl, subst}
+use Rattle.std.proofs.Common.{◌≡◌, ℕ, List, [], ◌∷◌, ◌++◌, refl, sym, ap, ◌∙◌, inl, subst}
 use Rattle.std.proofs.lemmas.Bool.{and_from, and_parts, eq-eqb, eqb-true, or_left, false≢true, cond-true}
 use Rattle.nc_num.specs.declared.names.MapId.{MapId}
 use Rattle.nc_queue.specs.Entries.{is_wo}
@@ -27,9 +27,9 @@ use Rattle.nc_rules.specs.Turns.{is_area}
 use Rattle.nc_rules.specs.declared.steps.Step.{Step}
 use Rattle.nc_rows.specs.Ahead.{same_lot, turns_lot, gives_lot, settles_lot, tokens_lot, stores_io, is_settling, ends, names, token, settling, coming}
 use Rattle.nc_rows.proofs.Steps.{next, last}
-use Rattle.nc_flatness.specs.Plans.{IsStill, IsInHand, token_step, Gives, GivesArea, Marks, Posts, PlanGoes}
-use Rattle.nc_flatness.specs.Tokens.{lot_token}
-use Rattle.nc_flatness.proofs.Rests.{by_token}
+use Rattle.nc_flatness.specs.Plans.{IsStill, IsInHand, HasLend, token_step, Gives, GivesArea, Marks, Posts, PlanGoes}
+use Rattle.nc_flatness.specs.Tokens.{lot_token, ends_lending}
+use Rattle.nc_flatness.proofs.Rests.{by_token, token_lends, give_lends}
 use Rattle.nc_flat_starts.proofs.PlanComes.{EndsOnly}
 use Rattle.nc_flat_starts.proofs.PlanOps.{IsPlan, same_id}
 use Rattle.nc_flat_starts.proofs.Sides.{Others, NamesLent, given_still, sent_still}
@@ -66,6 +66,10 @@ only_turn id turn o turns off b ended = sym (turns b) ∙ first_so (turns_lot b 
 
 -- ---- a marker and the token
 
+-- with more behind them
+pub token_lent : (lot : Lot) (more : List Step) → HasLend lot.id (token_steps lot ++ more)
+token_lent lot more = or_left (ends_lending lot.id (token_step lot)) (list_any (ends_lending lot.id) more) (token_lends lot)
+
 token_ended : (lot : Lot) → list_any (ends lot.id) (token_steps lot) ≡ true
 token_ended lot = or_left (ends lot.id (token_step lot)) false (by_token lot)
 
@@ -81,13 +85,22 @@ token_comes lot n = next n lot.id (hart_step (hart.Mark 1 4)) (token_step lot �
 token_goes : (f : DriverConfig) (lots : List Lot) (lot : Lot) (area : Bool) → IsInHand f lots lot area sides.Lending → Others (IsStill f) lot.id lots → f.light ≡ true → NamesLent lot.id lots → PlanGoes f lots (token_steps lot)
 token_goes f lots lot area hand others light named =
     let its : IsInHand f lots lot (is_area lot.kind) sides.Lending = record { here = hand.here; area_is = refl; side_is = hand.side_is; others = hand.others } in
-    (Marks (record { lot = lot; hand = its; light = light; step = refl; left = refl }), (Posts (record { lot = lot; hand = its; light = light; step = refl; over = refl }), sent_still f lot.id lots light named others))
+    (Marks (record { lot = lot; hand = its; light = light; step = refl; more = []; left = refl }), (Posts (record { lot = lot; hand = its; light = light; step = refl; lent = refl; next = refl; quiet = record { bytes = λ i e y there on n. refl; blocks = λ comes i e y there on n. refl }; over = λ area. refl }), sent_still f lot.id lots light named others))
 
 -- ---- the end of a lending
+
+-- it ends the stay of no other lot
+pub lending_only : (f : DriverConfig) (lot : Lot) → EndsOnly lot.id (lending_end f lot)
+lending_only f lot = by f.light
+  where
+    by : (t : Bool) → EndsOnly lot.id (if t then token_steps lot else fenced (turns.Give lot.id))
+    by true = token_only lot
+    by false = only_turn lot.id (turns.Give lot.id) full (λ b. refl) (λ b. refl)
 
 pub record LendingEnd (f : DriverConfig) (lots : List Lot) (lot : Lot) (steps : List Step) : Type 0 where
   pub goes : PlanGoes f lots steps
   pub plan : IsPlan lot.id steps
+  pub lends : HasLend lot.id steps
   pub settles : settling lot.id steps ≡ false
   pub byte : (s x : ℕ) (n : MapId) → list_any (gives_at s x) (coming n lot.id steps) ≡ false
   pub stands : (n : MapId) → Stands is_wo (names n) (coming n lot.id steps)
@@ -107,6 +120,7 @@ full_end f lots lot area hand others =
     record {
       goes = give_goes f lots lot area hand others;
       plan = record { ended = alone_ends id turn (same_id id); only = only_turn id turn full (λ b. refl) (λ b. refl); silent = λ b. refl; first = refl };
+      lends = give_lends id (turning turn (hart_step full)) [] refl;
       settles = alone_settles id turn (same_id id);
       byte = λ s x n. ap (list_any (gives_at s x)) (alone_comes n id turn (same_id id)) ∙ fence_byte s x n (gives_lot id turn);
       stands = λ n. subst (λ (es : List QueueEntry). Stands is_wo (names n) es) (sym (alone_comes n id turn (same_id id))) (inl refl);
@@ -116,6 +130,7 @@ token_end : (f : DriverConfig) (lots : List Lot) (lot : Lot) (area : Bool) → I
 token_end f lots lot area hand others light named = record {
   goes = token_goes f lots lot area hand others light named;
   plan = record { ended = token_ended lot; only = token_only lot; silent = λ b. refl; first = refl };
+  lends = token_lent lot [];
   settles = ap (is_settling lot.id) (cond-true (ends lot.id (token_step lot)) (Some (token_step lot)) None (by_token lot));
   byte = λ s x n. ap (list_any (gives_at s x)) (token_comes lot n);
   stands = λ n. subst (λ (es : List QueueEntry). Stands is_wo (names n) es) (sym (token_comes lot n)) (inl refl);

@@ -2,7 +2,7 @@
 use Rattle.std.specs.Prelude.{Some, ◌||◌, Bool, true, false, All, flat_map, slice_get}
 use Rattle.std.specs.List.{list_any}
 use Rattle.std.proofs.Common.{◌≡◌, ℕ, ◌<◌, List, [], ◌∷◌, ◌++◌, refl, sym, ap, ◌∙◌, inl, inr, subst, arith}
-use Rattle.std.proofs.lemmas.Bool.{both_ways, or_left, or_right, false_from_ne_true, cond-false}
+use Rattle.std.proofs.lemmas.Bool.{both_ways, or_left, or_right, or_from, false_from_ne_true, cond-false}
 use Rattle.std.proofs.lemmas.List.{append-nil}
 use Rattle.std.proofs.lemmas.List.Elements.{All-nil, All-cons, All-head, All-tail}
 use Rattle.std.proofs.lemmas.List.Folds.{list_any-append}
@@ -26,20 +26,23 @@ use Rattle.nc_rules.specs.declared.lots.LotId.{LotId}
 use Rattle.nc_rules.specs.declared.lots.Side.TheVariants as sides
 use Rattle.nc_rules.specs.declared.steps.Step.{Step}
 use Rattle.nc_rules.specs.declared.steps.Turn.{Turn}
+use Rattle.nc_rules.specs.declared.steps.Turn.TheVariants as turns
 use Rattle.nc_rules.specs.Lots.{DriverConfig, parts}
 use Rattle.nc_rules.specs.Plans.{hart_step, op_steps, turning, ending, return_steps}
 use Rattle.nc_rules.specs.Turns.{lots_after}
-use Rattle.nc_scripts.proofs.Lists.{all_in}
+use Rattle.nc_scripts.proofs.Lists.{all_in, all_to}
 use Rattle.nc_holds.specs.Held.{SharesNone}
 use Rattle.nc_holds.proofs.ListsA.{get_at}
 use Rattle.nc_rows.specs.Ahead.{same_lot, turns_lot, gives_lot, ends, is_full, op_coming, token, coming}
 use Rattle.nc_rows.proofs.Steps.{next, last, steps_ahead}
 use Rattle.nc_row_plans.specs.Plans.{DropsBlocks}
+use Rattle.nc_flatness.specs.Tokens.{ends_lending}
 use Rattle.nc_flatness.specs.Plans.{IsStill, IsInHand, HasFull, LoadsFirst, IsBack, Loads, Stores, Fences, Ends, PlanGoes, device_of}
 use Rattle.nc_flat_starts.proofs.Pieces.{Move, stored, moves_of, IsMove, MovesApart, moves_are, moves_apart, move_at, pairs_apart}
-use Rattle.nc_flat_starts.proofs.PlanComes.{ops_of, only_ops, ends_behind, silent_ops, full_behind, copies_are, copies_give, ending_last, steps_append, append_steps}
+use Rattle.nc_flat_starts.proofs.PlanComes.{ops_of, unlent_ops, only_ops, ends_behind, silent_ops, full_behind, copies_are, copies_give, ending_last, steps_append, append_steps}
 use Rattle.nc_flat_starts.proofs.Sides.{Others, IsSingly, back_still}
 use Rattle.nc_flat_starts.proofs.PlanOps.{out_cut, IsPlanned, out_even, IsPlan, same_id, outs_of, outs_are, IsDropping, dropped_are, dropping_are_plain, drops_first}
+use Rattle.nc_flat_starts.proofs.NoBytes.{IsOfBytes, all_coming, ops_none, copies_none, droppings_none}
 use Rattle.nc_flat_starts.proofs.PlanEnds.{only_turn}
 use Rattle.nc_flat_starts.proofs.PlansGo.{drops_go, copies_first, copies_byte, copies_go, some_gives}
 
@@ -346,6 +349,52 @@ plan_by f lot turn all back (CopiedOut init m comes ms whole) =
 
 pub return_plan : (f : DriverConfig) (lot : Lot) (turn : Turn) → IsPlanned f lot → DropsBlocks f.effects → IsBack lot.id turn → IsPlan lot.id (ending turn (return_steps f lot))
 return_plan f lot turn is drops back = plan_by f lot turn (dropped_are f lot is.size drops) back (return_is f lot turn is)
+
+-- ---- what it puts in the queue, and what it lends
+
+-- no byte that passes the test, where what comes out of slots gives none
+none_by : (f : DriverConfig) (lot : Lot) (turn : Turn) (more : List Step) (p : QueueEntry → Bool) → All (IsDropping f lot) (drops_of f lot) → IsOfBytes p → (comes_back lot.list.dir ≡ true → (m : Move) → IsMove (out_cut f) lot.list.entries m → p (entries.Store (stored (out_cut f) m) [] Pma) ≡ false)
+    → list_any p (all_coming more) ≡ false → IsReturn f lot turn → list_any p (all_coming (ending turn (return_steps f lot) ++ more)) ≡ false
+none_by f lot turn more p all of stores none (Straight whole straight) =
+    let end = turning turn (hart_step full) ∷ [] in
+    ap (λ (ss : List Step). list_any p (all_coming (ss ++ more))) whole ∙ ap (λ (ss : List Step). list_any p (all_coming ss)) (append_steps (op_steps (drops_of f lot)) end more)
+    ∙ ops_none p (drops_of f lot) (end ++ more) (droppings_none p f lot (drops_of f lot) of all) (or_from (p (entries.Mark 15 15)) (list_any p (all_coming more)) (of.marks 15 15) none)
+none_by f lot turn more p all of stores none (CopiedOut init m comes ms whole) =
+    let cut = out_cut f in
+    let es = lot.list.entries in
+    let end = last_copy cut turn m in
+    let copied = flat_map (ops_of cut) init in
+    let moves = all_init (IsMove cut es) init m (subst (λ (ks : List Move). All (IsMove cut es) ks) ms (moves_are cut es)) in
+    let last_none : list_any p (all_coming (end ++ more)) ≡ false = or_from (p (entries.Store (stored cut m) [] Pma)) (list_any p (all_coming more)) (stores comes m moves.1) none in
+    let outs : list_any p (all_coming (op_steps copied ++ (end ++ more))) ≡ false =
+    ops_none p copied (end ++ more) (copies_none p cut init (all_to (IsMove cut es) (λ (k : Move). p (entries.Store (stored cut k) [] Pma) ≡ false) init moves.0 (stores comes))) last_none in
+    let shift : (hart_step full ∷ (op_steps copied ++ end)) ++ more ≡ hart_step full ∷ (op_steps copied ++ (end ++ more)) = ap (λ (ss : List Step). hart_step full ∷ ss) (append_steps (op_steps copied) end more) in
+    ap (λ (ss : List Step). list_any p (all_coming (ss ++ more))) whole
+    ∙ ap (λ (ss : List Step). list_any p (all_coming ss)) (append_steps (op_steps (drops_of f lot)) (hart_step full ∷ (op_steps copied ++ end)) more ∙ ap (λ (ss : List Step). op_steps (drops_of f lot) ++ ss) shift)
+    ∙ ops_none p (drops_of f lot) (hart_step full ∷ (op_steps copied ++ (end ++ more))) (droppings_none p f lot (drops_of f lot) of all)
+    (or_from (p (entries.Mark 15 15)) (list_any p (all_coming (op_steps copied ++ (end ++ more)))) (of.marks 15 15) outs)
+
+pub return_none : (f : DriverConfig) (lot : Lot) (turn : Turn) (more : List Step) (p : QueueEntry → Bool) → IsPlanned f lot → DropsBlocks f.effects → IsOfBytes p → (comes_back lot.list.dir ≡ true → (m : Move) → IsMove (out_cut f) lot.list.entries m → p (entries.Store (stored (out_cut f) m) [] Pma) ≡ false)
+    → list_any p (all_coming more) ≡ false → list_any p (all_coming (ending turn (return_steps f lot) ++ more)) ≡ false
+return_none f lot turn more p is drops of stores none = none_by f lot turn more p (dropped_are f lot is.size drops) of stores none (return_is f lot turn is)
+
+unlent_by : (f : DriverConfig) (lot : Lot) (more : List Step) (id : LotId) → All (IsDropping f lot) (drops_of f lot) → list_any (ends_lending id) more ≡ false → IsReturn f lot (turns.End lot.id) → list_any (ends_lending id) (ending (turns.End lot.id) (return_steps f lot) ++ more) ≡ false
+unlent_by f lot more id all none (Straight whole straight) =
+    let end = turning (turns.End lot.id) (hart_step full) ∷ [] in
+    ap (λ (ss : List Step). list_any (ends_lending id) (ss ++ more)) whole ∙ ap (list_any (ends_lending id)) (append_steps (op_steps (drops_of f lot)) end more)
+    ∙ unlent_ops id (drops_of f lot) (end ++ more) (dropping_are_plain f lot (drops_of f lot) all) none
+unlent_by f lot more id all none (CopiedOut init m comes ms whole) =
+    let cut = out_cut f in
+    let end = last_copy cut (turns.End lot.id) m in
+    let copied = flat_map (ops_of cut) init in
+    let shift : (hart_step full ∷ (op_steps copied ++ end)) ++ more ≡ hart_step full ∷ (op_steps copied ++ (end ++ more)) = ap (λ (ss : List Step). hart_step full ∷ ss) (append_steps (op_steps copied) end more) in
+    ap (λ (ss : List Step). list_any (ends_lending id) (ss ++ more)) whole
+    ∙ ap (list_any (ends_lending id)) (append_steps (op_steps (drops_of f lot)) (hart_step full ∷ (op_steps copied ++ end)) more ∙ ap (λ (ss : List Step). op_steps (drops_of f lot) ++ ss) shift)
+    ∙ unlent_ops id (drops_of f lot) (hart_step full ∷ (op_steps copied ++ (end ++ more))) (dropping_are_plain f lot (drops_of f lot) all) (unlent_ops id copied (end ++ more) (copies_are cut init) none)
+
+-- it lends nothing
+pub return_unlent : (f : DriverConfig) (lot : Lot) (more : List Step) (id : LotId) → IsPlanned f lot → DropsBlocks f.effects → list_any (ends_lending id) more ≡ false → list_any (ends_lending id) (ending (turns.End lot.id) (return_steps f lot) ++ more) ≡ false
+return_unlent f lot more id is drops none = unlent_by f lot more id (dropped_are f lot is.size drops) none (return_is f lot (turns.End lot.id) is)
 
 -- ---- the whole
 

@@ -38,7 +38,7 @@ use Rattle.nc_holds.proofs.ListsA.{all_at}
 use Rattle.nc_holds.proofs.OwnerGiven.{owner_laws}
 use Rattle.nc_flatness.specs.Books.{loan_by}
 use Rattle.nc_flatness.specs.Copying.{CopyOp, IsBegun}
-use Rattle.nc_flatness.specs.Covered.{IsCovered, is_lending}
+use Rattle.nc_flatness.specs.Lending.{is_lending}
 use Rattle.nc_flatness.specs.Flatness.{IsMapping, IsStillOrWanted, makes_kind, IsStillOrMade, StandsAt, BytesStand, Flatness}
 use Rattle.nc_flatness.specs.Plans.{IsStill, StillDevice, StillSynced, StillOwn, StillSent}
 use Rattle.nc_flatness.specs.Tokens.{is_lending_side}
@@ -47,7 +47,7 @@ use Rattle.nc_flat_starts.proofs.Calls.{wanted_side, IsCall, kind_of, gives_byte
 use Rattle.nc_flat_starts.proofs.Bases.{area_placed}
 use Rattle.nc_flat_starts.proofs.Lots.{slot_loans}
 use Rattle.nc_flat_starts.proofs.CopyRanges.{IsEndSo, AreRanged, ranged, slot_range}
-use Rattle.nc_flat_starts.proofs.Starts.{short, holds_here, full_fences}
+use Rattle.nc_flat_starts.proofs.Starts.{short, holds_here}
 
 -- ---- which word it tries
 
@@ -201,8 +201,8 @@ waits_plain : (lot : Lot) (area : Bool) → is_area lot.kind ≡ area → (is_ar
 waits_plain lot true is placed waits = absurd (both_ways (lot_waits lot) (placed is) waits)
 waits_plain lot false is placed waits = is
 
-pub search_so : (sc : Scenario) (f : List ℕ) (w : WorldState) (h : HartNo) (k : ℕ) (o : Op) → IsCovered sc → Flatness sc f w → h.0 < length sc.harts → IsTrying (driver_of w h.0) k o → IsSearch sc f w h k o
-search_so sc f w h k o covered flat lt is =
+pub search_so : (sc : Scenario) (f : List ℕ) (w : WorldState) (h : HartNo) (k : ℕ) (o : Op) → Flatness sc f w → h.0 < length sc.harts → IsTrying (driver_of w h.0) k o → IsSearch sc f w h k o
+search_so sc f w h k o flat lt is =
     let d = driver_of w h.0 in
     let drives = flat.bytes.drives h.0 lt in
     let holds = holds_here sc f w h flat lt in
@@ -229,7 +229,6 @@ search_so sc f w h k o covered flat lt is =
         hand = is.hand;
         lends = makes.1;
         idle = subst (λ (p : Phase). RestAt p d.rest) is.phase drives.idle;
-        full = full_fences sc f w h o covered flat lt is.hand;
         copy = λ c same. ranged sc f w h.0 c (flat.bytes.copying h.0 lt c (is.hand ∙ ap (λ (p : Op). Some p) same) (subst (λ (p : Phase). IsBegun p) (sym is.phase) tt));
       };
       made = at.made o is.hand;
@@ -274,7 +273,6 @@ got_call sc f w h k o s free =
       hand = c.hand;
       lends = c.lends;
       idle = c.idle;
-      full = c.full;
       copy = λ n is. slot_ranged w h.0 n k d.lots (c.copy n is);
     }
 
@@ -286,8 +284,8 @@ word_bytes : (sc : Scenario) (f : List ℕ) (w : WorldState) (h : HartNo) (k : �
 word_bytes sc f w h k o true s free = placed_bytes sc f w h o (slot_given k (driver_of w h.0).lots) s.makes (got_call sc f w h k o s (free refl)) (made_given k o (driver_of w h.0).lots s.made)
 word_bytes sc f w h k o false s free = missed_bytes sc f w h k o (nat_lt (k + 1) (driver_of w h.0).fixed.slots) s
 
-pub told_bytes : (sc : Scenario) (f : List ℕ) (w : WorldState) (h : HartNo) (k : ℕ) (got : Bool) → IsCovered sc → Flatness sc f w → h.0 < length sc.harts → searching (driver_of w h.0) ≡ Some k → (got ≡ true → holder_of w.slots k ≡ None) → BytesStand sc f (gone w h w.machine (told (driver_of w h.0) got))
-told_bytes sc f w h k got covered flat lt at free =
+pub told_bytes : (sc : Scenario) (f : List ℕ) (w : WorldState) (h : HartNo) (k : ℕ) (got : Bool) → Flatness sc f w → h.0 < length sc.harts → searching (driver_of w h.0) ≡ Some k → (got ≡ true → holder_of w.slots k ≡ None) → BytesStand sc f (gone w h w.machine (told (driver_of w h.0) got))
+told_bytes sc f w h k got flat lt at free =
     let d = driver_of w h.0 in
     let t = trying d k at in
-    subst (λ (went : Went). BytesStand sc f (gone w h w.machine went)) (sym (told_is d k t.0 got t.1)) (word_bytes sc f w h k t.0 got (search_so sc f w h k t.0 covered flat lt t.1) free)
+    subst (λ (went : Went). BytesStand sc f (gone w h w.machine went)) (sym (told_is d k t.0 got t.1)) (word_bytes sc f w h k t.0 got (search_so sc f w h k t.0 flat lt t.1) free)

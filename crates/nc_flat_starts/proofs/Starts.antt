@@ -38,15 +38,13 @@ use Rattle.nc_holds.proofs.ListsA.{all_at, none_at}
 use Rattle.nc_rows.specs.Ahead.{posts}
 use Rattle.nc_rows.specs.Parts.{rest_last}
 use Rattle.nc_flatness.specs.Books.{loan_of}
-use Rattle.nc_flatness.specs.Copying.{CopyOp, copy_op}
-use Rattle.nc_flatness.specs.Covered.{IsCovered, is_lending}
+use Rattle.nc_flatness.specs.Lending.{is_lending}
 use Rattle.nc_flatness.specs.Flatness.{IsStillOrWanted, IsStillOrMade, StandsAt, Drives, BytesStand, Flatness}
 use Rattle.nc_flatness.specs.Plans.{IsStill, IsBack}
 use Rattle.nc_flatness.proofs.Loans.{entry_loan}
 use Rattle.nc_flatness.specs.Tokens.{lot_token, TokenStands}
 use Rattle.nc_flatness.proofs.Copies.{is_copy}
 use Rattle.nc_flatness.proofs.Outcomes.{gone}
-use Rattle.nc_flatness.proofs.Owned.{copy_full}
 use Rattle.nc_flatness.proofs.Rests.{lend_light}
 use Rattle.nc_flatness.proofs.Tokens.{lent_sent, sent_queued}
 use Rattle.nc_flat_starts.proofs.Bases.{IsBase, kind_is}
@@ -72,7 +70,6 @@ pub record IsStart (sc : Scenario) (f : List ℕ) (w : WorldState) (h : HartNo) 
   pub still : All (IsStill (driver_of w h.0).fixed) (driver_of w h.0).lots
   pub idle : (driver_of w h.0).rest ≡ []
   pub settled : All IsSettled (driver_of w h.0).lots
-  pub full : (k : CopyOp) → o ≡ copy_op k → (driver_of w h.0).fixed.light ≡ false
 
 pub short : (sc : Scenario) (f : List ℕ) (w : WorldState) (h : HartNo) → Flatness sc f w → h.0 < length sc.harts → h.0 < length w.machine.harts
 short sc f w h flat lt = omega (arith, lt, flat.world.of_scenario.harts)
@@ -80,12 +77,8 @@ short sc f w h flat lt = omega (arith, lt, flat.world.of_scenario.harts)
 pub holds_here : (sc : Scenario) (f : List ℕ) (w : WorldState) (h : HartNo) → Flatness sc f w → h.0 < length sc.harts → DriverHolds w h.0
 holds_here sc f w h flat lt = flat.world.holds.each h.0 (short sc f w h flat lt)
 
--- a copy is covered with full fences alone
-pub full_fences : (sc : Scenario) (f : List ℕ) (w : WorldState) (h : HartNo) (o : Op) → IsCovered sc → Flatness sc f w → h.0 < length sc.harts → in_hand (driver_of w h.0) ≡ Some o → (k : CopyOp) → o ≡ copy_op k → (driver_of w h.0).fixed.light ≡ false
-full_fences sc f w h o covered flat lt hand k is = copy_full sc w h.0 k.chan k.src k.src_off k.dst k.dst_off k.len k.config covered flat.world lt (hand ∙ ap (λ (p : Op). Some p) is)
-
-pub at_steps : (sc : Scenario) (f : List ℕ) (w : WorldState) (h : HartNo) (o : Op) (n : ℕ) → IsCovered sc → Flatness sc f w → h.0 < length sc.harts → IsOut w h o → in_hand (driver_of w h.0) ≡ Some o → is_lending o ≡ true → (driver_of w h.0).phase ≡ Steps n → IsStart sc f w h o
-at_steps sc f w h o n covered flat lt out hand lends phase =
+pub at_steps : (sc : Scenario) (f : List ℕ) (w : WorldState) (h : HartNo) (o : Op) (n : ℕ) → Flatness sc f w → h.0 < length sc.harts → IsOut w h o → in_hand (driver_of w h.0) ≡ Some o → is_lending o ≡ true → (driver_of w h.0).phase ≡ Steps n → IsStart sc f w h o
+at_steps sc f w h o n flat lt out hand lends phase =
     let d = driver_of w h.0 in
     let drives = flat.bytes.drives h.0 lt in
     record {
@@ -97,7 +90,6 @@ at_steps sc f w h o n covered flat lt out hand lends phase =
       still = subst (λ (p : Phase). StandsAt d p) phase drives.stands;
       idle = subst (λ (p : Phase). RestAt p d.rest) phase drives.idle;
       settled = (subst (λ (p : Phase). IsPhase d p) phase (holds_here sc f w h flat lt).driver.phase).settled;
-      full = full_fences sc f w h o covered flat lt hand;
     }
 
 -- the lots that it has
@@ -121,7 +113,6 @@ here_call sc f w h o s no_copy =
       hand = s.hand;
       lends = s.lends;
       idle = s.idle;
-      full = s.full;
       copy = λ k is. absurd (both_ways (is_copy o) no_copy (ap is_copy is));
     }
 
