@@ -88,7 +88,7 @@ fn two_drivers_at_once(rt: HostRuntime) -> Result<(), Fail> {
 fn two_pool_answers(rt: HostRuntime) -> Result<(), Fail> {
     let alloc = rt.alloc();
     let scenario = bounced_over(alloc, TWO_SLOTS)?;
-    let Some(told) = live(&rt, alloc, &scenario, &NoGate)? else {
+    let Some(told) = live(&rt, alloc, scenario.as_str(), &NoGate)? else {
         assert!(rt; false);
         return Ok(());
     };
@@ -103,7 +103,7 @@ fn two_pool_answers(rt: HostRuntime) -> Result<(), Fail> {
     assert_eq!(rt; lines_with(report, &["told 0 0 held", "told 0 1 held"]), 0);
     assert_eq!(rt; lines_with(report, &["told 1 0 held", "told 1 1 held"]), 0);
     assert_eq!(rt; lines_with(report, &["try "]), 0);
-    assert!(rt; runs_again(alloc, &scenario, &told)?);
+    assert!(rt; runs_again(alloc, scenario.as_str(), &told)?);
     Ok(())
 }
 
@@ -111,7 +111,7 @@ fn two_pool_answers(rt: HostRuntime) -> Result<(), Fail> {
 fn one_slot_between_two(rt: HostRuntime) -> Result<(), Fail> {
     let alloc = rt.alloc();
     let scenario = bounced_over(alloc, ONE_SLOT)?;
-    let Some(told) = live(&rt, alloc, &scenario, &NoGate)? else {
+    let Some(told) = live(&rt, alloc, scenario.as_str(), &NoGate)? else {
         assert!(rt; false);
         return Ok(());
     };
@@ -125,7 +125,7 @@ fn one_slot_between_two(rt: HostRuntime) -> Result<(), Fail> {
         lines_with(report, &["ans 0 0 noslot", "ans 1 0 noslot"]),
         1
     );
-    assert!(rt; runs_again(alloc, &scenario, &told)?);
+    assert!(rt; runs_again(alloc, scenario.as_str(), &told)?);
     Ok(())
 }
 

@@ -30,8 +30,8 @@ fn failing_streams(rt: HostRuntime) -> Result<(), Fail> {
 fn sink_fails_at_each_write(rt: HostRuntime) -> Result<(), Fail> {
     let alloc = rt.alloc();
     let words = words(alloc, "run")?;
-    let due = false_sharing_report(alloc)?;
-    let due = due.as_bytes();
+    let report = false_sharing_report(alloc)?;
+    let due = report.as_bytes();
     let mut stopped = 0;
     for k in 0..41u32 {
         let input = Vec::from_slice(alloc, FALSE_SHARING)?;
