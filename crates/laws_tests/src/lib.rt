@@ -1,5 +1,5 @@
-//! Tests of the laws: of the written machine, of its scripts and runs, of rows and of flat memory. They show what no clause
-//! says: that the laws are ones that a call meets.
+//! Tests of the laws: of the written machine, of its scripts and runs, of rows and of flat memory. They show what no
+//! clause says: that the laws are ones that a call meets.
 #![tactic(auto)]
 
 #[cfg(test)]

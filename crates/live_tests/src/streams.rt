@@ -1,6 +1,9 @@
 //! Runs in threads whose reads and writes fail, each in turn.
 
-use crate::live::{again, told_of, words};
+use crate::fixtures::{
+    MAPPING, NO_HART, ROUNDS_ALONE, SEARCH, TWO_DRIVERS, again, bounced_over, rounds_alone_text,
+    told_of, whole, words,
+};
 use nc_io::{MemSink, MemSource};
 use nc_live::{NoGate, dmalive};
 use std::alloc::{AllocError, Global};
@@ -8,42 +11,11 @@ use std::sync::Wait;
 use std::test::Fail;
 use std::thread::Threads;
 
-/// Two harts store into one block, each into a buffer of its own.
-const TWO_DRIVERS: &str =
-    "{\"version\":1,\"ram\":4096,\"harts\":[{\"mode\":\"M\",\"menvcfg\":0,\"senvcfg\":0,\"script\":[[\"st\",\"b0\",0,\"aa\"]]},{\"mode\":\"M\",\"menvcfg\":0,\"senvcfg\":0,\"script\":[[\"st\",\"b1\",0,\"bb\"]]}],\"buffers\":[{\"at\":0,\"len\":1,\"fill\":0,\"step\":0,\"owner\":0},{\"at\":1,\"len\":1,\"fill\":0,\"step\":0,\"owner\":1}],\"limit\":400";
-
-/// One hart maps a buffer for the channels, and takes it back.
-const MAPPING: &str =
-    "{\"version\":2,\"block\":32,\"zero\":32,\"ram\":4096,\"harts\":[{\"mode\":\"M\",\"menvcfg\":0,\"senvcfg\":0,\"script\":[[\"map\",1,0,0,32,1,0],[\"unmap\",1]]}],\"buffers\":[{\"at\":0,\"len\":32,\"fill\":17,\"step\":0,\"owner\":0}],\"limit\":400";
-
-/// Two harts map a bounced range each, and search for the one slot.
-const SEARCH: &str =
-    "{\"version\":1,\"ram\":65536,\"harts\":[{\"mode\":\"S\",\"menvcfg\":4611686018427388144,\"senvcfg\":240,\"script\":[[\"map\",1,0,0,8,2,0]]},{\"mode\":\"S\",\"menvcfg\":4611686018427388144,\"senvcfg\":240,\"script\":[[\"map\",1,1,0,8,2,1]]}],\"buffers\":[{\"at\":4097,\"len\":8,\"fill\":0,\"step\":0,\"owner\":0},{\"at\":4361,\"len\":8,\"fill\":0,\"step\":0,\"owner\":1}],\"slots\":{\"at\":32768,\"count\":1},\"limit\":400";
-
-/// One hart with one store, and no turn for any thread: an eighth of the limit is none. So finishing rounds alone make the
-/// history, the same at each run.
-const ROUNDS_ALONE: &str =
-    "{\"version\":1,\"ram\":4096,\"harts\":[{\"mode\":\"M\",\"menvcfg\":0,\"senvcfg\":0,\"script\":[[\"st\",\"b0\",0,\"aa\"]]}],\"buffers\":[{\"at\":0,\"len\":1,\"fill\":0,\"step\":0,\"owner\":0}],\"limit\":7";
-
-/// What is due for it: seven events, of which two are done.
-const ROUNDS_ALONE_TEXT: &[u8] =
-    b"history 7\ni0\nd0.0\nr0\nw0\nr1\nw1\nr2\ne i0\nst 0 000000 aa\ne d0.0\ndr 0 000000 aa\nown 0 000000 mem 00000000000000000000000000000000000000000000000000000000000000000000000000000000000000000000000000000000000000000000000000000000\nbuf 0 aa\nend events 2 touches 0\n";
-
-/// A scenario with no hart is refused.
-const NO_HART: &str = "{\"version\":1,\"ram\":4096,\"harts\":[],\"buffers\":[]";
-
 /// How many calls are made to fail at most.
 const MOST: u32 = 1000;
 
 /// The most bytes that a read gives.
 const CHUNK: usize = 64;
-
-/// A scenario's text, with an empty schedule behind it.
-fn whole(alloc: Global, scenario: &str) -> Result<Vec<u8>, AllocError> {
-    let mut input = String::from_str(alloc, scenario)?;
-    input.push_str(",\"schedule\":[]}")?;
-    Ok(input.into_bytes())
-}
 
 /// Runs a scenario in threads, where the reads and the writes of these numbers fail. Returns the status and what was
 /// written.
@@ -114,8 +86,8 @@ fn is_due(alloc: Global, scenario: &str, status: u8, text: &[u8]) -> Result<bool
     Ok(status == wanted && text == all.as_slice())
 }
 
-/// Lets each write of a run in threads fail in turn, up to the first run that makes fewer, and tells how many failed: each
-/// run answered what is due for its history.
+/// Lets each write of a run in threads fail in turn, up to the first run that makes fewer, and tells how many failed:
+/// each run answered what is due for its history.
 fn failed_writes<R: Threads + Wait + Sync>(
     rt: &R,
     alloc: Global,
@@ -143,7 +115,8 @@ fn failed_writes<R: Threads + Wait + Sync>(
 #[test]
 fn each_read_fails(rt: HostRuntime) -> Result<(), Fail> {
     let alloc = rt.alloc();
-    for scenario in [TWO_DRIVERS, MAPPING, SEARCH, ROUNDS_ALONE, NO_HART] {
+    let search = bounced_over(alloc, SEARCH)?;
+    for scenario in [TWO_DRIVERS, MAPPING, search.as_str(), ROUNDS_ALONE, NO_HART] {
         // A read for each chunk, and one that tells the end.
         let chunks = whole(alloc, scenario)?.len().div_ceil(CHUNK);
         assert_eq!(rt;
@@ -159,7 +132,8 @@ fn each_read_fails(rt: HostRuntime) -> Result<(), Fail> {
 #[test]
 fn each_write_fails(rt: HostRuntime) -> Result<(), Fail> {
     let alloc = rt.alloc();
-    for scenario in [TWO_DRIVERS, MAPPING, SEARCH] {
+    let search = bounced_over(alloc, SEARCH)?;
+    for scenario in [TWO_DRIVERS, MAPPING, search.as_str()] {
         let Some(failed) = failed_writes(&rt, alloc, scenario)? else {
             assert!(rt; false);
             return Ok(());
@@ -173,8 +147,9 @@ fn each_write_fails(rt: HostRuntime) -> Result<(), Fail> {
 #[test]
 fn each_write_of_known_text_fails(rt: HostRuntime) -> Result<(), Fail> {
     let alloc = rt.alloc();
+    let rounds = rounds_alone_text(alloc)?;
     let cases: [(&str, &str, u8, &[u8], u32); 3] = [
-        ("run", ROUNDS_ALONE, 0, ROUNDS_ALONE_TEXT, 4),
+        ("run", ROUNDS_ALONE, 0, rounds.as_bytes(), 4),
         ("run", NO_HART, 3, b"refused limit harts 0\n", 1),
         ("gen", MAPPING, 2, b"refused words\n", 1),
     ];

@@ -23,8 +23,8 @@ const ONE: HartNo = HartNo(1);
 
 const C: ChanNo = ChanNo(0);
 
-/// Two harts over 8,192 bytes of RAM in blocks of 64, of which the 64 from place 128 on are 21, 22, .. and the others 0.
-/// The page at 4,096 is the coherent pool.
+/// Two harts over 8,192 bytes of RAM in blocks of 64, of which the 64 from place 128 on are 21, 22, .. and the others
+/// 0. The page at 4,096 is the coherent pool.
 #[derive(Drop)]
 struct Bench {
     machine: Machine,

@@ -1,5 +1,5 @@
-//! Tests of the base and of the low parts: numbers, streams, memory, translation, ownership, caches, queues, harts. They
-//! use public calls alone, and show what no clause says: that each call can succeed, and rows worked by hand.
+//! Tests of the base and of the low parts: numbers, streams, memory, translation, ownership, caches, queues, harts.
+//! They use public calls alone, and show what no clause says: that each call can succeed, and rows worked by hand.
 //!
 //! No crate of the product stands on this one, so each of them is proved once, without its tests.
 #![tactic(auto)]

@@ -6,6 +6,7 @@ use nc_num::{ChanNo, HartNo, MemType, NoMemory, Span};
 use nc_own::{Access, Actor, Book, Owner, Touch, TouchKind};
 use nc_touch::{Look, hart_touch, register_touch};
 use std::alloc::Global;
+use std::process::Abort;
 use std::test::Fail;
 
 const RAM: u32 = 256;
@@ -31,97 +32,65 @@ fn owned(alloc: Global, ram: u32) -> Result<Book, NoMemory>
     Ok(book)
 }
 
+/// A piece that hart 0 touches: the access, the first byte, the number of bytes, the type, and the touch that is found.
+type Piece = (Access, u32, u32, MemType, Option<(TouchKind, Owner)>);
+
+/// Compares what is found in a piece, over a pool.
+fn compare(rt: &impl Abort, book: &Book, pool: Span, piece: Piece)
+    requires { length book.now.owners ≡ 256 }
+{
+    let (access, at, len, kind, found) = piece;
+    assert!(rt; at < 200 && 0 < len && len <= 8);
+    let span = Span { at, len };
+    let look = Look::Piece { access, span, kind };
+    let touch = found.map(|(kind, holder)| Touch {
+        kind,
+        who: Actor::Hart(HartNo(0)),
+        span,
+        holder,
+    });
+    assert_eq!(rt; hart_touch(book, pool, HartNo(0), look), touch, "at {at}");
+}
+
+/// Outside the pool a type other than the memory's own is an alias, but bytes of another owner come first.
 #[test]
-fn pieces_by_owner_and_type(rt: HostRuntime) -> Result<(), Fail> {
+fn pieces_outside_the_pool(rt: HostRuntime) -> Result<(), Fail> {
     let book = owned(rt.alloc(), RAM)?;
-    let table = [
-        (POOL, Access::Read, 0, 8, MemType::Pma, None),
-        (
-            POOL,
-            Access::Write,
-            28,
-            8,
-            MemType::Pma,
-            Some((TouchKind::Store, SECOND)),
-        ),
-        (
-            POOL,
-            Access::Read,
-            40,
-            8,
-            MemType::Pma,
-            Some((TouchKind::Load, SECOND)),
-        ),
-        (
-            POOL,
-            Access::Read,
-            24,
-            8,
-            MemType::Nc,
-            Some((TouchKind::Alias, FIRST)),
-        ),
-        (
-            POOL,
-            Access::Write,
-            0,
-            1,
-            MemType::Io,
-            Some((TouchKind::Alias, FIRST)),
-        ),
-        (
-            POOL,
-            Access::Read,
-            28,
-            8,
-            MemType::Nc,
-            Some((TouchKind::Load, SECOND)),
-        ),
-        (POOL, Access::Write, 128, 8, MemType::Nc, None),
-        (
-            POOL,
-            Access::Write,
-            128,
-            8,
-            MemType::Pma,
-            Some((TouchKind::Alias, FIRST)),
-        ),
-        (
-            POOL,
-            Access::Read,
-            128,
-            8,
-            MemType::Io,
-            Some((TouchKind::Alias, FIRST)),
-        ),
-        (
-            POOL,
-            Access::Read,
-            160,
-            8,
-            MemType::Nc,
-            Some((TouchKind::Load, Owner::Pool)),
-        ),
-        (NO_POOL, Access::Read, 128, 8, MemType::Pma, None),
-        (
-            NO_POOL,
-            Access::Read,
-            128,
-            8,
-            MemType::Nc,
-            Some((TouchKind::Alias, FIRST)),
-        ),
-    ];
-    for (pool, access, at, len, kind, found) in table {
-        assert!(rt; at < 200 && 0 < len && len <= 8);
-        let span = Span { at, len };
-        let look = Look::Piece { access, span, kind };
-        let touch = found.map(|(kind, holder)| Touch {
-            kind,
-            who: Actor::Hart(HartNo(0)),
-            span,
-            holder,
-        });
-        assert_eq!(rt; hart_touch(&book, pool, HartNo(0), look), touch, "at {at}");
+    let load = Some((TouchKind::Load, SECOND));
+    let store = Some((TouchKind::Store, SECOND));
+    let alias = Some((TouchKind::Alias, FIRST));
+    for piece in [
+        (Access::Read, 0, 8, MemType::Pma, None),
+        (Access::Write, 28, 8, MemType::Pma, store),
+        (Access::Read, 40, 8, MemType::Pma, load),
+        (Access::Read, 24, 8, MemType::Nc, alias),
+        (Access::Write, 0, 1, MemType::Io, alias),
+        (Access::Read, 28, 8, MemType::Nc, load),
+    ] {
+        compare(&rt, &book, POOL, piece);
+    }
+    for piece in [
+        (Access::Read, 128, 8, MemType::Pma, None),
+        (Access::Read, 128, 8, MemType::Nc, alias),
+    ] {
+        compare(&rt, &book, NO_POOL, piece);
+    }
+    Ok(())
+}
+
+/// In the pool a type other than that of memory which is not cached is an alias.
+#[test]
+fn pieces_inside_the_pool(rt: HostRuntime) -> Result<(), Fail> {
+    let book = owned(rt.alloc(), RAM)?;
+    let load = Some((TouchKind::Load, Owner::Pool));
+    let alias = Some((TouchKind::Alias, FIRST));
+    for piece in [
+        (Access::Write, 128, 8, MemType::Nc, None),
+        (Access::Write, 128, 8, MemType::Pma, alias),
+        (Access::Read, 128, 8, MemType::Io, alias),
+        (Access::Read, 160, 8, MemType::Nc, load),
+    ] {
+        compare(&rt, &book, POOL, piece);
     }
     Ok(())
 }

@@ -1,9 +1,9 @@
 //! What no clause says: runs of pages and the plans of an area, worked by hand.
 
+use crate::fixtures::{cbo, enabled, full};
 use nc_coherent::{PagePool, lowest_run_is_lowest, plan_alloc, plan_fence};
 use nc_env::CboOp;
-use nc_num::{Block, Span};
-use nc_plan::{Effects, HartOp};
+use nc_num::Span;
 
 #[test]
 #[tactic(auto, unfolding(nc_coherent::specs::Pages::marked))]
@@ -45,27 +45,6 @@ fn pages_are_taken_and_given(rt: HostRuntime) {
     assert_eq!(rt; pool.find(1), None);
     pool.give(all);
     assert_eq!(rt; pool.find(4), Some(all));
-}
-
-/// Everything enabled.
-fn enabled() -> Effects {
-    Effects {
-        clean: Ok(CboOp::Clean),
-        flush: Ok(CboOp::Flush),
-        inval: Ok(CboOp::Inval),
-        zero: Ok(CboOp::Zero),
-    }
-}
-
-fn cbo(op: CboOp, block: u32) -> HartOp {
-    HartOp::Cbo {
-        op,
-        block: Block(block),
-    }
-}
-
-fn full() -> HartOp {
-    HartOp::Fence { pred: 15, succ: 15 }
 }
 
 #[test]

@@ -6,6 +6,8 @@
 #[cfg(test)]
 mod coherent;
 #[cfg(test)]
+mod fixtures;
+#[cfg(test)]
 mod memcpy;
 #[cfg(test)]
 mod pdma;

@@ -1,34 +1,25 @@
 //! What no clause says: a copy between a bounced source and a direct destination, worked by hand.
 
+use crate::fixtures;
 use nc_env::CboOp;
 use nc_memcpy::{CopyStep, copy_plan, transfer_plan};
-use nc_num::{Block, ChanNo, Dir, MemType, Span};
-use nc_plan::{Effects, HartOp, IoTarget, Part, Payload};
+use nc_num::{ChanNo, Dir, Span};
+use nc_plan::{Effects, HartOp, IoTarget, Part};
 
 fn cbo(op: CboOp, block: u32) -> CopyStep {
-    CopyStep::Op(HartOp::Cbo {
-        op,
-        block: Block(block),
-    })
+    CopyStep::Op(fixtures::cbo(op, block))
 }
 
 fn full() -> CopyStep {
-    CopyStep::Op(HartOp::Fence { pred: 15, succ: 15 })
+    CopyStep::Op(fixtures::full())
 }
 
 fn load(at: u32, len: u32) -> CopyStep {
-    CopyStep::Op(HartOp::Load {
-        span: Span { at, len },
-        kind: MemType::Pma,
-    })
+    CopyStep::Op(fixtures::load(at, len))
 }
 
 fn store(at: u32, len: u32) -> CopyStep {
-    CopyStep::Op(HartOp::Store {
-        span: Span { at, len },
-        kind: MemType::Pma,
-        bytes: Payload::Last,
-    })
+    CopyStep::Op(fixtures::store(at, len))
 }
 
 fn reg(off: u16, width: u8, value: u64) -> CopyStep {

@@ -3,23 +3,14 @@
 ghost use Rattle.nc_num.specs.Sizes.{IsBlockSize};
 ghost use Rattle.nc_plan.specs.Parts.{IsPart};
 
+use crate::fixtures::{cbo, enabled, full, load, store};
 use nc_env::CboOp;
-use nc_num::{Block, Dir, MemType, Span};
+use nc_num::{Dir, Span};
 use nc_plan::{
-    Effects, HartOp, Part, Payload, blocks_are_met, bounces, device_range_is_in_slot, pieces_move,
-    plan_map, plan_to_cpu, plan_to_dev, plan_unmap, plans_are_fenced,
+    Effects, HartOp, Part, blocks_are_met, bounces, device_range_is_in_slot, pieces_move, plan_map,
+    plan_to_cpu, plan_to_dev, plan_unmap, plans_are_fenced,
 };
 use std::alloc::Global;
-
-/// Everything enabled.
-fn enabled() -> Effects {
-    Effects {
-        clean: Ok(CboOp::Clean),
-        flush: Ok(CboOp::Flush),
-        inval: Ok(CboOp::Inval),
-        zero: Ok(CboOp::Zero),
-    }
-}
 
 /// Whether this is the lending plan of a part.
 #[tactic(auto, using(nc_plan::proofs::PlanLaws::one_part))]
@@ -51,32 +42,6 @@ fn returns(alloc: Global, e: &Effects, size: u32, part: &Part, want: &[HartOp]) 
         return false;
     };
     unmap.as_slice() == want && sync.as_slice() == want
-}
-
-fn cbo(op: CboOp, block: u32) -> HartOp {
-    HartOp::Cbo {
-        op,
-        block: Block(block),
-    }
-}
-
-fn full() -> HartOp {
-    HartOp::Fence { pred: 15, succ: 15 }
-}
-
-fn load(at: u32, len: u32) -> HartOp {
-    HartOp::Load {
-        span: Span { at, len },
-        kind: MemType::Pma,
-    }
-}
-
-fn store(at: u32, len: u32) -> HartOp {
-    HartOp::Store {
-        span: Span { at, len },
-        kind: MemType::Pma,
-        bytes: Payload::Last,
-    }
 }
 
 #[test]

@@ -1,5 +1,5 @@
-//! What no clause says: that each operation is read from the written form, and that shapes come before limits. The values
-//! are worked by hand; the two limits of each argument stand in nc_scen's table.
+//! What no clause says: that each operation is read from the written form, and that shapes come before limits. The
+//! values are worked by hand; the two limits of each argument stand in nc_scen's table.
 
 use nc_ops::{Room, read_op};
 use nc_values::value_of;
@@ -74,7 +74,11 @@ fn mappings_lists_areas_and_copies(rt: HostRuntime) -> Result<(), Fail> {
         (r#"["to_dev",2]"#, "ToDev(Label(2))"),
         (
             r#"["map_sg",3,[[0,1,2]],2,3]"#,
-            "MapSg { label: Label(3), entries: SgEntries { items: [SgEntry { buf: 0, off: 1, len: 2 }] }, dir: FromDev, chan: ChanNo(3) }",
+            concat!(
+                "MapSg { label: Label(3), ",
+                "entries: SgEntries { items: [SgEntry { buf: 0, off: 1, len: 2 }] }, ",
+                "dir: FromDev, chan: ChanNo(3) }"
+            ),
         ),
         (
             r#"["unmap_sg",3,1]"#,

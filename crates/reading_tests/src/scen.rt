@@ -1,19 +1,14 @@
 //! What no clause says: that a scenario is read at all, member by member, and the last of two members of a key.
 
+use crate::fixtures::{GOOD, OVERRIDES};
 use nc_num::HartNo;
 use nc_scen::{Event, Op, Plan, Scenario, Spot, read};
 use std::test::Fail;
 
-/// The members of a good scenario.
-const GOOD: &str =
-    r#""version":1,"ram":8192,"harts":[{"mode":"S","menvcfg":0,"senvcfg":0,"script":[]}],"buffers":[{"at":0,"len":2,"fill":7,"step":1,"owner":0}],"schedule":[]"#;
-
 #[test]
 fn a_scenario_is_read(rt: HostRuntime) -> Result<(), Fail> {
     let alloc = rt.alloc();
-    let more =
-        r#""version":2,"block":32,"zero":128,"fences":"light","harts":[{"mode":"U","menvcfg":7,"senvcfg":8,"script":[["ld","b0",3,4]]}],"schedule":["g0"],"finish":false,"limit":9"#;
-    let text = format!(in alloc; "{{{GOOD},{more}}}")?;
+    let text = format!(in alloc; "{{{GOOD},{OVERRIDES}}}")?;
     let Ok(sc) = read(alloc, text.as_bytes()) else {
         assert!(rt; false);
         return Ok(());

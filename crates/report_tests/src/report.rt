@@ -1,8 +1,6 @@
 //! What no clause says: the line of each form, worked by hand.
 
-ghost use Rattle.std.specs.Prelude.{◌≡◌, [], length, IfSome};
-ghost use Rattle.nc_scen.specs.Accepted.{IsAccepted};
-
+use crate::fixtures::{STORE, started};
 use nc_cache::Origin;
 use nc_env::{CboOp, Field};
 use nc_io::SureSink;
@@ -11,10 +9,9 @@ use nc_num::{Block, Bytes, ChanNo, HartNo, Label, MapId, Place, Span};
 use nc_plan::{IoTarget, SegList, Segment};
 use nc_report::{event_line, line, refused, step_out, tail};
 use nc_rules::{Answer, Record, Refusal, ToldAnswer};
-use nc_scen::{Event, Path, Refused, Scenario, read};
+use nc_scen::{Event, Path, Refused};
 use nc_slots::TryAnswer;
-use nc_world::{Stepped, World};
-use std::alloc::Global;
+use nc_world::Stepped;
 use std::test::Fail;
 
 const HART: HartNo = HartNo(2);
@@ -501,26 +498,6 @@ fn refused_input_has_a_line(rt: HostRuntime) -> Result<(), Fail> {
         assert_eq!(rt; refused(alloc, fault)?.as_slice(), text.as_bytes());
     }
     Ok(())
-}
-
-/// A hart with no script, and one that stores to a buffer in two blocks.
-const STORE: &str =
-    r#"{"version":1,"ram":4096,"harts":[{"mode":"S","menvcfg":0,"senvcfg":0,"script":[]},{"mode":"S","menvcfg":0,"senvcfg":0,"script":[["st","b1",0,"11"]]}],"buffers":[{"at":0,"len":2,"fill":7,"step":1,"owner":0},{"at":126,"len":4,"fill":254,"step":1,"owner":1}],"schedule":[]}"#;
-
-/// A world at its start, with its scenario.
-fn started(alloc: Global, text: &str) -> Option<(Scenario, World)>
-    ensures accepted { IfSome result (λ p. IsAccepted p.0) }
-    ensures size { IfSome result (λ p. p.1.at.machine.size ≡ p.0.block_size) }
-    ensures ram { IfSome result (λ p. length p.1.at.machine.cache.ram ≡ p.0.ram) }
-    ensures records { IfSome result (λ p. p.1.records ≡ []) }
-{
-    let Ok(sc) = read(alloc, text.as_bytes()) else {
-        return None;
-    };
-    let Ok(w) = World::new(alloc, &sc) else {
-        return None;
-    };
-    Some((sc, w))
 }
 
 #[test]
