@@ -5,10 +5,10 @@ use Rattle.nc_num.specs.declared.places.Span.{Span}
 use Rattle.nc_flatness.specs.Steps.{EachGoes}
 use Rattle.nc_flat_moves.proofs.MoveLaws.{moves_go_law}
 use Rattle.nc_flat_claims.proofs.ClaimEvents as claims
-use Rattle.nc_flat_scripts.proofs.IssueEvents as scripts
-use Rattle.nc_flat_scripts.proofs.TransferEvents as transfers
-use Rattle.nc_flat_starts.proofs.Events as starts
-use Rattle.nc_flat_plans.proofs.PlanEvents as plans
+use Rattle.nc_flat_scripts.proofs.accesses.IssueEvents as scripts
+use Rattle.nc_flat_scripts.proofs.copies.TransferEvents as transfers
+use Rattle.nc_flat_starts.proofs.opening.Events as starts
+use Rattle.nc_flat_plans.proofs.drivers.PlanEvents as plans
 use Rattle.nc_flat.specs.Laws.{EachRunIsLatest, EachRunIsKept, EachEventIsFlat, EachRunIsFlat, EachPoolIsUncached}
 use Rattle.nc_flat.proofs.Dispatch.{each_goes}
 use Rattle.nc_flat.proofs.Runs.{event_goes, latest_of, flat_of, kept_of}

@@ -33,8 +33,8 @@ use Rattle.nc_rows.specs.Rows.{Book, Loan, SyncedRow, Row}
 use Rattle.nc_flatness.specs.Books.{book_of}
 use Rattle.nc_flatness.specs.Flatness.{Flatness}
 use Rattle.nc_flatness.specs.Steps.{IsTouch, GoesTo, Goes, EachGoes}
-use Rattle.nc_flatness.proofs.Starts.{start_flat}
-use Rattle.nc_flatness.proofs.Worlds.{worlds_stay}
+use Rattle.nc_flatness.proofs.worlds.Starts.{start_flat}
+use Rattle.nc_flatness.proofs.worlds.Worlds.{worlds_stay}
 
 -- ---- one event
 

@@ -49,21 +49,21 @@ use Rattle.nc_flatness.specs.Copying.{IsItsOwn}
 use Rattle.nc_flatness.specs.Flatness.{PlanOf, Drives, BytesStand}
 use Rattle.nc_flatness.specs.Plans.{HasLend, PlanGoes}
 use Rattle.nc_flatness.specs.Tokens.{is_lending_side, is_sent, TokenStands}
-use Rattle.nc_flatness.proofs.CopySteps.{both_from}
-use Rattle.nc_flatness.proofs.Lents.{all_sided, sides_mapping}
-use Rattle.nc_flatness.proofs.Outcomes.{gone}
-use Rattle.nc_flatness.proofs.Owned.{owned_ram, mapped}
-use Rattle.nc_flatness.proofs.Rests.{ends_one_next, claim_lends, turn_name}
-use Rattle.nc_flatness.proofs.Stands.{none_stands}
-use Rattle.nc_flatness.proofs.Tokens.{ended_unsent, unlent_unsent}
-use Rattle.nc_flat_scripts.proofs.ActRows.{stays_row}
-use Rattle.nc_flat_scripts.proofs.TransferDrivers.{plan_left}
-use Rattle.nc_flat_starts.proofs.Bases.{me_of, member_beside, member_owner}
-use Rattle.nc_flat_starts.proofs.Befores.{driven, known_here, seen_aside}
-use Rattle.nc_flat_starts.proofs.Frames.{IsPlace, IsOff, On, Off, somewhere, StaysAside, rewrites_none, loan_hart, loan_aside, rest_hart, last_none}
-use Rattle.nc_flat_starts.proofs.Lots.{loan_for, loan_here, own_entry, entry_one}
-use Rattle.nc_flat_starts.proofs.Sides.{turned_lot}
-use Rattle.nc_flat_starts.proofs.TurnBytes.{turn_bytes}
+use Rattle.nc_flatness.proofs.plans.CopySteps.{both_from}
+use Rattle.nc_flatness.proofs.tokens.Lents.{all_sided, sides_mapping}
+use Rattle.nc_flatness.proofs.worlds.Outcomes.{gone}
+use Rattle.nc_flatness.proofs.books.Owned.{owned_ram, mapped}
+use Rattle.nc_flatness.proofs.plans.Rests.{ends_one_next, claim_lends, turn_name}
+use Rattle.nc_flatness.proofs.tokens.Stands.{none_stands}
+use Rattle.nc_flatness.proofs.tokens.Tokens.{ended_unsent, unlent_unsent}
+use Rattle.nc_flat_scripts.proofs.accesses.ActRows.{stays_row}
+use Rattle.nc_flat_scripts.proofs.copies.TransferDrivers.{plan_left}
+use Rattle.nc_flat_starts.proofs.opening.Bases.{me_of, member_beside, member_owner}
+use Rattle.nc_flat_starts.proofs.opening.Befores.{driven, known_here, seen_aside}
+use Rattle.nc_flat_starts.proofs.turning.Frames.{IsPlace, IsOff, On, Off, somewhere, StaysAside, rewrites_none, loan_hart, loan_aside, rest_hart, last_none}
+use Rattle.nc_flat_starts.proofs.turning.Lots.{loan_for, loan_here, own_entry, entry_one}
+use Rattle.nc_flat_starts.proofs.turning.Sides.{turned_lot}
+use Rattle.nc_flat_starts.proofs.turning.TurnBytes.{turn_bytes}
 use Rattle.nc_flat_claims.proofs.ClaimCopies.{IsFreeClaim, claimed_copy}
 use Rattle.nc_flat_claims.proofs.ClaimDrivers.{one_lent, both_lent, IsLent, behind_so, far_ends, loan_kept}
 use Rattle.nc_flat_claims.proofs.ClaimEnds.{both_lot, EndPlace, end_place, off_ends, IsEndLot, its_end, ends_lent}

@@ -37,12 +37,12 @@ use Rattle.nc_transfers.specs.Transfers.{Ends, IsCopying}
 use Rattle.nc_transfers.proofs.SettingUp.{copies_set_up}
 use Rattle.nc_flatness.specs.Copying.{CopyOp, source_range, target_range, polls, registers, registers_coming, register_entries, IsOneRange, AreItsEnds, IsEndAt, span_of, IsUnderWay, IsItsOwn, IsBegun, IsCopyNow, CopyStands}
 use Rattle.nc_flatness.specs.Plans.{device_of}
-use Rattle.nc_flatness.proofs.CopySteps.{ends_kept}
-use Rattle.nc_flatness.proofs.Outcomes.{gone}
-use Rattle.nc_flat_starts.proofs.Bases.{member_lot, waits_not}
-use Rattle.nc_flat_starts.proofs.Befores.{driven}
-use Rattle.nc_flat_starts.proofs.Frames.{driver_here}
-use Rattle.nc_flat_starts.proofs.Sides.{turned_lot}
+use Rattle.nc_flatness.proofs.plans.CopySteps.{ends_kept}
+use Rattle.nc_flatness.proofs.worlds.Outcomes.{gone}
+use Rattle.nc_flat_starts.proofs.opening.Bases.{member_lot, waits_not}
+use Rattle.nc_flat_starts.proofs.opening.Befores.{driven}
+use Rattle.nc_flat_starts.proofs.turning.Frames.{driver_here}
+use Rattle.nc_flat_starts.proofs.turning.Sides.{turned_lot}
 use Rattle.nc_flat_claims.proofs.Claimings.{IsClaiming, its_holds, its_member}
 use Rattle.nc_flat_claims.proofs.ClaimDrivers.{both_lent, IsLent, polled, source_behind, target_behind}
 use Rattle.nc_flat_claims.proofs.ClaimRests.{plan_ends, rest_is, its_registers}

@@ -36,13 +36,13 @@ use Rattle.nc_rows.specs.Rows.{Loan}
 use Rattle.nc_flatness.specs.Books.{loan_by, loan_of, book_of}
 use Rattle.nc_flatness.specs.Copying.{polls}
 use Rattle.nc_flatness.specs.Flatness.{IsWorldOf}
-use Rattle.nc_flatness.proofs.CopySteps.{both_from}
-use Rattle.nc_flatness.proofs.Loans.{loan_is}
-use Rattle.nc_flatness.proofs.Rests.{kept_in}
-use Rattle.nc_flatness.proofs.Worlds.{worlds_stay}
-use Rattle.nc_flat_starts.proofs.Befores.{driven}
-use Rattle.nc_flat_starts.proofs.Lots.{names_entry, numbers, entry_named, entry_one, other_set, FarFrom}
-use Rattle.nc_flat_starts.proofs.Sides.{turned_lot, set_here}
+use Rattle.nc_flatness.proofs.plans.CopySteps.{both_from}
+use Rattle.nc_flatness.proofs.books.Loans.{loan_is}
+use Rattle.nc_flatness.proofs.plans.Rests.{kept_in}
+use Rattle.nc_flatness.proofs.worlds.Worlds.{worlds_stay}
+use Rattle.nc_flat_starts.proofs.opening.Befores.{driven}
+use Rattle.nc_flat_starts.proofs.turning.Lots.{names_entry, numbers, entry_named, entry_one, other_set, FarFrom}
+use Rattle.nc_flat_starts.proofs.turning.Sides.{turned_lot, set_here}
 use Rattle.nc_flat_claims.proofs.Claimings.{IsClaiming, its_holds}
 use Rattle.nc_flat_claims.proofs.ClaimRests.{step_is, rest_is, its_poll}
 

@@ -25,10 +25,10 @@ use Rattle.nc_rows.specs.Ahead.{same_lot, ends, names}
 use Rattle.nc_row_plans.specs.Plans.{IsEntryOf}
 use Rattle.nc_flatness.specs.Plans.{token_step}
 use Rattle.nc_flatness.specs.Tokens.{lot_token}
-use Rattle.nc_flat_starts.proofs.Bases.{IsMember, member_planned}
-use Rattle.nc_flat_starts.proofs.Frames.{IsPlace, IsOff}
-use Rattle.nc_flat_starts.proofs.OpenRows.{writing, sizes}
-use Rattle.nc_flat_starts.proofs.Sides.{turned_lot}
+use Rattle.nc_flat_starts.proofs.opening.Bases.{IsMember, member_planned}
+use Rattle.nc_flat_starts.proofs.turning.Frames.{IsPlace, IsOff}
+use Rattle.nc_flat_starts.proofs.turning.OpenRows.{writing, sizes}
+use Rattle.nc_flat_starts.proofs.turning.Sides.{turned_lot}
 use Rattle.nc_flat_claims.proofs.ClaimDrivers.{IsLent, source_behind, target_behind}
 use Rattle.nc_flat_claims.proofs.Claimings.{IsClaiming, its_member, end_entry}
 use Rattle.nc_flat_claims.proofs.ClaimRests.{behind_source, behind_target, rest_is}

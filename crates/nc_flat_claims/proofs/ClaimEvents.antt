@@ -26,14 +26,14 @@ use Rattle.nc_flatness.specs.Lending.{is_lending}
 use Rattle.nc_flatness.specs.Flatness.{BytesStand}
 use Rattle.nc_flatness.specs.Plans.{StepGoes, Loads, Stores, WritesBack, Drops, Gives, Fences, Ends, Zeroes, Flushes, Settles, GivesArea, TakesBack, Marks, Posts, Claims, Registers, Polls, TakesTarget, TakesSource, IsClaim, PlanGoes, EndsOne}
 use Rattle.nc_flatness.specs.Steps.{OfClaim, OfChannel, OfLots, kind_of_act, kind_of_next, Goes, ClaimsAreFlat}
-use Rattle.nc_flatness.proofs.Outcomes.{gone, goes_go, goes_silent}
-use Rattle.nc_flatness.proofs.Rests.{plan_next}
-use Rattle.nc_flat_scripts.proofs.OtherCopies.{claim_keeps}
-use Rattle.nc_flat_scripts.proofs.ScriptEvents.{IsHere, here_by, outcome_is}
-use Rattle.nc_flat_scripts.proofs.SendEvents.{next_work}
-use Rattle.nc_flat_scripts.proofs.TransferDrivers.{at_work}
-use Rattle.nc_flat_scripts.proofs.TransferPolls.{none_registers}
-use Rattle.nc_flat_starts.proofs.Bases.{member_lot}
+use Rattle.nc_flatness.proofs.worlds.Outcomes.{gone, goes_go, goes_silent}
+use Rattle.nc_flatness.proofs.plans.Rests.{plan_next}
+use Rattle.nc_flat_scripts.proofs.copies.OtherCopies.{claim_keeps}
+use Rattle.nc_flat_scripts.proofs.accesses.ScriptEvents.{IsHere, here_by, outcome_is}
+use Rattle.nc_flat_scripts.proofs.handing.SendEvents.{next_work}
+use Rattle.nc_flat_scripts.proofs.copies.TransferDrivers.{at_work}
+use Rattle.nc_flat_scripts.proofs.copies.TransferPolls.{none_registers}
+use Rattle.nc_flat_starts.proofs.opening.Bases.{member_lot}
 use Rattle.nc_flat_claims.proofs.Claimings.{IsClaiming, its_member, its_quiet}
 use Rattle.nc_flat_claims.proofs.ClaimBytes.{claimed_bytes}
 use Rattle.nc_flat_claims.proofs.ClaimDrivers.{lent_so}

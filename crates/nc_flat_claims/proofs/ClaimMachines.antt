@@ -26,9 +26,9 @@ use Rattle.nc_rows.specs.Places.{CalmRow}
 use Rattle.nc_rows.specs.Rows.{Book}
 use Rattle.nc_flatness.specs.Books.{book_of}
 use Rattle.nc_flatness.specs.Flatness.{IsUnseen, BytesStand}
-use Rattle.nc_flat_scripts.proofs.ActRows.{calm_at, stays_row}
-use Rattle.nc_flat_scripts.proofs.OtherCopies.{KeepsCopy}
-use Rattle.nc_flat_starts.proofs.Frames.{GoesBy}
+use Rattle.nc_flat_scripts.proofs.accesses.ActRows.{calm_at, stays_row}
+use Rattle.nc_flat_scripts.proofs.copies.OtherCopies.{KeepsCopy}
+use Rattle.nc_flat_starts.proofs.turning.Frames.{GoesBy}
 use Rattle.nc_flat_claims.proofs.Claimings.{IsClaiming, its_queued}
 
 -- no byte, no queue and no channel of another hart changes

@@ -27,8 +27,8 @@ use Rattle.nc_row_plans.proofs.LendingPlans.{is_plain, Are, are_flat, copies_pla
 use Rattle.nc_transfers.specs.Transfers.{Ends}
 use Rattle.nc_flatness.specs.Copying.{is_poll, polls, registers, registers_coming, register_entries}
 use Rattle.nc_flatness.specs.Plans.{IsClaim, token_step}
-use Rattle.nc_flatness.proofs.CopySteps.{coming_by}
-use Rattle.nc_flat_starts.proofs.PlanComes.{append_steps, steps_append}
+use Rattle.nc_flatness.proofs.plans.CopySteps.{coming_by}
+use Rattle.nc_flat_starts.proofs.going.PlanComes.{append_steps, steps_append}
 use Rattle.nc_flat_claims.proofs.EndsAhead.{lending_ops, give_step, lending_plain, lending_is, lending_end_by}
 
 -- ---- the step, and what is behind it

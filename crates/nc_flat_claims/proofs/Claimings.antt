@@ -49,16 +49,16 @@ use Rattle.nc_flatness.specs.Books.{book_of, mapping_in}
 use Rattle.nc_flatness.specs.Lending.{is_lending}
 use Rattle.nc_flatness.specs.Plans.{IsStill, StillDevice, StillSynced, StillOwn, StillSent, HasEnd, IsClaim, PlanGoes, EndsOne}
 use Rattle.nc_flatness.specs.Tokens.{lot_token, is_lot_token, is_lending_side, ends_lending, TokenStands}
-use Rattle.nc_flatness.proofs.Owned.{owned_ram, mapped}
-use Rattle.nc_flatness.proofs.Rests.{lend_has_end, same_id, copy_ends, lend_light, ends_two}
-use Rattle.nc_flatness.proofs.Tokens.{lent_sent, sent_queued}
-use Rattle.nc_flat_scripts.proofs.ScriptEvents.{IsHere, may_next}
-use Rattle.nc_flat_scripts.proofs.SendEvents.{next_work}
-use Rattle.nc_flat_starts.proofs.Bases.{IsMember, member_lot, member_planned}
-use Rattle.nc_flat_starts.proofs.CopyPlans.{copy_silent}
-use Rattle.nc_flat_starts.proofs.Frames.{IsRestful}
-use Rattle.nc_flat_starts.proofs.OpenRows.{writing, dropping}
-use Rattle.nc_flat_starts.proofs.PlanOps.{IsPlanned}
+use Rattle.nc_flatness.proofs.books.Owned.{owned_ram, mapped}
+use Rattle.nc_flatness.proofs.plans.Rests.{lend_has_end, same_id, copy_ends, lend_light, ends_two}
+use Rattle.nc_flatness.proofs.tokens.Tokens.{lent_sent, sent_queued}
+use Rattle.nc_flat_scripts.proofs.accesses.ScriptEvents.{IsHere, may_next}
+use Rattle.nc_flat_scripts.proofs.handing.SendEvents.{next_work}
+use Rattle.nc_flat_starts.proofs.opening.Bases.{IsMember, member_lot, member_planned}
+use Rattle.nc_flat_starts.proofs.going.CopyPlans.{copy_silent}
+use Rattle.nc_flat_starts.proofs.turning.Frames.{IsRestful}
+use Rattle.nc_flat_starts.proofs.turning.OpenRows.{writing, dropping}
+use Rattle.nc_flat_starts.proofs.going.PlanOps.{IsPlanned}
 use Rattle.nc_flat_claims.proofs.ClaimRests.{step_is}
 
 -- hart h's plan makes step s next, which claims the channel of a copy, and this rest is left behind it

@@ -23,11 +23,11 @@ use Rattle.nc_row_plans.specs.Plans.{IsEntryOf}
 use Rattle.nc_row_plans.proofs.PlanBegins.{rows_begin}
 use Rattle.nc_flatness.specs.Books.{book_of}
 use Rattle.nc_flatness.specs.Tokens.{is_lending_side}
-use Rattle.nc_flat_starts.proofs.Bases.{IsMember}
-use Rattle.nc_flat_starts.proofs.Frames.{IsPlace}
-use Rattle.nc_flat_starts.proofs.Lots.{entry_one, loan_for, own_entry}
-use Rattle.nc_flat_starts.proofs.OpenRows.{place_at, place_is, IsReadySide, own_row, dir_make, ready_so, alone_so, either_false}
-use Rattle.nc_flat_starts.proofs.Tokens.{none_named}
+use Rattle.nc_flat_starts.proofs.opening.Bases.{IsMember}
+use Rattle.nc_flat_starts.proofs.turning.Frames.{IsPlace}
+use Rattle.nc_flat_starts.proofs.turning.Lots.{entry_one, loan_for, own_entry}
+use Rattle.nc_flat_starts.proofs.turning.OpenRows.{place_at, place_is, IsReadySide, own_row, dir_make, ready_so, alone_so, either_false}
+use Rattle.nc_flat_starts.proofs.opening.Tokens.{none_named}
 use Rattle.nc_flat_claims.proofs.EndsAhead.{LendsEnd, MayLend}
 
 pub end_row : (sc : Scenario) (f : List ℕ) (w : WorldState) (h : HartNo) (lot : Lot) (rest : List Step) (i : ℕ) (e : Entry) (x v : ℕ) (c : Book) → IsMember sc f w h (driver_of w h.0).lots lot → is_area lot.kind ≡ false → lot.side ≡ sides.Wanted → IsPlace lot i e x

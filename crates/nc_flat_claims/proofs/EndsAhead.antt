@@ -39,12 +39,12 @@ use Rattle.nc_row_plans.proofs.LendingPlans.{is_plain, Are, are_append, are_flat
 use Rattle.nc_row_plans.proofs.PlanBegins.{stands_behind, covered_behind, marked_behind}
 use Rattle.nc_flatness.specs.Plans.{IsStill, IsBeside, device_of}
 use Rattle.nc_flatness.specs.Tokens.{lot_token}
-use Rattle.nc_flatness.proofs.Rests.{lend_ends}
-use Rattle.nc_flat_starts.proofs.CopyPlans.{coming_front}
-use Rattle.nc_flat_starts.proofs.PlanComes.{append_steps, plain_ends, ends_behind}
-use Rattle.nc_flat_starts.proofs.PlanOps.{IsPlanned}
-use Rattle.nc_flat_starts.proofs.PlansGo.{Lends, lend_so}
-use Rattle.nc_flat_starts.proofs.Sides.{turned_lot}
+use Rattle.nc_flatness.proofs.plans.Rests.{lend_ends}
+use Rattle.nc_flat_starts.proofs.going.CopyPlans.{coming_front}
+use Rattle.nc_flat_starts.proofs.going.PlanComes.{append_steps, plain_ends, ends_behind}
+use Rattle.nc_flat_starts.proofs.going.PlanOps.{IsPlanned}
+use Rattle.nc_flat_starts.proofs.going.PlansGo.{Lends, lend_so}
+use Rattle.nc_flat_starts.proofs.turning.Sides.{turned_lot}
 
 -- a rest lends the lot: behind what gives a byte of it, or a block, comes a write-back, and then a marker, before its token
 pub record LendsEnd (f : DriverConfig) (m : MachineState) (lot : Lot) (rest : List Step) : Type 0 where

@@ -30,15 +30,15 @@ use Rattle.nc_flatness.specs.Books.{loan_by, loan_of, book_of, mapping_in}
 use Rattle.nc_flatness.specs.Flatness.{IsMapping, BytesStand}
 use Rattle.nc_flatness.specs.Plans.{IsStill}
 use Rattle.nc_flatness.specs.Tokens.{TokenStands}
-use Rattle.nc_flatness.proofs.Outcomes.{gone}
-use Rattle.nc_flatness.proofs.Stands.{none_stands}
-use Rattle.nc_flatness.proofs.Tokens.{unlent_unsent}
-use Rattle.nc_flat_scripts.proofs.ActRows.{stays_row}
-use Rattle.nc_flat_starts.proofs.Befores.{driven, known_here, seen_aside}
-use Rattle.nc_flat_starts.proofs.Frames.{IsPlace, rewrites_none, StaysAside, loan_aside}
-use Rattle.nc_flat_starts.proofs.Lots.{kept_loans}
-use Rattle.nc_flat_starts.proofs.Quiets.{idle_copy}
-use Rattle.nc_flat_starts.proofs.TurnBytes.{turn_bytes}
+use Rattle.nc_flatness.proofs.worlds.Outcomes.{gone}
+use Rattle.nc_flatness.proofs.tokens.Stands.{none_stands}
+use Rattle.nc_flatness.proofs.tokens.Tokens.{unlent_unsent}
+use Rattle.nc_flat_scripts.proofs.accesses.ActRows.{stays_row}
+use Rattle.nc_flat_starts.proofs.opening.Befores.{driven, known_here, seen_aside}
+use Rattle.nc_flat_starts.proofs.turning.Frames.{IsPlace, rewrites_none, StaysAside, loan_aside}
+use Rattle.nc_flat_starts.proofs.turning.Lots.{kept_loans}
+use Rattle.nc_flat_starts.proofs.opening.Quiets.{idle_copy}
+use Rattle.nc_flat_starts.proofs.turning.TurnBytes.{turn_bytes}
 use Rattle.nc_flat_claims.proofs.Claimings.{IsClaiming, untokened, its_still, its_unlent, its_silent, its_restful}
 use Rattle.nc_flat_claims.proofs.ClaimMachines.{IsClaimNext, claim_goes_by, claim_queued, claim_calm}
 

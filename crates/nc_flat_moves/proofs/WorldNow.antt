@@ -16,9 +16,9 @@ use Rattle.nc_row_moves.specs.Laws.{PiecesOf, HasPieces}
 use Rattle.nc_row_moves.specs.Parts.{WholePool}
 use Rattle.nc_flatness.specs.Books.{book_of}
 use Rattle.nc_flatness.specs.Flatness.{Flatness}
-use Rattle.nc_flatness.proofs.Loans.{loan_is}
-use Rattle.nc_flatness.proofs.WholeBlocks.{in_whole}
-use Rattle.nc_flat_moves.proofs.Pieces.{comes_in_block}
+use Rattle.nc_flatness.proofs.books.Loans.{loan_is}
+use Rattle.nc_flatness.proofs.books.WholeBlocks.{in_whole}
+use Rattle.nc_flat_moves.proofs.channels.Pieces.{comes_in_block}
 
 -- ---- what is to come
 

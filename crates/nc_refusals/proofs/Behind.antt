@@ -29,7 +29,7 @@ use Rattle.nc_holds.proofs.EventGiven.{IsEvent}
 use Rattle.nc_holds.proofs.EventHolds.{next_is, next_same}
 use Rattle.nc_holds.proofs.TokenGoesOn.{tokens_are_lent}
 use Rattle.nc_flatness.specs.Flatness.{IsWorldOf}
-use Rattle.nc_flatness.proofs.Worlds.{event_now}
+use Rattle.nc_flatness.proofs.worlds.Worlds.{event_now}
 use Rattle.nc_refusals.proofs.Outcomes.{Made, Starts, Hears, Acts, made}
 use Rattle.nc_refusals.proofs.Quiet.{IsOpenAt, IsOpen, start_open, search_open, done_quiet}
 use Rattle.nc_refusals.proofs.Grows.{start_grows, told_grows, done_grows}

@@ -19,7 +19,7 @@ use Rattle.nc_scripts.specs.Drivers.{IsPhase, IsSettled, IsEndName}
 use Rattle.nc_scripts.proofs.Lists.{all_to, all_left, all_right}
 use Rattle.nc_holds.proofs.EventHolds.{next_is}
 use Rattle.nc_flatness.specs.Flatness.{IsWorldOf}
-use Rattle.nc_flatness.proofs.Worlds.{worlds_start, worlds_stay}
+use Rattle.nc_flatness.proofs.worlds.Worlds.{worlds_start, worlds_stay}
 use Rattle.nc_refusals.specs.Refused.{maker, acted}
 use Rattle.nc_refusals.specs.Laws.{AnswersLeaveNoEnds}
 use Rattle.nc_refusals.proofs.Outcomes.{Made, Starts, Hears, Acts, made}

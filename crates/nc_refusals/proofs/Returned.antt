@@ -60,7 +60,7 @@ use Rattle.nc_rules.specs.declared.records.Record.{Record}
 use Rattle.nc_holds.proofs.EventSteps.{OutcomeIs, Runs, Goes, outcome_is}
 use Rattle.nc_holds.proofs.EventHolds.{next_is, next_same}
 use Rattle.nc_flatness.specs.Flatness.{IsWorldOf}
-use Rattle.nc_flatness.proofs.Worlds.{worlds_start, event_now}
+use Rattle.nc_flatness.proofs.worlds.Worlds.{worlds_start, event_now}
 use Rattle.nc_refusals.specs.Returned.{HasLentEnd, IsGone, IsReturned}
 use Rattle.nc_refusals.specs.Laws.{CopiesGiveBack}
 use Rattle.nc_refusals.proofs.Behind.{driver_now, drivers_in, mine, same_hart}

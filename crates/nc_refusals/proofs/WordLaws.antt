@@ -20,7 +20,7 @@ use Rattle.nc_scripts.specs.Drivers.{IsPhase}
 use Rattle.nc_scripts.proofs.Lists.{all_left, all_right}
 use Rattle.nc_holds.specs.Held.{is_holder, times_held}
 use Rattle.nc_flatness.specs.Flatness.{IsWorldOf}
-use Rattle.nc_flatness.proofs.Worlds.{worlds_start, worlds_stay}
+use Rattle.nc_flatness.proofs.worlds.Worlds.{worlds_start, worlds_stay}
 use Rattle.nc_refusals.specs.Refused.{Refuses}
 use Rattle.nc_refusals.specs.Laws.{WordsAreGivenBack}
 use Rattle.nc_refusals.proofs.RefusalLaws.{refusals_leave_all}

@@ -32,7 +32,7 @@ use Rattle.nc_counts.proofs.Tells.{count-cons, outcome_tells}
 use Rattle.nc_holds.proofs.EventGiven.{IsEvent}
 use Rattle.nc_holds.proofs.EventHolds.{next_same}
 use Rattle.nc_flatness.specs.Flatness.{IsWorldOf}
-use Rattle.nc_flatness.proofs.Worlds.{worlds_start, worlds_stay, event_now}
+use Rattle.nc_flatness.proofs.worlds.Worlds.{worlds_start, worlds_stay, event_now}
 use Rattle.nc_sched.specs.Replay.{done_events, done_of, scheduled}
 use Rattle.nc_sched.proofs.Again.{each_replays}
 use Rattle.nc_sched.proofs.There.{schedule_is_there}

@@ -13,7 +13,7 @@ use Rattle.nc_rules.specs.World.{WorldState, start}
 use Rattle.nc_holds.proofs.EventGiven.{IsEvent}
 use Rattle.nc_holds.proofs.EventHolds.{next_same}
 use Rattle.nc_flatness.specs.Flatness.{IsWorldOf}
-use Rattle.nc_flatness.proofs.Worlds.{worlds_start, worlds_stay, event_now}
+use Rattle.nc_flatness.proofs.worlds.Worlds.{worlds_start, worlds_stay, event_now}
 
 -- what each event keeps that may happen is kept by each run
 keeps_if : (sc : Scenario) (P : WorldState → Type 0) → ((w : WorldState) (e : Event) → IsWorldOf sc w → IsEvent w e → P w → P (next w e))

@@ -40,7 +40,7 @@ use Rattle.nc_holds.proofs.CallTold.{slot_there}
 use Rattle.nc_holds.proofs.EventGiven.{IsEvent}
 use Rattle.nc_holds.proofs.EventHolds.{next_is, next_same}
 use Rattle.nc_flatness.specs.Flatness.{IsWorldOf}
-use Rattle.nc_flatness.proofs.Worlds.{worlds_start, worlds_stay, event_now, driver_start}
+use Rattle.nc_flatness.proofs.worlds.Worlds.{worlds_start, worlds_stay, event_now, driver_start}
 use Rattle.nc_counts.proofs.Plain.{plain_op, plain_drain, plain_answer, plain_read, plain_write, plain_backs}
 use Rattle.nc_slot_laws.specs.Looks.{Look, look_in, look_of, looks, is_step, is_look, looks_since, last_event, is_noslot, misses, EachIsSearched}
 use Rattle.nc_slot_laws.proofs.LookLists.{is_answer, AreQuiet, plain_quiet, touch_quiet, owners_quiet, quiet_append, quiet_since, quiet_looks, quiet_last, quiet_answers, since_append, last_append, looks_append, last_later, look_later, front_looks, EndsIn, ends_nil, ends_more, last_misses, since_last, ends_on, SplitBy, in_first, in_second, split, last_answer}

@@ -40,7 +40,7 @@ use Rattle.nc_holds.proofs.ListsA.{of_flat_map, same_some}
 use Rattle.nc_holds.proofs.OwnerLots.{same_lot}
 use Rattle.nc_holds.proofs.WordLists.{times, times-cons, own_hart}
 use Rattle.nc_flatness.specs.Flatness.{IsWorldOf}
-use Rattle.nc_flatness.proofs.Worlds.{worlds_start}
+use Rattle.nc_flatness.proofs.worlds.Worlds.{worlds_start}
 use Rattle.nc_slot_laws.specs.Slots.{HasSlot, IsOneEntry, HasOne, IsGivenOnce, EachIsGivenOnce}
 use Rattle.nc_slot_laws.proofs.GrantLists.{by_number, grants_stay}
 use Rattle.nc_slot_laws.proofs.Runs.{kept_from, world_after}

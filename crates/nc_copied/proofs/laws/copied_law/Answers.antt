@@ -1,4 +1,4 @@
-use Rattle.nc_copied.proofs.CopyLaws as laws
+use Rattle.nc_copied.proofs.runs.CopyLaws as laws
 use Rattle.nc_copied.proofs.laws.copied_law.Goals as goal
 
 pub returns : goal.returns

@@ -1,4 +1,4 @@
-use Rattle.nc_flat_plans.proofs.PlanEvents.{plans_go}
+use Rattle.nc_flat_plans.proofs.drivers.PlanEvents.{plans_go}
 use Rattle.nc_flat_plans.proofs.laws.plans_go.Goals as goal
 
 pub returns : goal.returns

@@ -1,5 +1,5 @@
 use Rattle.nc_flat_scripts.proofs.laws.steps_go.Goals as goal
-use Rattle.nc_flat_scripts.proofs.IssueEvents.{steps_go}
+use Rattle.nc_flat_scripts.proofs.accesses.IssueEvents.{steps_go}
 
 pub returns : goal.returns
 returns c = steps_go

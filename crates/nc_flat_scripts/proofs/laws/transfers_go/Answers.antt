@@ -1,5 +1,5 @@
 use Rattle.nc_flat_scripts.proofs.laws.transfers_go.Goals as goal
-use Rattle.nc_flat_scripts.proofs.TransferEvents.{transfers_go}
+use Rattle.nc_flat_scripts.proofs.copies.TransferEvents.{transfers_go}
 
 pub returns : goal.returns
 returns c = transfers_go

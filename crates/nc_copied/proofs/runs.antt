@@ -1,0 +1,3 @@
+pub mod RunEnds
+pub mod CopyRuns
+pub mod CopyLaws

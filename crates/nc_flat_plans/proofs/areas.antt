@@ -1,0 +1,4 @@
+pub mod PoolPlaces
+pub mod AreaRows
+pub mod AreaSteps
+pub mod AreaFences

@@ -1,0 +1,4 @@
+pub mod StepTokens
+pub mod LightSteps
+pub mod Posted
+pub mod LightEvents

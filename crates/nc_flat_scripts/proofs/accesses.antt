@@ -1,0 +1,9 @@
+pub mod EntryRows
+pub mod ScriptBlocks
+pub mod ScriptSteps
+pub mod OwnPlaces
+pub mod LastLoads
+pub mod ActRows
+pub mod OpActs
+pub mod ScriptEvents
+pub mod IssueEvents

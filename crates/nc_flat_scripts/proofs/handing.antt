@@ -1,0 +1,9 @@
+pub mod PassingParts
+pub mod PassingFrames
+pub mod MailFacts
+pub mod HandCalls
+pub mod HandEvents
+pub mod SendEvents
+pub mod BufferOwners
+pub mod HandStarts
+pub mod TakeEvents

@@ -1,0 +1,3 @@
+pub mod ScriptCalls
+pub mod StillLots
+pub mod StepFrames

@@ -1,0 +1,11 @@
+pub mod Effects
+pub mod CopyRanges
+pub mod Pieces
+pub mod PlanComes
+pub mod PlanOps
+pub mod PlanEnds
+pub mod PlansGo
+pub mod ReturnsGo
+pub mod CopyPlans
+pub mod CopyBesides
+pub mod NoBytes

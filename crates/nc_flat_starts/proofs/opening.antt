@@ -1,0 +1,13 @@
+pub mod Tokens
+pub mod Bases
+pub mod Befores
+pub mod Opens
+pub mod Quiets
+pub mod Lendings
+pub mod Calls
+pub mod Starts
+pub mod MakeStarts
+pub mod MapStarts
+pub mod AllStarts
+pub mod Searches
+pub mod Events

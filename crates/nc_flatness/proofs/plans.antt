@@ -1,0 +1,4 @@
+pub mod Copies
+pub mod CopySteps
+pub mod Rests
+pub mod Lasts

@@ -1,0 +1,6 @@
+pub mod Marks
+pub mod FlatBytes
+pub mod Outcomes
+pub mod Worlds
+pub mod StartOwners
+pub mod Starts
