@@ -35,10 +35,10 @@ use Rattle.nc_rules.specs.EventTouches.{owner_of}
 use Rattle.nc_rules.specs.World.{WorldState, driver_of, owners_moved}
 use Rattle.nc_scripts.proofs.Lists.{all_in, all_to}
 use Rattle.nc_scripts.proofs.LotLaws.{its_name}
-use Rattle.nc_holds.proofs.ListsA.{of_append}
-use Rattle.nc_holds.proofs.OwnerLots.{same_named}
-use Rattle.nc_holds.proofs.OwnerMoves.{moved_off}
-use Rattle.nc_holds.proofs.OwnerSides.{side_move, move_covers}
+use Rattle.nc_holds.proofs.lists.Members.{of_append}
+use Rattle.nc_holds.proofs.owners.Lots.{same_named}
+use Rattle.nc_holds.proofs.owners.Moves.{moved_off}
+use Rattle.nc_holds.proofs.owners.Sides.{side_move, move_covers}
 use Rattle.nc_rows.specs.Ahead.{posts, sending}
 use Rattle.nc_rows.specs.Laws.{seen_at}
 use Rattle.nc_rows.specs.Parts.{rest_last}

@@ -31,8 +31,8 @@ use Rattle.nc_rules.specs.World.{WorldState, driver_of}
 use Rattle.nc_scripts.proofs.LotLaws.{its_name}
 use Rattle.nc_scripts.proofs.LotMoves.{IsPartIn, entry_part}
 use Rattle.nc_holds.specs.Held.{SharesNone}
-use Rattle.nc_holds.proofs.ListsA.{all_at}
-use Rattle.nc_holds.proofs.OwnerLots.{entry_in}
+use Rattle.nc_holds.proofs.lists.Members.{all_at}
+use Rattle.nc_holds.proofs.owners.Lots.{entry_in}
 use Rattle.nc_transfers.specs.Transfers.{Ends, IsCopying}
 use Rattle.nc_transfers.proofs.SettingUp.{copies_set_up}
 use Rattle.nc_flatness.specs.Copying.{CopyOp, source_range, target_range, polls, registers, registers_coming, register_entries, IsOneRange, AreItsEnds, IsEndAt, span_of, IsUnderWay, IsItsOwn, IsBegun, IsCopyNow, CopyStands}

@@ -30,8 +30,8 @@ use Rattle.nc_rules.specs.World.{WorldState, no_driver, driver_of, owners_moved}
 use Rattle.nc_scripts.specs.Drivers.{IsLotIn, AreApart}
 use Rattle.nc_scripts.proofs.LotLaws.{its_name}
 use Rattle.nc_holds.specs.Held.{OwnersAgree}
-use Rattle.nc_holds.proofs.EventHolds.{next_is}
-use Rattle.nc_holds.proofs.OwnerLots.{same_named}
+use Rattle.nc_holds.proofs.events.Holds.{next_is}
+use Rattle.nc_holds.proofs.owners.Lots.{same_named}
 use Rattle.nc_rows.specs.Rows.{Loan}
 use Rattle.nc_flatness.specs.Books.{loan_by, loan_of, book_of}
 use Rattle.nc_flatness.specs.Copying.{polls}

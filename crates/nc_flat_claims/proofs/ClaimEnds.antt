@@ -20,7 +20,7 @@ use Rattle.nc_rules.specs.Lots.{DriverConfig, map_id}
 use Rattle.nc_rules.specs.Plans.{lending_end}
 use Rattle.nc_rules.specs.Turns.{is_area}
 use Rattle.nc_rules.specs.World.{WorldState, driver_of}
-use Rattle.nc_holds.proofs.ListsA.{same_some}
+use Rattle.nc_holds.proofs.lists.Members.{same_some}
 use Rattle.nc_rows.specs.Ahead.{same_lot, ends, names}
 use Rattle.nc_row_plans.specs.Plans.{IsEntryOf}
 use Rattle.nc_flatness.specs.Plans.{token_step}

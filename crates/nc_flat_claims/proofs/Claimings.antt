@@ -39,9 +39,9 @@ use Rattle.nc_scripts.specs.Drivers.{FitsKind, IsAtWork, IsPhase}
 use Rattle.nc_scripts.proofs.Lists.{all_to}
 use Rattle.nc_scripts.proofs.LotLaws.{its_name}
 use Rattle.nc_holds.specs.Holds.{DriverHolds}
-use Rattle.nc_holds.proofs.EventFrom.{everyone_from}
-use Rattle.nc_holds.proofs.ListsA.{all_at, none_at}
-use Rattle.nc_holds.proofs.OwnerLots.{same_named}
+use Rattle.nc_holds.proofs.events.From.{everyone_from}
+use Rattle.nc_holds.proofs.lists.Members.{all_at, none_at}
+use Rattle.nc_holds.proofs.owners.Lots.{same_named}
 use Rattle.nc_rows.specs.Ahead.{posts}
 use Rattle.nc_rows.specs.Parts.{IsQueued}
 use Rattle.nc_rows.specs.Rows.{Book}

@@ -22,8 +22,8 @@ use Rattle.nc_rules.specs.Turns.{without_wanted}
 use Rattle.nc_rules.specs.EventTouches.{owner_of}
 use Rattle.nc_rules.specs.World.{WorldState, driver_of}
 use Rattle.nc_scripts.proofs.Lists.{all_in}
-use Rattle.nc_holds.proofs.ListsA.{of_filter}
-use Rattle.nc_holds.proofs.OwnerEnds.{left_all}
+use Rattle.nc_holds.proofs.lists.Members.{of_filter}
+use Rattle.nc_holds.proofs.owners.Ends.{left_all}
 use Rattle.nc_rows.specs.Ahead.{sending}
 use Rattle.nc_rows.proofs.Steps.{steps_ahead}
 use Rattle.nc_flatness.specs.Books.{loan_by, loan_of, book_of, mapping_in}

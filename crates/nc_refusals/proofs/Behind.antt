@@ -25,9 +25,9 @@ use Rattle.nc_rules.specs.Outcomes.{Outcome, drain_outcome, outcome}
 use Rattle.nc_rules.specs.World.{WorldState, no_driver, driver_of, with_moves}
 use Rattle.nc_scripts.specs.Drivers.{IsPhase, IsLentAt}
 use Rattle.nc_holds.specs.Holds.{Holds}
-use Rattle.nc_holds.proofs.EventGiven.{IsEvent}
-use Rattle.nc_holds.proofs.EventHolds.{next_is, next_same}
-use Rattle.nc_holds.proofs.TokenGoesOn.{tokens_are_lent}
+use Rattle.nc_holds.proofs.events.Given.{IsEvent}
+use Rattle.nc_holds.proofs.events.Holds.{next_is, next_same}
+use Rattle.nc_holds.proofs.tokens.GoesOn.{tokens_are_lent}
 use Rattle.nc_flatness.specs.Flatness.{IsWorldOf}
 use Rattle.nc_flatness.proofs.worlds.Worlds.{event_now}
 use Rattle.nc_refusals.proofs.Outcomes.{Made, Starts, Hears, Acts, made}

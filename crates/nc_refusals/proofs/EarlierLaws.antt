@@ -27,7 +27,7 @@ use Rattle.nc_rules.specs.Run.{after}
 use Rattle.nc_rules.specs.World.{WorldState, driver_of, with_driver, with_machine, with_moves, start}
 use Rattle.nc_scripts.specs.Drivers.{IsPhase}
 use Rattle.nc_scripts.proofs.Lists.{all_left, all_right}
-use Rattle.nc_holds.proofs.EventHolds.{next_is, next_same}
+use Rattle.nc_holds.proofs.events.Holds.{next_is, next_same}
 use Rattle.nc_flatness.specs.Flatness.{IsWorldOf}
 use Rattle.nc_flatness.proofs.worlds.Worlds.{worlds_start, worlds_stay}
 use Rattle.nc_refusals.specs.Refused.{refuses, maker, acted, Refuses, TakesOneWord, IsLeftButWord, IsOneStep}

@@ -17,7 +17,7 @@ use Rattle.nc_rules.specs.Run.{after}
 use Rattle.nc_rules.specs.World.{WorldState, driver_of, start}
 use Rattle.nc_scripts.specs.Drivers.{IsPhase, IsSettled, IsEndName}
 use Rattle.nc_scripts.proofs.Lists.{all_to, all_left, all_right}
-use Rattle.nc_holds.proofs.EventHolds.{next_is}
+use Rattle.nc_holds.proofs.events.Holds.{next_is}
 use Rattle.nc_flatness.specs.Flatness.{IsWorldOf}
 use Rattle.nc_flatness.proofs.worlds.Worlds.{worlds_start, worlds_stay}
 use Rattle.nc_refusals.specs.Refused.{maker, acted}

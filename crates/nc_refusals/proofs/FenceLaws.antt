@@ -23,7 +23,7 @@ use Rattle.nc_rules.specs.Events.{enabled, may_go_on, is_out}
 use Rattle.nc_rules.specs.Next.{touched_by, after_outcome, counted, next}
 use Rattle.nc_rules.specs.Outcomes.{Outcome, outcome, step_outcome, op_outcome}
 use Rattle.nc_rules.specs.World.{WorldState, driver_of}
-use Rattle.nc_holds.proofs.EventHolds.{next_is}
+use Rattle.nc_holds.proofs.events.Holds.{next_is}
 use Rattle.nc_refusals.specs.Refused.{HasNoneOfWO}
 use Rattle.nc_refusals.specs.Laws.{FencesEmptyQueues}
 

@@ -28,7 +28,7 @@ use Rattle.nc_rules.specs.Driver.{DriverState, Went, in_hand, next_of, next_of_o
 use Rattle.nc_scripts.specs.Drivers.{IsPhase, ClaimsNothing, ClaimsFirst, is_claim}
 use Rattle.nc_scripts.proofs.DriverLaws.{next_step_is}
 use Rattle.nc_scripts.specs.Scripts.{is_act}
-use Rattle.nc_holds.proofs.CallNumbers.{step_turns}
+use Rattle.nc_holds.proofs.calls.Numbers.{step_turns}
 use Rattle.nc_refusals.proofs.Heads.{begins_claim, quiet_opening}
 use Rattle.nc_refusals.proofs.Numbers.{number_last}
 

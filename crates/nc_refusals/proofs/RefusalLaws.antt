@@ -13,7 +13,7 @@ use Rattle.nc_rules.specs.Driver.{Went, give_up, started, told, done}
 use Rattle.nc_rules.specs.Next.{touched_by, after_outcome, counted}
 use Rattle.nc_rules.specs.Outcomes.{Outcome, goes, outcome}
 use Rattle.nc_rules.specs.World.{WorldState, driver_of, with_driver, with_machine, with_moves}
-use Rattle.nc_holds.proofs.EventHolds.{next_is}
+use Rattle.nc_holds.proofs.events.Holds.{next_is}
 use Rattle.nc_refusals.specs.Refused.{refuses, acted}
 use Rattle.nc_refusals.specs.Laws.{LeavesAll, RefusalsLeaveAll}
 use Rattle.nc_refusals.proofs.Calls.{GivesUp, start_up, told_up, done_up}

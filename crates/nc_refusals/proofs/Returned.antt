@@ -46,19 +46,19 @@ use Rattle.nc_scripts.proofs.SlotLaws.{lots_given}
 use Rattle.nc_holds.specs.Held.{Held}
 use Rattle.nc_holds.specs.Changes.{Turned, changed}
 use Rattle.nc_holds.specs.Holds.{Holds, held_of, mover}
-use Rattle.nc_holds.proofs.ListsA.{in_filter, all_at, at_get}
-use Rattle.nc_holds.proofs.WordLists.{freed, kept}
-use Rattle.nc_holds.proofs.OwnerMoves.{length-moved, moved_to, in_named}
-use Rattle.nc_holds.proofs.OwnerSlots.{in_given}
-use Rattle.nc_holds.proofs.OwnerEnds.{end_move}
-use Rattle.nc_holds.proofs.OwnerLots.{below}
-use Rattle.nc_holds.proofs.GrantMoves.{of_ended, in_ids, map_self}
-use Rattle.nc_holds.proofs.CallShapes.{As, Makes, Gets, Begins, Stays, Drops, Turns, Ends, IsQuietTurn, Plainly, ByArea, Shape}
-use Rattle.nc_holds.proofs.EventMoves.{moved_by, both_turned}
-use Rattle.nc_holds.proofs.EventFrom.{GoesOn, fixed_in}
+use Rattle.nc_holds.proofs.lists.Members.{in_filter, all_at, at_get}
+use Rattle.nc_holds.proofs.words.Lists.{freed, kept}
+use Rattle.nc_holds.proofs.owners.Moves.{length-moved, moved_to, in_named}
+use Rattle.nc_holds.proofs.owners.Slots.{in_given}
+use Rattle.nc_holds.proofs.owners.Ends.{end_move}
+use Rattle.nc_holds.proofs.owners.Lots.{below}
+use Rattle.nc_holds.proofs.grants.Moves.{of_ended, in_ids, map_self}
+use Rattle.nc_holds.proofs.calls.Shapes.{As, Makes, Gets, Begins, Stays, Drops, Turns, Ends, IsQuietTurn, Plainly, ByArea, Shape}
+use Rattle.nc_holds.proofs.events.Moves.{moved_by, both_turned}
+use Rattle.nc_holds.proofs.events.From.{GoesOn, fixed_in}
 use Rattle.nc_rules.specs.declared.records.Record.{Record}
-use Rattle.nc_holds.proofs.EventSteps.{OutcomeIs, Runs, Goes, outcome_is}
-use Rattle.nc_holds.proofs.EventHolds.{next_is, next_same}
+use Rattle.nc_holds.proofs.events.Steps.{OutcomeIs, Runs, Goes, outcome_is}
+use Rattle.nc_holds.proofs.events.Holds.{next_is, next_same}
 use Rattle.nc_flatness.specs.Flatness.{IsWorldOf}
 use Rattle.nc_flatness.proofs.worlds.Worlds.{worlds_start, event_now}
 use Rattle.nc_refusals.specs.Returned.{HasLentEnd, IsGone, IsReturned}

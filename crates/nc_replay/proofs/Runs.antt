@@ -29,8 +29,8 @@ use Rattle.nc_rules.specs.Sound.{IsMachine}
 use Rattle.nc_rules.specs.World.{WorldState, start}
 use Rattle.nc_counts.specs.Counts.{is_event}
 use Rattle.nc_counts.proofs.Tells.{count-cons, outcome_tells}
-use Rattle.nc_holds.proofs.EventGiven.{IsEvent}
-use Rattle.nc_holds.proofs.EventHolds.{next_same}
+use Rattle.nc_holds.proofs.events.Given.{IsEvent}
+use Rattle.nc_holds.proofs.events.Holds.{next_same}
 use Rattle.nc_flatness.specs.Flatness.{IsWorldOf}
 use Rattle.nc_flatness.proofs.worlds.Worlds.{worlds_start, worlds_stay, event_now}
 use Rattle.nc_sched.specs.Replay.{done_events, done_of, scheduled}

@@ -17,10 +17,10 @@ use Rattle.nc_rules.specs.Next.{touched_by, after_outcome, counted, next}
 use Rattle.nc_rules.specs.Outcomes.{Outcome, outcome}
 use Rattle.nc_rules.specs.World.{WorldState, with_moves, grants_added, grants_ended}
 use Rattle.nc_holds.specs.Holds.{CanAddAll, mover}
-use Rattle.nc_holds.proofs.EventGiven.{IsEvent}
-use Rattle.nc_holds.proofs.EventHolds.{next_is, moves_may}
-use Rattle.nc_holds.proofs.ListsA.{same_some}
-use Rattle.nc_holds.proofs.OwnerGiven.{owner_laws}
+use Rattle.nc_holds.proofs.events.Given.{IsEvent}
+use Rattle.nc_holds.proofs.events.Holds.{next_is, moves_may}
+use Rattle.nc_holds.proofs.lists.Members.{same_some}
+use Rattle.nc_holds.proofs.owners.Given.{owner_laws}
 use Rattle.nc_slot_laws.specs.Slots.{GrantsAreApart}
 
 -- ---- by number

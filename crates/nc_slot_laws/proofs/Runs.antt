@@ -10,8 +10,8 @@ use Rattle.nc_rules.specs.Flat.{AreThere}
 use Rattle.nc_rules.specs.Next.{next}
 use Rattle.nc_rules.specs.Run.{after}
 use Rattle.nc_rules.specs.World.{WorldState, start}
-use Rattle.nc_holds.proofs.EventGiven.{IsEvent}
-use Rattle.nc_holds.proofs.EventHolds.{next_same}
+use Rattle.nc_holds.proofs.events.Given.{IsEvent}
+use Rattle.nc_holds.proofs.events.Holds.{next_same}
 use Rattle.nc_flatness.specs.Flatness.{IsWorldOf}
 use Rattle.nc_flatness.proofs.worlds.Worlds.{worlds_start, worlds_stay, event_now}
 

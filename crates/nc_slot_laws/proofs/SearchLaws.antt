@@ -36,9 +36,9 @@ use Rattle.nc_rules.specs.Run as run
 use Rattle.nc_rules.specs.Start.{first_driver}
 use Rattle.nc_rules.specs.EventTouches.{issue_touch, poll_touch, drain_touch, transaction_touch}
 use Rattle.nc_rules.specs.World.{WorldState, no_driver, driver_of, with_moves, hart, start}
-use Rattle.nc_holds.proofs.CallTold.{slot_there}
-use Rattle.nc_holds.proofs.EventGiven.{IsEvent}
-use Rattle.nc_holds.proofs.EventHolds.{next_is, next_same}
+use Rattle.nc_holds.proofs.calls.Told.{slot_there}
+use Rattle.nc_holds.proofs.events.Given.{IsEvent}
+use Rattle.nc_holds.proofs.events.Holds.{next_is, next_same}
 use Rattle.nc_flatness.specs.Flatness.{IsWorldOf}
 use Rattle.nc_flatness.proofs.worlds.Worlds.{worlds_start, worlds_stay, event_now, driver_start}
 use Rattle.nc_counts.proofs.Plain.{plain_op, plain_drain, plain_answer, plain_read, plain_write, plain_backs}

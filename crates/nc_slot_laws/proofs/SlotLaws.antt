@@ -33,12 +33,12 @@ use Rattle.nc_rules.specs.Run.{after}
 use Rattle.nc_rules.specs.World.{WorldState, no_driver, driver_of, hart, with_moves, slots_back, start}
 use Rattle.nc_holds.specs.Held.{times_held, is_holder}
 use Rattle.nc_holds.specs.Holds.{Holds, DriverHolds}
-use Rattle.nc_holds.proofs.EventGiven.{IsEvent}
-use Rattle.nc_holds.proofs.EventHolds.{next_is}
-use Rattle.nc_holds.proofs.GrantWords.{slot_once, slot_holder, slot_harts}
-use Rattle.nc_holds.proofs.ListsA.{of_flat_map, same_some}
-use Rattle.nc_holds.proofs.OwnerLots.{same_lot}
-use Rattle.nc_holds.proofs.WordLists.{times, times-cons, own_hart}
+use Rattle.nc_holds.proofs.events.Given.{IsEvent}
+use Rattle.nc_holds.proofs.events.Holds.{next_is}
+use Rattle.nc_holds.proofs.grants.Words.{slot_once, slot_holder, slot_harts}
+use Rattle.nc_holds.proofs.lists.Members.{of_flat_map, same_some}
+use Rattle.nc_holds.proofs.owners.Lots.{same_lot}
+use Rattle.nc_holds.proofs.words.Lists.{times, times-cons, own_hart}
 use Rattle.nc_flatness.specs.Flatness.{IsWorldOf}
 use Rattle.nc_flatness.proofs.worlds.Worlds.{worlds_start}
 use Rattle.nc_slot_laws.specs.Slots.{HasSlot, IsOneEntry, HasOne, IsGivenOnce, EachIsGivenOnce}

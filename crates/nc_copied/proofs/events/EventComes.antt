@@ -26,7 +26,7 @@ use Rattle.nc_rules.specs.Operations.{plan_of}
 use Rattle.nc_rules.specs.Outcomes.{Outcome, outcome, drain_outcome, leaves}
 use Rattle.nc_rules.specs.Machine.{MachineState}
 use Rattle.nc_rules.specs.World.{WorldState, no_driver, driver_of}
-use Rattle.nc_holds.proofs.EventHolds.{next_is, next_same}
+use Rattle.nc_holds.proofs.events.Holds.{next_is, next_same}
 use Rattle.nc_flatness.specs.Flatness.{IsWorldOf}
 use Rattle.nc_refusals.proofs.Behind.{Behind, Same, Lent, Started, Told, Done, drivers_in, driver_now, mine, same_hart, behind}
 use Rattle.nc_refusals.proofs.Outcomes.{Made, Starts, Hears, Acts, made}

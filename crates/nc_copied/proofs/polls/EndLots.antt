@@ -15,7 +15,7 @@ use Rattle.nc_rules.specs.Copies.{source, target}
 use Rattle.nc_rules.specs.Lots.{is_lot}
 use Rattle.nc_rules.specs.World.{WorldState, driver_of}
 use Rattle.nc_scripts.specs.Drivers.{IsEndName, FitsKind}
-use Rattle.nc_holds.proofs.ListsA.{all_at}
+use Rattle.nc_holds.proofs.lists.Members.{all_at}
 use Rattle.nc_flatness.specs.Copying.{CopyOp, IsOneRange, AreItsEnds}
 use Rattle.nc_flatness.specs.Flatness.{Flatness}
 use Rattle.nc_flatness.proofs.books.Loans.{lot_in}

@@ -34,7 +34,7 @@ use Rattle.nc_scripts.specs.Scripts.{is_act}
 use Rattle.nc_scripts.proofs.NewLots.{new_is}
 use Rattle.nc_scripts.proofs.SlotLaws.{made_given}
 use Rattle.nc_holds.specs.Holds.{DriverHolds}
-use Rattle.nc_holds.proofs.ListsA.{all_at, at_get}
+use Rattle.nc_holds.proofs.lists.Members.{all_at, at_get}
 use Rattle.nc_flatness.specs.Copying.{copy_op, is_poll}
 use Rattle.nc_refusals.specs.Refused.{maker}
 use Rattle.nc_copied.proofs.polls.LastSteps.{tells, MakesLots, start_not, told_not, IsLastOf, done_last}

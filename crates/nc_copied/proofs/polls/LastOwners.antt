@@ -40,8 +40,8 @@ use Rattle.nc_rules.specs.EventTouches.{owner_of}
 use Rattle.nc_rules.specs.World.{WorldState, driver_of, owners_moved}
 use Rattle.nc_scripts.specs.Drivers.{IsLotIn, IsEndName}
 use Rattle.nc_scripts.proofs.LotLaws.{lots_stay}
-use Rattle.nc_holds.proofs.ListsA.{of_append, of_map, all_at}
-use Rattle.nc_holds.proofs.OwnerMoves.{moved_by, of_each, of_named}
+use Rattle.nc_holds.proofs.lists.Members.{of_append, of_map, all_at}
+use Rattle.nc_holds.proofs.owners.Moves.{moved_by, of_each, of_named}
 use Rattle.nc_rows.specs.Rows.{Row}
 use Rattle.nc_flatness.specs.Books.{book_of, mapping_in}
 use Rattle.nc_flatness.specs.Copying.{IsItsOwn}

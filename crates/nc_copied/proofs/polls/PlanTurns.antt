@@ -20,7 +20,7 @@ use Rattle.nc_rules.specs.Operations.{meaning, plan_of}
 use Rattle.nc_rules.specs.Plans.{hart_step, op_steps, turning, ending, carried, token_steps, lending_end, lend_steps, return_steps}
 use Rattle.nc_scripts.specs.Drivers.{IsEndName}
 use Rattle.nc_scripts.proofs.Lists.{found, all_to, all_in}
-use Rattle.nc_holds.proofs.QuietSteps.{IsQuiet, ending_quiet, beginning_quiet, return_quiet, carried_steps_quiet}
+use Rattle.nc_holds.proofs.tokens.QuietSteps.{IsQuiet, ending_quiet, beginning_quiet, return_quiet, carried_steps_quiet}
 use Rattle.nc_flatness.specs.Copying.{CopyOp, copy_op, is_poll, polls}
 
 -- ---- turns of ends

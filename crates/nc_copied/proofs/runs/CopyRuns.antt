@@ -39,7 +39,7 @@ use Rattle.nc_rules.specs.World.{WorldState, driver_of, start, hart, owners_move
 use Rattle.nc_scripts.specs.Drivers.{IsEndName}
 use Rattle.nc_scripts.proofs.Lists.{all_left, all_right}
 use Rattle.nc_holds.specs.Holds.{DriverHolds}
-use Rattle.nc_holds.proofs.EventHolds.{next_is}
+use Rattle.nc_holds.proofs.events.Holds.{next_is}
 use Rattle.nc_flatness.specs.Copying.{CopyOp, copy_op, is_poll, polls, IsItsOwn}
 use Rattle.nc_flatness.specs.Flatness.{Flatness}
 use Rattle.nc_flatness.specs.Plans.{PlanGoes}

@@ -27,7 +27,7 @@ use Rattle.nc_rules.specs.Records.{transfer_records, drain_records}
 use Rattle.nc_rules.specs.EventTouches.{owner_of, drain_touch}
 use Rattle.nc_rules.specs.World.{WorldState, driver_of}
 use Rattle.nc_holds.specs.Tokens.{token_of}
-use Rattle.nc_holds.proofs.ListsA.{all_at, at_get}
+use Rattle.nc_holds.proofs.lists.Members.{all_at, at_get}
 use Rattle.nc_rows.specs.Ahead.{names, is_full}
 use Rattle.nc_rows.specs.Parts.{IsQueued}
 use Rattle.nc_row_moves.specs.Laws.{is_token, IsDrain}

@@ -15,7 +15,7 @@ use Rattle.nc_rules.specs.Machine.{MachineState, queue_of}
 use Rattle.nc_rules.specs.EventTouches.{owner_of}
 use Rattle.nc_rules.specs.World.{WorldState}
 use Rattle.nc_calls.specs.PlaceLaws.{NotHeld, KeepsCoherence, may_leave_stale_copy}
-use Rattle.nc_holds.proofs.ListsA.{none_at}
+use Rattle.nc_holds.proofs.lists.Members.{none_at}
 use Rattle.nc_rows.specs.Rows.{Loan, Book, Either, AllocatingRow, LentRow, Row, ahead_of}
 use Rattle.nc_rows.specs.Parts.{IsAllocating, MayBeHeld}
 use Rattle.nc_flatness.specs.Books.{book_of, mapping_in}

@@ -31,9 +31,9 @@ use Rattle.nc_rules.specs.Turns.{to_side, of_those, with_side, lots_after, turne
 use Rattle.nc_rules.specs.EventTouches.{owner_of}
 use Rattle.nc_rules.specs.World.{WorldState, driver_of, hart, owners_moved}
 use Rattle.nc_holds.specs.Held.{IsEntryOf, OwnersAgree}
-use Rattle.nc_holds.proofs.ListsC.{nothing_behind}
-use Rattle.nc_holds.proofs.OwnerMoves.{moved_off}
-use Rattle.nc_holds.proofs.OwnerSides.{side_move, move_covers, owners_sided}
+use Rattle.nc_holds.proofs.lists.Changes.{nothing_behind}
+use Rattle.nc_holds.proofs.owners.Moves.{moved_off}
+use Rattle.nc_holds.proofs.owners.Sides.{side_move, move_covers, owners_sided}
 use Rattle.nc_rows.specs.Ahead.{names, settling}
 use Rattle.nc_rows.specs.Rows.{Loan}
 use Rattle.nc_row_moves.specs.Laws.{is_token_of, is_token, IsDrain}

@@ -13,8 +13,8 @@ use Rattle.nc_rules.specs.Lots.{is_lot, lot_id}
 use Rattle.nc_rules.specs.Machine.{queue_of}
 use Rattle.nc_rules.specs.World.{WorldState, driver_of}
 use Rattle.nc_scripts.proofs.LotLaws.{named_so, its_name}
-use Rattle.nc_holds.proofs.ListsA.{all_at, at_get}
-use Rattle.nc_holds.proofs.OwnerLots.{same_named}
+use Rattle.nc_holds.proofs.lists.Members.{all_at, at_get}
+use Rattle.nc_holds.proofs.owners.Lots.{same_named}
 use Rattle.nc_flatness.specs.Flatness.{Flatness}
 use Rattle.nc_flatness.specs.Tokens.{lot_token, is_lot_token, ends_lending, TokenStands}
 use Rattle.nc_flatness.proofs.tokens.Lents.{AreLending}

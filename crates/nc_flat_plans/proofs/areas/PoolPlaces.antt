@@ -12,7 +12,7 @@ use Rattle.nc_scen.specs.declared.scenario.Scenario.{Scenario}
 use Rattle.nc_rules.specs.EventTouches.{owner_of}
 use Rattle.nc_rules.specs.World.{WorldState, driver_of}
 use Rattle.nc_holds.specs.Held.{slots_span}
-use Rattle.nc_holds.proofs.ListsA.{same_some}
+use Rattle.nc_holds.proofs.lists.Members.{same_some}
 use Rattle.nc_rows.specs.Rows.{Loan}
 use Rattle.nc_flatness.specs.Books.{book_of, mapping_in}
 use Rattle.nc_flatness.specs.Flatness.{Flatness}

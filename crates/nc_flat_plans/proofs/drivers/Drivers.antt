@@ -23,7 +23,7 @@ use Rattle.nc_rules.specs.Lots.{DriverConfig, is_lot}
 use Rattle.nc_rules.specs.Turns.{lots_after, lots_after_both, transfers_of, turned_by}
 use Rattle.nc_rules.specs.Driver.{DriverState, Went, in_hand, kept, busy, went_to, done, done_of, done_unless, done_in, worked}
 use Rattle.nc_rules.specs.World.{WorldState, driver_of}
-use Rattle.nc_holds.proofs.OwnerEnds.{left_all}
+use Rattle.nc_holds.proofs.owners.Ends.{left_all}
 use Rattle.nc_rows.specs.Ahead.{ends, posts, stores_io, sends, is_settling, settling, act_coming, coming, sending}
 use Rattle.nc_rows.proofs.Steps.{steps_ahead}
 use Rattle.nc_flatness.specs.Lending.{is_lending}

@@ -29,10 +29,10 @@ use Rattle.nc_rules.specs.World.{WorldState, driver_of, hart, owners_moved}
 use Rattle.nc_scripts.proofs.LotLaws.{its_name, named_so}
 use Rattle.nc_holds.specs.Held.{OwnersAgree}
 use Rattle.nc_holds.specs.Holds.{DriverHolds}
-use Rattle.nc_holds.proofs.ListsA.{at_get}
-use Rattle.nc_holds.proofs.OwnerMoves.{length-moved, moved_to, moved_off, in_named}
-use Rattle.nc_holds.proofs.OwnerSides.{side_move, move_covers, owners_sided}
-use Rattle.nc_holds.proofs.OwnerEnds.{end_move}
+use Rattle.nc_holds.proofs.lists.Members.{at_get}
+use Rattle.nc_holds.proofs.owners.Moves.{length-moved, moved_to, moved_off, in_named}
+use Rattle.nc_holds.proofs.owners.Sides.{side_move, move_covers, owners_sided}
+use Rattle.nc_holds.proofs.owners.Ends.{end_move}
 use Rattle.nc_rows.specs.Rows.{Loan}
 use Rattle.nc_flatness.specs.Books.{is_entry_of, loan_by, loan_of, mapping_in}
 use Rattle.nc_flatness.specs.Copying.{IsItsOwn}

@@ -33,7 +33,7 @@ use Rattle.nc_rows.specs.Places.{CalmRow}
 use Rattle.nc_rows.specs.Rows.{Loan, Row}
 use Rattle.nc_rows.specs.Parts.{IsQueued, MayBeHeld, rest_last, LastIs}
 use Rattle.nc_row_issues.specs.Laws.{Enters}
-use Rattle.nc_holds.proofs.ListsA.{same_some}
+use Rattle.nc_holds.proofs.lists.Members.{same_some}
 use Rattle.nc_flatness.specs.Books.{is_entry_of, loan_of, book_of, mapping_in, LiesIn, IsPooled}
 use Rattle.nc_flatness.specs.Copying.{IsItsOwn}
 use Rattle.nc_flatness.specs.Flatness.{IsUnseen, BytesStand, Flatness}

@@ -23,7 +23,7 @@ use Rattle.nc_rules.specs.Driver.{DriverState, Went}
 use Rattle.nc_rules.specs.World.{WorldState, driver_of}
 use Rattle.nc_scripts.proofs.Lists.{all_in}
 use Rattle.nc_scripts.specs.Drivers.{AreApart}
-use Rattle.nc_holds.proofs.ListsA.{all_at}
+use Rattle.nc_holds.proofs.lists.Members.{all_at}
 use Rattle.nc_rows.specs.Ahead.{turns_lot, stores_io, tokens_lot}
 use Rattle.nc_row_issues.specs.Laws.{Enters}
 use Rattle.nc_flatness.specs.Plans.{IsBack, StepGoes, Loads, Stores, WritesBack, Drops, Gives, Fences, Ends, Zeroes, Flushes, Settles, GivesArea, TakesBack, Marks, Posts, Claims, Registers, Polls, TakesTarget, TakesSource}

@@ -27,7 +27,7 @@ use Rattle.nc_rules.specs.Machine.{MachineState, hart_of, queue_of}
 use Rattle.nc_rules.specs.Driver.{is_script}
 use Rattle.nc_rules.specs.EventTouches.{owner_of}
 use Rattle.nc_rules.specs.World.{WorldState, driver_of}
-use Rattle.nc_holds.proofs.ListsA.{all_at, at_get}
+use Rattle.nc_holds.proofs.lists.Members.{all_at, at_get}
 use Rattle.nc_rows.specs.Ahead.{same_lot, stores_io, tokens_lot, ends, gives_lot, act_coming, token, coming, turns_lot}
 use Rattle.nc_rows.specs.Parts.{rest_last}
 use Rattle.nc_rows.proofs.Steps.{steps_ahead}

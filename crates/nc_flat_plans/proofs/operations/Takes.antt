@@ -35,7 +35,7 @@ use Rattle.nc_rules.specs.EventTouches.{owner_of}
 use Rattle.nc_rules.specs.World.{WorldState, driver_of}
 use Rattle.nc_calls.specs.PlaceLaws.{drops_copies}
 use Rattle.nc_scripts.proofs.Lists.{all_in}
-use Rattle.nc_holds.proofs.ListsA.{all_at}
+use Rattle.nc_holds.proofs.lists.Members.{all_at}
 use Rattle.nc_rows.specs.Ahead.{same_lot, turns_lot, stores_io, tokens_lot, ends, is_full, act_coming, coming}
 use Rattle.nc_rows.specs.Parts.{IsDropped, rest_last}
 use Rattle.nc_row_issues.proofs.PlacePushes.{calm_pushed}

@@ -20,7 +20,7 @@ use Rattle.nc_rules.specs.Machine.{queue_of}
 use Rattle.nc_rules.specs.Driver.{Went}
 use Rattle.nc_rules.specs.EventTouches.{owner_of}
 use Rattle.nc_rules.specs.World.{WorldState, driver_of}
-use Rattle.nc_holds.proofs.ListsA.{same_some}
+use Rattle.nc_holds.proofs.lists.Members.{same_some}
 use Rattle.nc_rows.specs.Ahead.{ends, names}
 use Rattle.nc_rows.specs.Rows.{Loan}
 use Rattle.nc_rows.proofs.Steps.{steps_ahead}

@@ -28,7 +28,7 @@ use Rattle.nc_rules.specs.World.{WorldState, driver_of}
 use Rattle.nc_scripts.specs.Drivers.{FitsKind}
 use Rattle.nc_scripts.proofs.LotLaws.{named_so, its_name}
 use Rattle.nc_holds.specs.Held.{IsEntryOf}
-use Rattle.nc_holds.proofs.ListsA.{all_at}
+use Rattle.nc_holds.proofs.lists.Members.{all_at}
 use Rattle.nc_rows.specs.Rows.{Loan, device_place}
 use Rattle.nc_rows.specs.Ahead.{same_lot, ends}
 use Rattle.nc_flatness.specs.Books.{is_entry_of, book_of, mapping_in}

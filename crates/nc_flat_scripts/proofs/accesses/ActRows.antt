@@ -26,7 +26,7 @@ use Rattle.nc_rules.specs.World.{WorldState, driver_of}
 use Rattle.nc_calls.specs.MachineLaws.{SameShape}
 use Rattle.nc_calls.specs.PlaceLaws.{NotHeld, Stays, Loads, Pushes}
 use Rattle.nc_scripts.proofs.Lists.{all_to}
-use Rattle.nc_holds.proofs.ListsC.{last_gone}
+use Rattle.nc_holds.proofs.lists.Changes.{last_gone}
 use Rattle.nc_rows.specs.Ahead.{is_full}
 use Rattle.nc_rows.specs.Rows.{Loan, Book, Row}
 use Rattle.nc_rows.specs.Laws.{seen_at, is_lent_area, area_of}

@@ -33,8 +33,8 @@ use Rattle.nc_calls.specs.PlaceLaws.{Stays}
 use Rattle.nc_calls.proofs.CallProofs.{channels_by_place}
 use Rattle.nc_calls.proofs.SoundLaws.{calls_keep_shape}
 use Rattle.nc_scripts.proofs.EveryDriver.{in_hand_is}
-use Rattle.nc_holds.proofs.MessageGoesOn.{for_hart}
-use Rattle.nc_holds.proofs.MessageStatus.{IsGiven, given_from}
+use Rattle.nc_holds.proofs.messages.GoesOn.{for_hart}
+use Rattle.nc_holds.proofs.messages.Status.{IsGiven, given_from}
 use Rattle.nc_rows.specs.Ahead.{is_mail, sending}
 use Rattle.nc_rows.specs.Places.{ThreadRow}
 use Rattle.nc_rows.specs.Parts.{rest_last}

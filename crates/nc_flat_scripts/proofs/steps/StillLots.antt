@@ -16,7 +16,7 @@ use Rattle.nc_rules.specs.Lots.{DriverConfig, owner_of_side}
 use Rattle.nc_rules.specs.Machine.{queue_of}
 use Rattle.nc_rules.specs.EventTouches.{owner_of}
 use Rattle.nc_rules.specs.World.{WorldState, driver_of}
-use Rattle.nc_holds.proofs.ListsA.{all_at}
+use Rattle.nc_holds.proofs.lists.Members.{all_at}
 use Rattle.nc_rows.specs.Ahead.{ends, names, coming}
 use Rattle.nc_rows.proofs.Steps.{steps_ahead}
 use Rattle.nc_row_moves.proofs.Tests.{bare_names}

@@ -48,12 +48,12 @@ use Rattle.nc_scripts.proofs.LotLaws.{its_name}
 use Rattle.nc_scripts.proofs.NewLots.{area_is, AreNew, new_is}
 use Rattle.nc_holds.specs.Held.{EntriesAreApart}
 use Rattle.nc_holds.specs.Holds.{held_of}
-use Rattle.nc_holds.proofs.EventFrom.{everyone_from}
-use Rattle.nc_holds.proofs.ListsA.{of_append, all_at}
-use Rattle.nc_holds.proofs.OwnerAreas.{new_area, area_mine}
-use Rattle.nc_holds.proofs.OwnerFacts.{IsMaking}
-use Rattle.nc_holds.proofs.OwnerLots.{area_only, SameSpans, apart_from, same_spans}
-use Rattle.nc_holds.proofs.OwnerPages.{area_entry}
+use Rattle.nc_holds.proofs.events.From.{everyone_from}
+use Rattle.nc_holds.proofs.lists.Members.{of_append, all_at}
+use Rattle.nc_holds.proofs.owners.Areas.{new_area, area_mine}
+use Rattle.nc_holds.proofs.owners.Facts.{IsMaking}
+use Rattle.nc_holds.proofs.owners.Lots.{area_only, SameSpans, apart_from, same_spans}
+use Rattle.nc_holds.proofs.owners.Pages.{area_entry}
 use Rattle.nc_rows.specs.Ahead.{settling, coming}
 use Rattle.nc_rows.specs.Rows.{Loan, ahead_of, AllocatingRow, GivingRow, LentRow}
 use Rattle.nc_row_plans.proofs.PlanBegins.{rows_begin}

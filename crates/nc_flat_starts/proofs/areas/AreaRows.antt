@@ -27,7 +27,7 @@ use Rattle.nc_rules.specs.Driver.{Went, in_hand, with_lots, went_to}
 use Rattle.nc_rules.specs.World.{WorldState, driver_of}
 use Rattle.nc_scripts.specs.Drivers.{IsLotIn}
 use Rattle.nc_holds.specs.Held.{slots_span}
-use Rattle.nc_holds.proofs.OwnerLots.{area_covers}
+use Rattle.nc_holds.proofs.owners.Lots.{area_covers}
 use Rattle.nc_rows.specs.Ahead.{names, settling, coming}
 use Rattle.nc_rows.specs.Laws.{seen_at, place_of}
 use Rattle.nc_rows.specs.Places.{ThreadRow, PoolRow}

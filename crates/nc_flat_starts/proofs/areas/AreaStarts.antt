@@ -36,8 +36,8 @@ use Rattle.nc_rules.specs.EventTouches.{owner_of}
 use Rattle.nc_rules.specs.World.{WorldState, driver_of}
 use Rattle.nc_scripts.proofs.DriverSteps.{passed}
 use Rattle.nc_scripts.proofs.NewLots.{behind_test, free_none, some_is}
-use Rattle.nc_holds.proofs.OwnerLots.{entry_in}
-use Rattle.nc_holds.proofs.OwnerPages.{area_entry}
+use Rattle.nc_holds.proofs.owners.Lots.{entry_in}
+use Rattle.nc_holds.proofs.owners.Pages.{area_entry}
 use Rattle.nc_flatness.specs.Flatness.{BytesStand}
 use Rattle.nc_flatness.specs.Plans.{IsStill, StillDevice, StillSynced, StillOwn, StillSent, IsAreaBack}
 use Rattle.nc_flatness.proofs.plans.Copies.{is_copy}

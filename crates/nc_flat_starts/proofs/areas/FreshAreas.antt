@@ -30,10 +30,10 @@ use Rattle.nc_calls.specs.PlaceLaws.{NotHeld, may_leave_stale_copy}
 use Rattle.nc_scripts.specs.Drivers.{IsFixed, IsLotIn}
 use Rattle.nc_holds.specs.Held.{FitsSide, IsTaken}
 use Rattle.nc_holds.specs.Holds.{held_of}
-use Rattle.nc_holds.proofs.ListsA.{all_at}
-use Rattle.nc_holds.proofs.OwnerAreas.{IsNewArea, area_off}
-use Rattle.nc_holds.proofs.OwnerLots.{area_in, area_covers}
-use Rattle.nc_holds.proofs.OwnerPages.{area_entry}
+use Rattle.nc_holds.proofs.lists.Members.{all_at}
+use Rattle.nc_holds.proofs.owners.Areas.{IsNewArea, area_off}
+use Rattle.nc_holds.proofs.owners.Lots.{area_in, area_covers}
+use Rattle.nc_holds.proofs.owners.Pages.{area_entry}
 use Rattle.nc_rows.specs.Places.{PoolRow}
 use Rattle.nc_rows.specs.Rows.{Loan, device_place, gives_block, Row}
 use Rattle.nc_rows.specs.Parts.{IsDropped, IsQueued, MayBeHeld}

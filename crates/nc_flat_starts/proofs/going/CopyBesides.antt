@@ -17,8 +17,8 @@ use Rattle.nc_rules.specs.Lots.{DriverConfig}
 use Rattle.nc_rules.specs.Turns.{is_area}
 use Rattle.nc_rules.specs.World.{WorldState, driver_of}
 use Rattle.nc_holds.specs.Held.{slots_span}
-use Rattle.nc_holds.proofs.GrantWords.{slot_once}
-use Rattle.nc_holds.proofs.OwnerLots.{entry_in}
+use Rattle.nc_holds.proofs.grants.Words.{slot_once}
+use Rattle.nc_holds.proofs.owners.Lots.{entry_in}
 use Rattle.nc_rows.specs.Ahead.{same_lot}
 use Rattle.nc_flatness.proofs.books.Seen.{slot_block}
 use Rattle.nc_flatness.specs.Plans.{device_of}

@@ -49,8 +49,8 @@ use Rattle.nc_rules.specs.Turns.{is_area, with_side, set_side, lots_after}
 use Rattle.nc_scripts.specs.Drivers.{AreApart}
 use Rattle.nc_scripts.proofs.Lists.{all_in, all_to, all_filtered}
 use Rattle.nc_scripts.proofs.LotLaws.{its_name}
-use Rattle.nc_holds.proofs.ListsA.{all_at, at_get, in_filter}
-use Rattle.nc_holds.proofs.OwnerLots.{same_named}
+use Rattle.nc_holds.proofs.lists.Members.{all_at, at_get, in_filter}
+use Rattle.nc_holds.proofs.owners.Lots.{same_named}
 use Rattle.nc_rows.specs.Ahead.{same_lot, ends, posts, is_full, token, act_coming, coming}
 use Rattle.nc_rows.specs.Parts.{rest_last}
 use Rattle.nc_rows.proofs.Steps.{next, last}

@@ -11,7 +11,7 @@ use Rattle.nc_plan.specs.Plans.{In, moved}
 use Rattle.nc_plan.proofs.PlanLaws.{in_left, in_right}
 use Rattle.nc_sg.specs.declared.list.Entry.{Entry}
 use Rattle.nc_holds.specs.Held.{SharesNone}
-use Rattle.nc_holds.proofs.ListsA.{all_at, at_get}
+use Rattle.nc_holds.proofs.lists.Members.{all_at, at_get}
 use Rattle.nc_scripts.proofs.Lists.{all_in}
 use Rattle.nc_flatness.specs.Plans.{IsWithin}
 

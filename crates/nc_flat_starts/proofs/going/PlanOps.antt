@@ -32,7 +32,7 @@ use Rattle.nc_rules.specs.Lots.{DriverConfig, parts}
 use Rattle.nc_rules.specs.Plans.{hart_step, op_steps}
 use Rattle.nc_calls.specs.PlaceLaws.{drops_copies}
 use Rattle.nc_scripts.proofs.Lists.{all_in, all_to}
-use Rattle.nc_holds.proofs.ListsA.{of_map, of_flat_map, get_at}
+use Rattle.nc_holds.proofs.lists.Members.{of_map, of_flat_map, get_at}
 use Rattle.nc_rows.specs.Ahead.{ends, posts, op_coming}
 use Rattle.nc_rows.specs.Parts.{rest_last}
 use Rattle.nc_row_plans.specs.Plans.{WritesBack, DropsBlocks}

@@ -32,7 +32,7 @@ use Rattle.nc_rules.specs.Plans.{hart_step, op_steps, turning, ending, return_st
 use Rattle.nc_rules.specs.Turns.{lots_after}
 use Rattle.nc_scripts.proofs.Lists.{all_in, all_to}
 use Rattle.nc_holds.specs.Held.{SharesNone}
-use Rattle.nc_holds.proofs.ListsA.{get_at}
+use Rattle.nc_holds.proofs.lists.Members.{get_at}
 use Rattle.nc_rows.specs.Ahead.{same_lot, turns_lot, gives_lot, ends, is_full, op_coming, token, coming}
 use Rattle.nc_rows.proofs.Steps.{next, last, steps_ahead}
 use Rattle.nc_row_plans.specs.Plans.{DropsBlocks}

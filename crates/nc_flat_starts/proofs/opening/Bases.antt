@@ -30,10 +30,10 @@ use Rattle.nc_scripts.specs.Drivers.{FitsKind, IsEntryIn, IsLotIn, AreApart}
 use Rattle.nc_scripts.proofs.Lists.{none_any, position_any}
 use Rattle.nc_holds.specs.Held.{Held, FitsSide, LiesInBuffer, slots_span}
 use Rattle.nc_holds.specs.Holds.{held_of}
-use Rattle.nc_holds.proofs.EventFrom.{EveryoneIn}
-use Rattle.nc_holds.proofs.GrantWords.{slot_once, slot_holder, slot_harts}
-use Rattle.nc_holds.proofs.ListsA.{all_at, at_get, none_of, get_at}
-use Rattle.nc_holds.proofs.OwnerLots.{same_lot, entry_in, area_direct}
+use Rattle.nc_holds.proofs.events.From.{EveryoneIn}
+use Rattle.nc_holds.proofs.grants.Words.{slot_once, slot_holder, slot_harts}
+use Rattle.nc_holds.proofs.lists.Members.{all_at, at_get, none_of, get_at}
+use Rattle.nc_holds.proofs.owners.Lots.{same_lot, entry_in, area_direct}
 use Rattle.nc_rules.specs.EventTouches.{owner_of}
 use Rattle.nc_model.specs.declared.owners.Owner.{Owner}
 use Rattle.nc_rows.specs.Laws.{seen_at}

@@ -25,8 +25,8 @@ use Rattle.nc_scripts.specs.Drivers.{IsLotIn, AreApart}
 use Rattle.nc_scripts.proofs.Lists.{all_to}
 use Rattle.nc_scripts.proofs.LotLaws.{its_name}
 use Rattle.nc_holds.specs.Held.{EntriesAreApart}
-use Rattle.nc_holds.proofs.OwnerLots.{same_named}
-use Rattle.nc_holds.proofs.OwnerSides.{OthersOwn}
+use Rattle.nc_holds.proofs.owners.Lots.{same_named}
+use Rattle.nc_holds.proofs.owners.Sides.{OthersOwn}
 use Rattle.nc_calls.specs.PlaceLaws.{NotHeld}
 use Rattle.nc_rows.specs.Ahead.{same_lot, is_full, settling, coming}
 use Rattle.nc_rows.specs.Laws.{seen_at, place_of}

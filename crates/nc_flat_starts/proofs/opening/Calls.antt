@@ -46,10 +46,10 @@ use Rattle.nc_scripts.specs.Drivers.{IsSettled, AreMade, made_names}
 use Rattle.nc_scripts.proofs.EveryDriver.{in_hand_is}
 use Rattle.nc_scripts.proofs.Lists.{all_in, all_filtered, none_any}
 use Rattle.nc_scripts.proofs.LotLaws.{its_name}
-use Rattle.nc_holds.proofs.EventFrom.{EveryoneIn}
-use Rattle.nc_holds.proofs.ListsA.{of_append, all_at}
-use Rattle.nc_holds.proofs.OwnerEnds.{left_all}
-use Rattle.nc_holds.proofs.OwnerLots.{same_named}
+use Rattle.nc_holds.proofs.events.From.{EveryoneIn}
+use Rattle.nc_holds.proofs.lists.Members.{of_append, all_at}
+use Rattle.nc_holds.proofs.owners.Ends.{left_all}
+use Rattle.nc_holds.proofs.owners.Lots.{same_named}
 use Rattle.nc_rows.specs.Ahead.{ends, posts, settling, coming}
 use Rattle.nc_rows.proofs.Steps.{steps_ahead}
 use Rattle.nc_rows.specs.Parts.{rest_last}

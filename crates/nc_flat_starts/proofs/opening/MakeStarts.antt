@@ -37,12 +37,12 @@ use Rattle.nc_scripts.proofs.Lists.{all_in, all_to}
 use Rattle.nc_scripts.proofs.NewLots.{ranges_begin, behind_ranges, placeable_is, new_is}
 use Rattle.nc_holds.specs.Changes.{Made, MayMake}
 use Rattle.nc_holds.specs.Holds.{held_of}
-use Rattle.nc_holds.proofs.CallNew.{NewIs, Plain, OneArea, new_lots}
-use Rattle.nc_holds.proofs.EventFrom.{everyone_from}
-use Rattle.nc_holds.proofs.EventHart.{change_stays}
-use Rattle.nc_holds.proofs.ListsA.{all_at, of_append}
-use Rattle.nc_holds.proofs.OwnerFacts.{NoAreas}
-use Rattle.nc_holds.proofs.OwnerGiven.{owner_laws}
+use Rattle.nc_holds.proofs.calls.New.{NewIs, Plain, OneArea, new_lots}
+use Rattle.nc_holds.proofs.events.From.{everyone_from}
+use Rattle.nc_holds.proofs.events.Hart.{change_stays}
+use Rattle.nc_holds.proofs.lists.Members.{all_at, of_append}
+use Rattle.nc_holds.proofs.owners.Facts.{NoAreas}
+use Rattle.nc_holds.proofs.owners.Given.{owner_laws}
 use Rattle.nc_flatness.specs.Books.{loan_by}
 use Rattle.nc_flatness.specs.Copying.{CopyOp, copy_op}
 use Rattle.nc_flatness.specs.Flatness.{is_mapping, IsMapping, makes_kind, IsStillOrMade, BytesStand}

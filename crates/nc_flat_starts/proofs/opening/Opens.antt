@@ -31,10 +31,10 @@ use Rattle.nc_rules.specs.EventTouches.{owner_of}
 use Rattle.nc_rules.specs.World.{WorldState, driver_of, owners_moved}
 use Rattle.nc_scripts.proofs.Lists.{all_in}
 use Rattle.nc_scripts.proofs.LotLaws.{its_name}
-use Rattle.nc_holds.proofs.ListsA.{all_at}
-use Rattle.nc_holds.proofs.OwnerLots.{same_named}
-use Rattle.nc_holds.proofs.OwnerMoves.{moved_off}
-use Rattle.nc_holds.proofs.OwnerSides.{side_move, move_covers, owners_set}
+use Rattle.nc_holds.proofs.lists.Members.{all_at}
+use Rattle.nc_holds.proofs.owners.Lots.{same_named}
+use Rattle.nc_holds.proofs.owners.Moves.{moved_off}
+use Rattle.nc_holds.proofs.owners.Sides.{side_move, move_covers, owners_set}
 use Rattle.nc_rows.specs.Ahead.{ends, sending}
 use Rattle.nc_rows.specs.Laws.{seen_at}
 use Rattle.nc_rows.specs.Rows.{Loan, Book, Row}

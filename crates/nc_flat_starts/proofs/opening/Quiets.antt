@@ -30,10 +30,10 @@ use Rattle.nc_rules.specs.EventTouches.{owner_of}
 use Rattle.nc_rules.specs.World.{WorldState, driver_of, owners_moved}
 use Rattle.nc_scripts.proofs.Lists.{all_to}
 use Rattle.nc_scripts.proofs.LotLaws.{its_name}
-use Rattle.nc_holds.proofs.ListsA.{at_get}
-use Rattle.nc_holds.proofs.OwnerEnds.{IsEndMove, end_move}
-use Rattle.nc_holds.proofs.OwnerLots.{same_named}
-use Rattle.nc_holds.proofs.OwnerMoves.{moved_off, moved_to, in_named}
+use Rattle.nc_holds.proofs.lists.Members.{at_get}
+use Rattle.nc_holds.proofs.owners.Ends.{IsEndMove, end_move}
+use Rattle.nc_holds.proofs.owners.Lots.{same_named}
+use Rattle.nc_holds.proofs.owners.Moves.{moved_off, moved_to, in_named}
 use Rattle.nc_rows.specs.Ahead.{posts, sending}
 use Rattle.nc_rows.proofs.Steps.{steps_ahead}
 use Rattle.nc_rows.specs.Laws.{seen_at}

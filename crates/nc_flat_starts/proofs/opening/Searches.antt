@@ -32,10 +32,10 @@ use Rattle.nc_scripts.proofs.SlotLaws.{made_given}
 use Rattle.nc_holds.specs.Changes.{Got, WaitsUnlent}
 use Rattle.nc_holds.specs.Holds.{held_of}
 use Rattle.nc_holds.specs.Rests.{RestAt}
-use Rattle.nc_holds.proofs.EventFrom.{everyone_from}
-use Rattle.nc_holds.proofs.EventHart.{change_stays}
-use Rattle.nc_holds.proofs.ListsA.{all_at}
-use Rattle.nc_holds.proofs.OwnerGiven.{owner_laws}
+use Rattle.nc_holds.proofs.events.From.{everyone_from}
+use Rattle.nc_holds.proofs.events.Hart.{change_stays}
+use Rattle.nc_holds.proofs.lists.Members.{all_at}
+use Rattle.nc_holds.proofs.owners.Given.{owner_laws}
 use Rattle.nc_flatness.specs.Books.{loan_by}
 use Rattle.nc_flatness.specs.Copying.{CopyOp, IsBegun}
 use Rattle.nc_flatness.specs.Lending.{is_lending}

@@ -33,8 +33,8 @@ use Rattle.nc_scripts.specs.Drivers.{IsSettled, IsPhase}
 use Rattle.nc_scripts.proofs.Lists.{all_in, all_to, found}
 use Rattle.nc_holds.specs.Holds.{DriverHolds}
 use Rattle.nc_holds.specs.Rests.{RestAt}
-use Rattle.nc_holds.proofs.EventFrom.{everyone_from}
-use Rattle.nc_holds.proofs.ListsA.{all_at, none_at}
+use Rattle.nc_holds.proofs.events.From.{everyone_from}
+use Rattle.nc_holds.proofs.lists.Members.{all_at, none_at}
 use Rattle.nc_rows.specs.Ahead.{posts}
 use Rattle.nc_rows.specs.Parts.{rest_last}
 use Rattle.nc_flatness.specs.Books.{loan_of}

@@ -18,8 +18,8 @@ use Rattle.nc_rules.specs.World.{WorldState, driver_of}
 use Rattle.nc_scripts.specs.Drivers.{AreApart}
 use Rattle.nc_scripts.proofs.Lists.{all_in}
 use Rattle.nc_scripts.proofs.LotLaws.{its_name}
-use Rattle.nc_holds.proofs.ListsA.{all_at, none_of}
-use Rattle.nc_holds.proofs.OwnerLots.{same_named}
+use Rattle.nc_holds.proofs.lists.Members.{all_at, none_of}
+use Rattle.nc_holds.proofs.owners.Lots.{same_named}
 use Rattle.nc_rows.specs.Ahead.{names}
 use Rattle.nc_row_plans.specs.Begins.{NoneQueued}
 use Rattle.nc_flatness.specs.Flatness.{Flatness}

@@ -21,8 +21,8 @@ use Rattle.nc_rules.specs.Turns.{is_area, with_side, set_side, without_wanted}
 use Rattle.nc_scripts.specs.Drivers.{IsNamed, IsEnd, FitsKind, IsLotIn, AreApart}
 use Rattle.nc_holds.specs.Changes.{WaitsUnlent}
 use Rattle.nc_holds.specs.Held.{IsEntryOf}
-use Rattle.nc_holds.proofs.ListsA.{all_at}
-use Rattle.nc_holds.proofs.OwnerLots.{same_lot}
+use Rattle.nc_holds.proofs.lists.Members.{all_at}
+use Rattle.nc_holds.proofs.owners.Lots.{same_lot}
 use Rattle.nc_rows.specs.Rows.{Loan}
 use Rattle.nc_flatness.specs.Books.{is_entry_of, loan_by}
 use Rattle.nc_flat_starts.proofs.turning.Sides.{without_lot}

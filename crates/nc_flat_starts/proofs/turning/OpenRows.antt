@@ -40,8 +40,8 @@ use Rattle.nc_rules.specs.Turns.{is_area, set_side, of_those, to_side}
 use Rattle.nc_rules.specs.Driver.{DriverState, Went, in_hand, stands, with_lots, went_to}
 use Rattle.nc_rules.specs.World.{WorldState, driver_of}
 use Rattle.nc_scripts.specs.Drivers.{BouncesSo}
-use Rattle.nc_holds.proofs.ListsA.{all_at, at_get}
-use Rattle.nc_holds.proofs.OwnerLots.{entry_in}
+use Rattle.nc_holds.proofs.lists.Members.{all_at, at_get}
+use Rattle.nc_holds.proofs.owners.Lots.{entry_in}
 use Rattle.nc_rows.specs.Ahead.{ends, coming}
 use Rattle.nc_rows.specs.Laws.{seen_at}
 use Rattle.nc_rows.specs.Places.{ThreadRow, CalmRow, Alone}

@@ -16,8 +16,8 @@ use Rattle.nc_rules.specs.Turns.{is_area, with_side, set_side, lots_after}
 use Rattle.nc_scripts.specs.Drivers.{AreApart}
 use Rattle.nc_scripts.proofs.LotLaws.{named_so, its_name}
 use Rattle.nc_scripts.proofs.Lists.{all_in, all_to}
-use Rattle.nc_holds.proofs.ListsA.{all_at}
-use Rattle.nc_holds.proofs.OwnerLots.{same_lot}
+use Rattle.nc_holds.proofs.lists.Members.{all_at}
+use Rattle.nc_holds.proofs.owners.Lots.{same_lot}
 use Rattle.nc_flatness.specs.Plans.{IsStill, StillDevice, StillSynced, StillOwn, StillSent, IsBeside, IsInHand, IsBack, IsAreaBack}
 
 abbrev pub without_lot : LotId → List Lot → List Lot

@@ -15,8 +15,8 @@ use Rattle.nc_rules.specs.Turns.{is_area}
 use Rattle.nc_rules.specs.EventTouches.{owner_of}
 use Rattle.nc_rules.specs.World.{WorldState, driver_of}
 use Rattle.nc_holds.specs.Held.{LiesInBuffer, FitsSide, IsEntryOf}
-use Rattle.nc_holds.proofs.ListsA.{all_at, at_get, same_some}
-use Rattle.nc_holds.proofs.OwnerLots.{area_covers}
+use Rattle.nc_holds.proofs.lists.Members.{all_at, at_get, same_some}
+use Rattle.nc_holds.proofs.owners.Lots.{area_covers}
 use Rattle.nc_rows.specs.Rows.{Loan}
 use Rattle.nc_flatness.specs.Books.{book_of, IsOfArea}
 use Rattle.nc_flatness.specs.Flatness.{Flatness}

@@ -25,9 +25,9 @@ use Rattle.nc_scripts.proofs.Lists.{found, all_in}
 use Rattle.nc_scripts.proofs.LotLaws.{its_name}
 use Rattle.nc_holds.specs.Held.{IsEntryOf}
 use Rattle.nc_holds.specs.Holds.{Holds}
-use Rattle.nc_holds.proofs.ListsA.{all_at}
-use Rattle.nc_holds.proofs.OwnerLots.{same_named}
-use Rattle.nc_holds.proofs.OwnerLots as lots
+use Rattle.nc_holds.proofs.lists.Members.{all_at}
+use Rattle.nc_holds.proofs.owners.Lots.{same_named}
+use Rattle.nc_holds.proofs.owners.Lots as lots
 use Rattle.nc_rows.specs.Rows.{Loan}
 use Rattle.nc_flatness.specs.Books.{is_entry_of, loan_by, book_of}
 use Rattle.nc_flatness.specs.Flatness.{is_mapping, IsMapping, Flatness}

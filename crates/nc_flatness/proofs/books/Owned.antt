@@ -19,8 +19,8 @@ use Rattle.nc_rules.specs.World.{WorldState, driver_of, hart}
 use Rattle.nc_plan.specs.Plans.{In}
 use Rattle.nc_holds.specs.Held.{IsEntryOf, FitsSide}
 use Rattle.nc_holds.specs.Holds.{Holds}
-use Rattle.nc_holds.proofs.ListsA.{all_at}
-use Rattle.nc_holds.proofs.OwnerLots.{below}
+use Rattle.nc_holds.proofs.lists.Members.{all_at}
+use Rattle.nc_holds.proofs.owners.Lots.{below}
 use Rattle.nc_rows.specs.Rows.{Loan}
 use Rattle.nc_flatness.specs.Books.{book_of, mapping_in, LiesIn}
 use Rattle.nc_flatness.specs.Flatness.{Flatness}

@@ -23,9 +23,9 @@ use Rattle.nc_rules.specs.EventTouches.{owner_of}
 use Rattle.nc_rules.specs.World.{WorldState, driver_of, hart}
 use Rattle.nc_scripts.proofs.Lists.{position_any}
 use Rattle.nc_holds.specs.Held.{slots_span, LiesInBuffer, FitsSide, IsEntryOf}
-use Rattle.nc_holds.proofs.ListsA.{all_at, at_get, none_at, same_some}
-use Rattle.nc_holds.proofs.OwnerLots.{same_lot, entry_in}
-use Rattle.nc_holds.proofs.GrantWords.{slot_once, slot_holder, slot_harts}
+use Rattle.nc_holds.proofs.lists.Members.{all_at, at_get, none_at, same_some}
+use Rattle.nc_holds.proofs.owners.Lots.{same_lot, entry_in}
+use Rattle.nc_holds.proofs.grants.Words.{slot_once, slot_holder, slot_harts}
 use Rattle.nc_rows.specs.Rows.{Loan, device_place}
 use Rattle.nc_rows.specs.Laws.{place_of, seen_at}
 use Rattle.nc_flatness.specs.Books.{book_of, mapping_in}

@@ -20,8 +20,8 @@ use Rattle.nc_rules.specs.EventTouches.{owner_of}
 use Rattle.nc_rules.specs.World.{WorldState, driver_of}
 use Rattle.nc_scripts.specs.Drivers.{BouncesSo}
 use Rattle.nc_holds.specs.Held.{IsEntryOf}
-use Rattle.nc_holds.proofs.ListsA.{all_at, at_get}
-use Rattle.nc_holds.proofs.OwnerLots.{area_in}
+use Rattle.nc_holds.proofs.lists.Members.{all_at, at_get}
+use Rattle.nc_holds.proofs.owners.Lots.{area_in}
 use Rattle.nc_flatness.specs.Flatness.{Flatness}
 use Rattle.nc_flatness.proofs.books.Loans.{hart_of_lot, lot_in}
 use Rattle.nc_flatness.proofs.books.Owned.{IsMapped, of_buffer, entry_owned}

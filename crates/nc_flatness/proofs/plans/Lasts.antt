@@ -23,8 +23,8 @@ use Rattle.nc_rules.specs.Machine.{MachineState, hart_of}
 use Rattle.nc_rules.specs.EventTouches.{owner_of}
 use Rattle.nc_rules.specs.World.{WorldState, driver_of}
 use Rattle.nc_holds.specs.Held.{IsEntryOf}
-use Rattle.nc_holds.proofs.ListsA.{same_some}
-use Rattle.nc_holds.proofs.OwnerLots.{same_lot, entry_in}
+use Rattle.nc_holds.proofs.lists.Members.{same_some}
+use Rattle.nc_holds.proofs.owners.Lots.{same_lot, entry_in}
 use Rattle.nc_rows.specs.Rows.{Loan, device_place}
 use Rattle.nc_rows.specs.Rows.{Book}
 use Rattle.nc_rows.specs.Parts.{rest_last, IsPiece, LastIs}

@@ -31,7 +31,7 @@ use Rattle.nc_rules.specs.Lots.{DriverConfig, is_lot, map_id, parts}
 use Rattle.nc_rules.specs.Plans.{hart_step, op_steps, turning, carried, token_steps, lending_end, lend_steps}
 use Rattle.nc_rules.specs.Turns.{with_side, set_side, lots_after, lots_after_both}
 use Rattle.nc_rules.specs.World.{WorldState, no_driver, driver_of}
-use Rattle.nc_holds.proofs.ListsA.{all_at, in_filter, same_some}
+use Rattle.nc_holds.proofs.lists.Members.{all_at, in_filter, same_some}
 use Rattle.nc_holds.specs.Rests.{RestAt}
 use Rattle.nc_rows.specs.Ahead.{same_lot, turns_lot, gives_lot, settles_lot, stores_io, tokens_lot, ends, is_settling, settling, is_full}
 use Rattle.nc_rows.specs.Parts.{act_last, rest_last}

@@ -31,8 +31,8 @@ use Rattle.nc_scripts.specs.Drivers.{AreApart}
 use Rattle.nc_scripts.proofs.Lists.{all_in, all_filtered}
 use Rattle.nc_scripts.proofs.LotLaws.{its_name}
 use Rattle.nc_holds.specs.Held.{IsEntryOf}
-use Rattle.nc_holds.proofs.ListsA.{all_at}
-use Rattle.nc_holds.proofs.OwnerLots.{same_named}
+use Rattle.nc_holds.proofs.lists.Members.{all_at}
+use Rattle.nc_holds.proofs.owners.Lots.{same_named}
 use Rattle.nc_rows.specs.Ahead.{same_lot, turns_lot, gives_lot, settles_lot, stores_io, tokens_lot}
 use Rattle.nc_flatness.specs.Plans.{IsStill, StillDevice, IsBeside, IsInHand, HasLend, GoesIn, ComesOut, IsCopied, IsBack, IsDrop, IsEnd, IsAreaBack, IsCopyEnd, IsTaken, token_step, StepGoes, Loads, Stores, WritesBack, Drops, Gives, Fences, Ends, Zeroes, Flushes, Settles, GivesArea, TakesBack, Marks, Posts, Claims, Registers, Polls, TakesTarget, TakesSource, given_now, lots_behind, PlanGoes}
 use Rattle.nc_flatness.specs.Copying.{is_poll}

@@ -21,8 +21,8 @@ use Rattle.nc_scripts.specs.Drivers.{AreApart}
 use Rattle.nc_scripts.proofs.Lists.{all_in, all_to, all_filtered}
 use Rattle.nc_scripts.proofs.LotLaws.{its_name}
 use Rattle.nc_holds.specs.Tokens.{token_of}
-use Rattle.nc_holds.proofs.ListsA.{all_at, at_get}
-use Rattle.nc_holds.proofs.OwnerLots.{same_named}
+use Rattle.nc_holds.proofs.lists.Members.{all_at, at_get}
+use Rattle.nc_holds.proofs.owners.Lots.{same_named}
 use Rattle.nc_rows.specs.Ahead.{same_lot, turns_lot}
 use Rattle.nc_flatness.specs.Plans.{IsStill, HasLend, token_step}
 use Rattle.nc_flatness.specs.Tokens.{lot_token, is_lot_token, is_lending_side, ends_lending, is_sent, TokenStands}

@@ -33,12 +33,12 @@ use Rattle.nc_calls.proofs.SoundStart.{length-memory}
 use Rattle.nc_scripts.specs.Drivers.{NextIsThere, StaysDriver}
 use Rattle.nc_scripts.proofs.EveryDriver.{drivers_stay, op_there}
 use Rattle.nc_holds.specs.Holds.{Holds, mover}
-use Rattle.nc_holds.proofs.EventGiven.{IsEvent}
-use Rattle.nc_holds.proofs.EventSteps.{OutcomeIs, Runs, Goes, outcome_is}
-use Rattle.nc_holds.proofs.EventHolds.{next_is, next_same, next_holds}
-use Rattle.nc_holds.proofs.EventLast.{event_laws}
-use Rattle.nc_holds.proofs.OwnerGiven.{owner_laws}
-use Rattle.nc_holds.proofs.StartHolds.{start_holds}
+use Rattle.nc_holds.proofs.events.Given.{IsEvent}
+use Rattle.nc_holds.proofs.events.Steps.{OutcomeIs, Runs, Goes, outcome_is}
+use Rattle.nc_holds.proofs.events.Holds.{next_is, next_same, next_holds}
+use Rattle.nc_holds.proofs.events.Last.{event_laws}
+use Rattle.nc_holds.proofs.owners.Given.{owner_laws}
+use Rattle.nc_holds.proofs.starts.Holds.{start_holds}
 use Rattle.nc_flatness.specs.Flatness.{IsOf, IsWorldOf}
 use Rattle.nc_flatness.specs.Steps.{WorldsStart, WorldsStay}
 

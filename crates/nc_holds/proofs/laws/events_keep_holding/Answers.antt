@@ -1,6 +1,6 @@
-use Rattle.nc_holds.proofs.EventHolds.{next_holds}
-use Rattle.nc_holds.proofs.EventLast.{event_laws}
-use Rattle.nc_holds.proofs.OwnerGiven.{owner_laws}
+use Rattle.nc_holds.proofs.events.Holds.{next_holds}
+use Rattle.nc_holds.proofs.events.Last.{event_laws}
+use Rattle.nc_holds.proofs.owners.Given.{owner_laws}
 use Rattle.nc_holds.proofs.laws.events_keep_holding.Goals as goal
 
 pub returns : goal.returns

@@ -1,4 +1,4 @@
-use Rattle.nc_holds.proofs.TokenGoesOn as tokens
+use Rattle.nc_holds.proofs.tokens.GoesOn as tokens
 use Rattle.nc_holds.proofs.laws.tokens_are_lent.Goals as goal
 
 pub returns : goal.returns

@@ -1,0 +1,7 @@
+pub mod Plans
+pub mod New
+pub mod Numbers
+pub mod Shapes
+pub mod Starts
+pub mod Told
+pub mod Done

@@ -1,0 +1,5 @@
+pub mod Moves
+pub mod Sides
+pub mod Words
+pub mod Adds
+pub mod Lists

@@ -1,0 +1,12 @@
+pub mod Steps
+pub mod Worlds
+pub mod Owners
+pub mod Calls
+pub mod Moves
+pub mod Rests
+pub mod Status
+pub mod Goes
+pub mod Starts
+pub mod Events
+pub mod GoesOn
+pub mod Laws

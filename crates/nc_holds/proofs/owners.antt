@@ -1,0 +1,15 @@
+pub mod Facts
+pub mod Moves
+pub mod Lots
+pub mod Sides
+pub mod PageMaps
+pub mod Pages
+pub mod Ends
+pub mod Turns
+pub mod Begins
+pub mod Made
+pub mod Slots
+pub mod Laws
+pub mod Areas
+pub mod Waits
+pub mod Given

@@ -1,0 +1,13 @@
+pub mod QuietSteps
+pub mod Lots
+pub mod Rests
+pub mod Plans
+pub mod Opens
+pub mod Copies
+pub mod Keeps
+pub mod Calls
+pub mod Done
+pub mod Harts
+pub mod Events
+pub mod Worlds
+pub mod GoesOn
