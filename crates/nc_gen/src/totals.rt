@@ -92,7 +92,7 @@ pub fn summary(
     done: u64,
     noslot: u64,
 ) -> Result<Vec<u8>, NoMemory>
-    ensures { IfOk result (λ v. v.items ≡ line n harts w.now.at done noslot) }
+    ensures { IfOk result (λ v. v.items ≡ line n harts w.now.state done noslot) }
 {
     let mut text = String::new(alloc);
     put_run(&mut text, n, harts, w.events())?;

@@ -122,7 +122,7 @@ impl<N: SceneName, P: PoolName> Worker<N, P> {
     /// Gives back each slot that the core does not have as the hart's: its operation gave the core's word back, or its search
     /// was told of a word that the core had as another hart's.
     pub fn release(&mut self, crew: &Crew<N, P>, world: &World)
-        ensures slots { (k : ℕ) → k < N.scene.slots → has k self.new.mine.items ≡ (has k self.old.mine.items && is_held_by world.now.at.slots k self.old.me) }
+        ensures slots { (k : ℕ) → k < N.scene.slots → has k self.new.mine.items ≡ (has k self.old.mine.items && is_held_by world.now.state.slots k self.old.me) }
         ensures hart { self.new.me ≡ self.old.me }
     {
         for k in 0..crew.slots {
@@ -134,14 +134,14 @@ impl<N: SceneName, P: PoolName> Worker<N, P> {
 
     /// Tells whether the seat holds a slot that the core does not have as the hart's.
     fn is_left(&self, world: &World, k: u32) -> bool
-        ensures { result ≡ (has k self.now.mine.items && not (is_held_by world.now.at.slots k self.now.me)) }
+        ensures { result ≡ (has k self.now.mine.items && not (is_held_by world.now.state.slots k self.now.me)) }
     {
         self.holds(k) && !self.is_mine(world, k)
     }
 
     /// Tells whether the core has slot word k as the hart's.
     fn is_mine(&self, world: &World, k: u32) -> bool
-        ensures { result ≡ is_held_by world.now.at.slots k self.now.me }
+        ensures { result ≡ is_held_by world.now.state.slots k self.now.me }
     {
         match world.holder(k) {
             Some(g) => g.0 == self.me.0,

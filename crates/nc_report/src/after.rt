@@ -35,11 +35,11 @@ fn split(span: Span, size: u32) -> (Span, Span)
 
 /// Returns the bytes of a range: those of the caches, else memory's.
 fn bytes_of(alloc: Global, w: &World, size: u32, span: Span) -> Result<Vec<u8>, NoMemory>
-    requires size { w.now.at.machine.size ≡ size }
+    requires size { w.now.state.machine.size ≡ size }
     requires sized { IsBlockSize size }
-    requires inside { span.at + span.len ≤ length w.now.at.machine.cache.ram }
-    requires small { length w.now.at.machine.cache.ram ≤ 1048576 }
-    ensures { IfOk result (λ v. v.items ≡ bytes_of w.now.at.machine span) }
+    requires inside { span.at + span.len ≤ length w.now.state.machine.cache.ram }
+    requires small { length w.now.state.machine.cache.ram ≤ 1048576 }
+    ensures { IfOk result (λ v. v.items ≡ bytes_of w.now.state.machine span) }
 {
     let mut bytes = Vec::with_capacity(alloc, span.len as usize)?;
     let mut rest = span;
@@ -67,9 +67,9 @@ fn put_buffer(
 /// Writes the lines of the buffers.
 fn put_buffers(alloc: Global, text: &mut String, sc: &Scenario, w: &World) -> Result<(), NoMemory>
     requires accepted { IsAccepted sc.now }
-    requires size { w.now.at.machine.size ≡ sc.now.block_size }
-    requires ram { length w.now.at.machine.cache.ram ≡ sc.now.ram }
-    ensures { OnOk result (string_bytes text.new ≡ string_bytes text.old ++ buffer_lines w.now.at 0 sc.now.buffers) }
+    requires size { w.now.state.machine.size ≡ sc.now.block_size }
+    requires ram { length w.now.state.machine.cache.ram ≡ sc.now.ram }
+    ensures { OnOk result (string_bytes text.new ≡ string_bytes text.old ++ buffer_lines w.now.state 0 sc.now.buffers) }
 {
     for (i, b) in sc.buffers.as_slice().iter().enumerate() {
         let bytes = bytes_of(alloc, w, sc.block_size, b.span)?;
@@ -89,7 +89,7 @@ fn put_left(text: &mut String, h: u8, op: Option<u32>) -> Result<(), AllocError>
 
 /// Writes a line for each script that is not at its end.
 fn put_lefts(text: &mut String, w: &World) -> Result<(), AllocError>
-    ensures { OnOk result (string_bytes text.new ≡ string_bytes text.old ++ left_lines 0 w.now.at.drivers) }
+    ensures { OnOk result (string_bytes text.new ≡ string_bytes text.old ++ left_lines 0 w.now.state.drivers) }
 {
     for h in 0..w.harts() {
         put_left(text, h, w.left(HartNo(h)))?;
@@ -98,7 +98,7 @@ fn put_lefts(text: &mut String, w: &World) -> Result<(), AllocError>
 }
 
 fn put_end(text: &mut String, w: &World) -> Result<(), AllocError>
-    ensures { OnOk result (string_bytes text.new ≡ string_bytes text.old ++ end_line w.now.at) }
+    ensures { OnOk result (string_bytes text.new ≡ string_bytes text.old ++ end_line w.now.state) }
 {
     let events = w.events();
     let touches = w.touches();
@@ -114,9 +114,9 @@ fn put_end(text: &mut String, w: &World) -> Result<(), AllocError>
 #[tactic(auto, unfolding(nc_rules::specs::Lines::tail))]
 pub fn tail(alloc: Global, sc: &Scenario, w: &World) -> Result<Vec<u8>, NoMemory>
     requires accepted { IsAccepted sc.now }
-    requires size { w.now.at.machine.size ≡ sc.now.block_size }
-    requires ram { length w.now.at.machine.cache.ram ≡ sc.now.ram }
-    ensures { IfOk result (λ v. v.items ≡ tail sc.now w.now.at) }
+    requires size { w.now.state.machine.size ≡ sc.now.block_size }
+    requires ram { length w.now.state.machine.cache.ram ≡ sc.now.ram }
+    ensures { IfOk result (λ v. v.items ≡ tail sc.now w.now.state) }
 {
     let mut text = String::new(alloc);
     put_buffers(alloc, &mut text, sc, w)?;

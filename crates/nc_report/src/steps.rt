@@ -29,17 +29,17 @@ pub fn step_out<K: Sink>(
     e: Event,
     out: &mut K,
 ) -> Result<Stepped, Stop>
-    requires there { IsThere (length w.old.at.machine.harts) w.old.at.machine.size (length w.old.at.machine.cache.ram) e }
+    requires there { IsThere (length w.old.state.machine.harts) w.old.state.machine.size (length w.old.state.machine.cache.ram) e }
     requires none { w.old.records ≡ [] }
-    ensures answer { IfOk result (λ s. s ≡ stepped w.old.at e) }
-    ensures world { OnOk result (w.new ≡ record { at = next w.old.at e; records = [] }) }
-    ensures shape { OnOk result (SameShape w.old.at.machine w.new.at.machine) }
-    ensures written { OnOk result (Appends (K.held out.old) (K.held out.new) (flat_map line (event_records w.old.at e))) }
-    ensures front { OnErr result (GrowsByFront (K.held out.old) (K.held out.new) (flat_map line (event_records w.old.at e))) }
+    ensures answer { IfOk result (λ s. s ≡ stepped w.old.state e) }
+    ensures world { OnOk result (w.new ≡ record { state = next w.old.state e; records = [] }) }
+    ensures shape { OnOk result (SameShape w.old.state.machine w.new.state.machine) }
+    ensures written { OnOk result (Appends (K.held out.old) (K.held out.new) (flat_map line (event_records w.old.state e))) }
+    ensures front { OnErr result (GrowsByFront (K.held out.old) (K.held out.new) (flat_map line (event_records w.old.state e))) }
     ensures later { K.faults out.old ≤ K.faults out.new }
     ensures cause { result ≡ Err Stop.Failed → Rose (K.faults out.old) (K.faults out.new) }
-    ensures failed { result ≡ Err Stop.Failed → w.new ≡ record { at = next w.old.at e; records = [] } }
-    ensures memory { result ≡ Err Stop.NoMemory → (w.new ≡ w.old) ⊎ (w.new ≡ record { at = next w.old.at e; records = [] }) }
+    ensures failed { result ≡ Err Stop.Failed → w.new ≡ record { state = next w.old.state e; records = [] } }
+    ensures memory { result ≡ Err Stop.NoMemory → (w.new ≡ w.old) ⊎ (w.new ≡ record { state = next w.old.state e; records = [] }) }
 {
     let Ok(stepped) = w.step(e) else {
         return Err(Stop::NoMemory);

@@ -90,8 +90,8 @@ pub fn seed_of(plan: &Plan) -> u64
 
 /// A driver's turn: a try where it searches for a slot, else its next step.
 fn turn_event(w: &World, h: HartNo) -> Event
-    requires { h.0 < length w.now.at.machine.harts }
-    ensures { result ≡ turn_event w.now.at h.0 }
+    requires { h.0 < length w.now.state.machine.harts }
+    ensures { result ≡ turn_event w.now.state h.0 }
 {
     if w.searching(h).is_some() {
         return Event::Try(h);
@@ -103,9 +103,9 @@ fn turn_event(w: &World, h: HartNo) -> Event
 fn event_of(w: &World, harts: u32, blocks: u32, a: u32, b: u32) -> Event
     requires some { 0 < harts }
     requires few { harts ≤ 4 }
-    requires harts { harts ≡ length w.now.at.machine.harts }
+    requires harts { harts ≡ length w.now.state.machine.harts }
     requires blocks { 0 < blocks }
-    ensures { result ≡ event_of w.now.at (record { harts = harts; blocks = blocks }) a b }
+    ensures { result ≡ event_of w.now.state (record { harts = harts; blocks = blocks }) a b }
 {
     let hart = HartNo((a / 16 % harts) as u8);
     let chan = ChanNo((a / 16 % 4) as u8);
@@ -143,9 +143,9 @@ pub fn channel_event(j: usize) -> Event
 /// Event i of a finishing round.
 fn round_event(w: &World, harts: usize, i: usize) -> Event
     requires few { harts ≤ 4 }
-    requires harts { harts ≡ length w.now.at.machine.harts }
+    requires harts { harts ≡ length w.now.state.machine.harts }
     requires within { i < round_len harts }
-    ensures { result ≡ round_event harts w.now.at i }
+    ensures { result ≡ round_event harts w.now.state i }
 {
     if i < harts {
         return turn_event(w, HartNo(i as u8));
@@ -224,8 +224,8 @@ impl Sched {
     /// Draws the next event.
     fn draw(&mut self, sc: &Scenario, w: &World) -> Event
         requires accepted { IsAccepted sc.now }
-        requires harts { length w.now.at.machine.harts ≡ length sc.now.harts }
-        ensures event { result ≡ drawn w.now.at (size_of sc.now) self.old.generator }
+        requires harts { length w.now.state.machine.harts ≡ length sc.now.harts }
+        ensures event { result ≡ drawn w.now.state (size_of sc.now) self.old.generator }
         ensures state { self.new ≡ record { left = self.old.left; phase = self.old.phase; generator = after_words self.old.generator } }
     {
         let a = self.generator.next_word();
@@ -242,8 +242,8 @@ impl Sched {
     /// The event at which the settled schedule stands; it then stands behind it.
     fn take_event(&mut self, sc: &Scenario, w: &World, phase: Phase) -> Option<Event>
         requires accepted { IsAccepted sc.now }
-        requires harts { length w.now.at.machine.harts ≡ length sc.now.harts }
-        ensures event { result ≡ given sc.now phase self.old.generator w.now.at }
+        requires harts { length w.now.state.machine.harts ≡ length sc.now.harts }
+        ensures event { result ≡ given sc.now phase self.old.generator w.now.state }
         ensures state { IfSome result (λ e. self.new ≡ record { left = self.old.left; phase = next_phase phase; generator = next_generator phase self.old.generator }) }
         ensures left { self.new.left ≡ self.old.left }
     {
@@ -275,9 +275,9 @@ impl Sched {
     /// given so far, and `last` is the answer to the last of them, none before the first.
     pub fn next(&mut self, sc: &Scenario, w: &World, last: Option<Stepped>) -> Option<Event>
         requires accepted { IsAccepted sc.now }
-        requires harts { length w.now.at.machine.harts ≡ length sc.now.harts }
-        ensures event { MatchOption result (to_come sc.now self.old w.now.at (is_done last) ≡ [])
-            (λ e. to_come sc.now self.old w.now.at (is_done last) ≡ e ∷ to_come sc.now self.new (next w.now.at e) (enabled w.now.at e)) }
+        requires harts { length w.now.state.machine.harts ≡ length sc.now.harts }
+        ensures event { MatchOption result (to_come sc.now self.old w.now.state (is_done last) ≡ [])
+            (λ e. to_come sc.now self.old w.now.state (is_done last) ≡ e ∷ to_come sc.now self.new (next w.now.state e) (enabled w.now.state e)) }
         ensures fewer { IfSome result (λ e. self.new.left < self.old.left) }
         ensures there { IfSome result (IsThere (length sc.now.harts) sc.now.block_size sc.now.ram) }
     {

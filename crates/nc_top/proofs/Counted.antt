@@ -73,15 +73,15 @@ at_end w0 w all left t none s =
 -- the world has the sizes of the scenario, no records are left, the events still to come are those of its schedule, and
 -- each answer came at most as often as events were tried
 pub record Counts (sc : Scenario) (w : WorldView) (s : Stand) (last : Option Stepped) (t : Tally) : Type 0 where
-  pub so_far : IsCounted (start sc) w.at (sched sc) (to_come sc s w.at (is_done last)) t
+  pub so_far : IsCounted (start sc) w.state (sched sc) (to_come sc s w.state (is_done last)) t
   pub few_done : t.done + s.left ≤ 400000
   pub few_missed : t.missed + s.left ≤ 400000
   pub none : w.records ≡ []
-  pub harts : length w.at.machine.harts ≡ length sc.harts
-  pub size : w.at.machine.size ≡ sc.block_size
-  pub ram : length w.at.machine.cache.ram ≡ sc.ram
+  pub harts : length w.state.machine.harts ≡ length sc.harts
+  pub size : w.state.machine.size ≡ sc.block_size
+  pub ram : length w.state.machine.cache.ram ≡ sc.ram
 
-pub count_start : (sc : Scenario) (w : WorldView) (s : Stand) → IsAccepted sc → w.at ≡ start sc → w.records ≡ [] → s ≡ first_stand sc → to_come sc s (start sc) (is_done None) ≡ sched sc
+pub count_start : (sc : Scenario) (w : WorldView) (s : Stand) → IsAccepted sc → w.state ≡ start sc → w.records ≡ [] → s ≡ first_stand sc → to_come sc s (start sc) (is_done None) ≡ sched sc
     → Counts sc w s None (record { done = 0; missed = 0 })
 count_start sc w s a at none first whole =
     let left : s.left ≤ 400000 = omega (arith, ap (λ (v : Stand). v.left) first, a.limit) in
@@ -102,19 +102,19 @@ done_is true = refl
 done_is false = refl
 
 pub count_on : (sc : Scenario) (w v : WorldView) (s u : Stand) (last : Option Stepped) (a : Stepped) (e : Event) (t n : Tally)
-    → to_come sc s w.at (is_done last) ≡ e ∷ to_come sc u (next w.at e) (enabled w.at e)
-    → v.at ≡ next w.at e → v.records ≡ [] → SameShape w.at.machine v.at.machine → a ≡ answer w.at e → n ≡ counted t (event_records w.at e) → u.left < s.left
+    → to_come sc s w.state (is_done last) ≡ e ∷ to_come sc u (next w.state e) (enabled w.state e)
+    → v.state ≡ next w.state e → v.records ≡ [] → SameShape w.state.machine v.state.machine → a ≡ answer w.state e → n ≡ counted t (event_records w.state e) → u.left < s.left
     → Counts sc w s last t → Counts sc v u (Some a) n
 count_on sc w v s u last a e t n here stepped none same answered tally fewer c =
-    let done : is_done (Some a) ≡ enabled w.at e = ap (λ b. is_done (Some b)) answered ∙ done_is (enabled w.at e) in
-    let gone : IsCounted (start sc) (next w.at e) (sched sc) (to_come sc u (next w.at e) (enabled w.at e)) n =
-    subst (λ m. IsCounted (start sc) (next w.at e) (sched sc) (to_come sc u (next w.at e) (enabled w.at e)) m) (sym tally)
-    (one_more (start sc) w.at (sched sc) (to_come sc s w.at (is_done last)) (to_come sc u (next w.at e) (enabled w.at e)) e t here c.so_far) in
+    let done : is_done (Some a) ≡ enabled w.state e = ap (λ b. is_done (Some b)) answered ∙ done_is (enabled w.state e) in
+    let gone : IsCounted (start sc) (next w.state e) (sched sc) (to_come sc u (next w.state e) (enabled w.state e)) n =
+    subst (λ m. IsCounted (start sc) (next w.state e) (sched sc) (to_come sc u (next w.state e) (enabled w.state e)) m) (sym tally)
+    (one_more (start sc) w.state (sched sc) (to_come sc s w.state (is_done last)) (to_come sc u (next w.state e) (enabled w.state e)) e t here c.so_far) in
     record {
       so_far = subst (λ (x : WorldState). IsCounted (start sc) x (sched sc) (to_come sc u x (is_done (Some a))) n) (sym stepped)
-          (subst (λ b. IsCounted (start sc) (next w.at e) (sched sc) (to_come sc u (next w.at e) b) n) (sym done) gone);
-      few_done = omega (arith, fewer, c.few_done, one_copydone w.at e, ap (λ (m : Tally). m.done) tally);
-      few_missed = omega (arith, fewer, c.few_missed, one_noslot w.at e, ap (λ (m : Tally). m.missed) tally);
+          (subst (λ b. IsCounted (start sc) (next w.state e) (sched sc) (to_come sc u (next w.state e) b) n) (sym done) gone);
+      few_done = omega (arith, fewer, c.few_done, one_copydone w.state e, ap (λ (m : Tally). m.done) tally);
+      few_missed = omega (arith, fewer, c.few_missed, one_noslot w.state e, ap (λ (m : Tally). m.missed) tally);
       none = none;
       harts = same.harts ∙ c.harts;
       size = same.size ∙ c.size;
@@ -122,9 +122,9 @@ count_on sc w v s u last a e t n here stepped none same answered tally fewer c =
     }
 
 -- the events are at their end
-pub count_end : (sc : Scenario) (w : WorldView) (s : Stand) (last : Option Stepped) (t : Tally) → to_come sc s w.at (is_done last) ≡ [] → Counts sc w s last t
-    → (w.at ≡ after (start sc) (sched sc)) × (t ≡ tally_of (records (start sc) (sched sc)))
-count_end sc w s last t none c = at_end (start sc) w.at (sched sc) (to_come sc s w.at (is_done last)) t none c.so_far
+pub count_end : (sc : Scenario) (w : WorldView) (s : Stand) (last : Option Stepped) (t : Tally) → to_come sc s w.state (is_done last) ≡ [] → Counts sc w s last t
+    → (w.state ≡ after (start sc) (sched sc)) × (t ≡ tally_of (records (start sc) (sched sc)))
+count_end sc w s last t none c = at_end (start sc) w.state (sched sc) (to_come sc s w.state (is_done last)) t none c.so_far
 
 -- ---- the run of a number's scenario
 

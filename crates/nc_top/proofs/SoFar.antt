@@ -89,13 +89,13 @@ cut held mid now run end h g =
 
 -- the world has the sizes of the scenario, no records are left, and the events still to come are those of its schedule
 pub record Goes (held now : Option (List ℕ)) (sc : Scenario) (w : WorldView) (s : Stand) (last : Option Stepped) : Type 0 where
-  pub so_far : SoFar held now (start sc) w.at (sched sc) (to_come sc s w.at (is_done last))
+  pub so_far : SoFar held now (start sc) w.state (sched sc) (to_come sc s w.state (is_done last))
   pub none : w.records ≡ []
-  pub harts : length w.at.machine.harts ≡ length sc.harts
-  pub size : w.at.machine.size ≡ sc.block_size
-  pub ram : length w.at.machine.cache.ram ≡ sc.ram
+  pub harts : length w.state.machine.harts ≡ length sc.harts
+  pub size : w.state.machine.size ≡ sc.block_size
+  pub ram : length w.state.machine.cache.ram ≡ sc.ram
 
-pub go_start : (held : Option (List ℕ)) (sc : Scenario) (w : WorldView) (s : Stand) → IsAccepted sc → w.at ≡ start sc → w.records ≡ [] → to_come sc s (start sc) (is_done None) ≡ sched sc → Goes held held sc w s None
+pub go_start : (held : Option (List ℕ)) (sc : Scenario) (w : WorldView) (s : Stand) → IsAccepted sc → w.state ≡ start sc → w.records ≡ [] → to_come sc s (start sc) (is_done None) ≡ sched sc → Goes held held sc w s None
 go_start held sc w s a at none whole = record {
   so_far = subst (λ v. SoFar held held (start sc) v (sched sc) (to_come sc s v false)) (sym at)
       (subst (λ left. SoFar held held (start sc) (start sc) (sched sc) left) (sym whole) (at_start held held (start sc) (sched sc) (Appends-nil held)));
@@ -111,50 +111,50 @@ done_is true = refl
 done_is false = refl
 
 pub go_on : (held mid now : Option (List ℕ)) (sc : Scenario) (w v : WorldView) (s t : Stand) (last : Option Stepped) (a : Stepped) (e : Event)
-    → to_come sc s w.at (is_done last) ≡ e ∷ to_come sc t (next w.at e) (enabled w.at e)
-    → v.at ≡ next w.at e → v.records ≡ [] → SameShape w.at.machine v.at.machine → a ≡ answer w.at e → Appends mid now (flat_map line (event_records w.at e)) → Goes held mid sc w s last → Goes held now sc v t (Some a)
+    → to_come sc s w.state (is_done last) ≡ e ∷ to_come sc t (next w.state e) (enabled w.state e)
+    → v.state ≡ next w.state e → v.records ≡ [] → SameShape w.state.machine v.state.machine → a ≡ answer w.state e → Appends mid now (flat_map line (event_records w.state e)) → Goes held mid sc w s last → Goes held now sc v t (Some a)
 go_on held mid now sc w v s t last a e here stepped none same answered grown g =
-    let done : is_done (Some a) ≡ enabled w.at e = ap (λ b. is_done (Some b)) answered ∙ done_is (enabled w.at e) in
-    let gone : SoFar held now (start sc) (next w.at e) (sched sc) (to_come sc t (next w.at e) (enabled w.at e)) =
-    one_more held mid now (start sc) w.at (sched sc) (to_come sc s w.at (is_done last)) (to_come sc t (next w.at e) (enabled w.at e)) e here grown g.so_far in
+    let done : is_done (Some a) ≡ enabled w.state e = ap (λ b. is_done (Some b)) answered ∙ done_is (enabled w.state e) in
+    let gone : SoFar held now (start sc) (next w.state e) (sched sc) (to_come sc t (next w.state e) (enabled w.state e)) =
+    one_more held mid now (start sc) w.state (sched sc) (to_come sc s w.state (is_done last)) (to_come sc t (next w.state e) (enabled w.state e)) e here grown g.so_far in
     record {
       so_far = subst (λ (u : WorldState). SoFar held now (start sc) u (sched sc) (to_come sc t u (is_done (Some a)))) (sym stepped)
-          (subst (λ b. SoFar held now (start sc) (next w.at e) (sched sc) (to_come sc t (next w.at e) b)) (sym done) gone);
+          (subst (λ b. SoFar held now (start sc) (next w.state e) (sched sc) (to_come sc t (next w.state e) b)) (sym done) gone);
       none = none;
       harts = same.harts ∙ g.harts;
       size = same.size ∙ g.size;
       ram = same.ram ∙ g.ram;
     }
 
-pub go_stopped : (held mid now : Option (List ℕ)) (sc : Scenario) (w : WorldView) (s t : Stand) (last : Option Stepped) (e : Event) → to_come sc s w.at (is_done last) ≡ e ∷ to_come sc t (next w.at e) (enabled w.at e)
-    → GrowsByFront mid now (flat_map line (event_records w.at e)) → Goes held mid sc w s last → GrowsByFront held now (report sc (sched sc))
+pub go_stopped : (held mid now : Option (List ℕ)) (sc : Scenario) (w : WorldView) (s t : Stand) (last : Option Stepped) (e : Event) → to_come sc s w.state (is_done last) ≡ e ∷ to_come sc t (next w.state e) (enabled w.state e)
+    → GrowsByFront mid now (flat_map line (event_records w.state e)) → Goes held mid sc w s last → GrowsByFront held now (report sc (sched sc))
 unfolding report
 go_stopped held mid now sc w s t last e here grown g =
-    stopped held mid now (start sc) w.at (sched sc) (to_come sc s w.at (is_done last)) (to_come sc t (next w.at e) (enabled w.at e)) e (tail sc (after (start sc) (sched sc))) here grown g.so_far
+    stopped held mid now (start sc) w.state (sched sc) (to_come sc s w.state (is_done last)) (to_come sc t (next w.state e) (enabled w.state e)) e (tail sc (after (start sc) (sched sc))) here grown g.so_far
 
 -- the events are at their end
-pub go_end : (held now : Option (List ℕ)) (sc : Scenario) (w : WorldView) (s : Stand) (last : Option Stepped) → to_come sc s w.at (is_done last) ≡ [] → Goes held now sc w s last
-    → Appends held now (text_of (start sc) (sched sc)) × (w.at ≡ after (start sc) (sched sc))
-go_end held now sc w s last none g = at_end held now (start sc) w.at (sched sc) (to_come sc s w.at (is_done last)) none g.so_far
+pub go_end : (held now : Option (List ℕ)) (sc : Scenario) (w : WorldView) (s : Stand) (last : Option Stepped) → to_come sc s w.state (is_done last) ≡ [] → Goes held now sc w s last
+    → Appends held now (text_of (start sc) (sched sc)) × (w.state ≡ after (start sc) (sched sc))
+go_end held now sc w s last none g = at_end held now (start sc) w.state (sched sc) (to_come sc s w.state (is_done last)) none g.so_far
 
-pub go_paused : (held now : Option (List ℕ)) (sc : Scenario) (w : WorldView) (s : Stand) (last : Option Stepped) → to_come sc s w.at (is_done last) ≡ [] → Goes held now sc w s last → GrowsByFront held now (report sc (sched sc))
+pub go_paused : (held now : Option (List ℕ)) (sc : Scenario) (w : WorldView) (s : Stand) (last : Option Stepped) → to_come sc s w.state (is_done last) ≡ [] → Goes held now sc w s last → GrowsByFront held now (report sc (sched sc))
 unfolding report
 go_paused held now sc w s last none g = paused held now (text_of (start sc) (sched sc)) (tail sc (after (start sc) (sched sc))) (go_end held now sc w s last none g).0
 
-pub go_cut : (held mid now : Option (List ℕ)) (sc : Scenario) (w : WorldView) (s : Stand) (last : Option Stepped) (text : List ℕ) → to_come sc s w.at (is_done last) ≡ [] → text ≡ tail sc w.at → GrowsByFront mid now text → Goes held mid sc w s last
+pub go_cut : (held mid now : Option (List ℕ)) (sc : Scenario) (w : WorldView) (s : Stand) (last : Option Stepped) (text : List ℕ) → to_come sc s w.state (is_done last) ≡ [] → text ≡ tail sc w.state → GrowsByFront mid now text → Goes held mid sc w s last
     → GrowsByFront held now (report sc (sched sc))
 unfolding report
 go_cut held mid now sc w s last text none is grown g =
     let p = go_end held mid sc w s last none g in
     cut held mid now (text_of (start sc) (sched sc)) (tail sc (after (start sc) (sched sc))) p.0 (subst (λ t. GrowsByFront mid now t) (is ∙ ap (tail sc) p.1) grown)
 
-pub go_done : (held mid now : Option (List ℕ)) (sc : Scenario) (w : WorldView) (s : Stand) (last : Option Stepped) (text : List ℕ) → to_come sc s w.at (is_done last) ≡ [] → text ≡ tail sc w.at → Appends mid now text → Goes held mid sc w s last
+pub go_done : (held mid now : Option (List ℕ)) (sc : Scenario) (w : WorldView) (s : Stand) (last : Option Stepped) (text : List ℕ) → to_come sc s w.state (is_done last) ≡ [] → text ≡ tail sc w.state → Appends mid now text → Goes held mid sc w s last
     → Appends held now (report sc (sched sc))
 unfolding report
 go_done held mid now sc w s last text none is grown g =
     let p = go_end held mid sc w s last none g in
     Appends-trans held mid now (text_of (start sc) (sched sc)) (tail sc (after (start sc) (sched sc))) p.0 (subst (λ t. Appends mid now t) (is ∙ ap (tail sc) p.1) grown)
 
-pub go_status : (held now : Option (List ℕ)) (sc : Scenario) (w : WorldView) (s : Stand) (last : Option Stepped) → to_come sc s w.at (is_done last) ≡ [] → Goes held now sc w s last → status_at w.at ≡ status sc (sched sc)
+pub go_status : (held now : Option (List ℕ)) (sc : Scenario) (w : WorldView) (s : Stand) (last : Option Stepped) → to_come sc s w.state (is_done last) ≡ [] → Goes held now sc w s last → status_at w.state ≡ status sc (sched sc)
 unfolding status
 go_status held now sc w s last none g = ap status_at (go_end held now sc w s last none g).1

@@ -47,14 +47,14 @@ fn counted(tally: Tally, records: &[Record]) -> Tally
 
 /// Makes one event, counts its answers, and drops its records.
 fn step_counted(w: &mut World, e: Event, tally: Tally) -> Result<(Stepped, Tally), NoMemory>
-    requires there { IsThere (length w.old.at.machine.harts) w.old.at.machine.size (length w.old.at.machine.cache.ram) e }
+    requires there { IsThere (length w.old.state.machine.harts) w.old.state.machine.size (length w.old.state.machine.cache.ram) e }
     requires none { w.old.records ≡ [] }
     requires done { tally.done < 2 ^ 32 }
     requires missed { tally.missed < 2 ^ 32 }
-    ensures answer { IfOk result (λ r. r.0 ≡ stepped w.old.at e) }
-    ensures tally { IfOk result (λ r. r.1 ≡ counted tally (event_records w.old.at e)) }
-    ensures world { OnOk result (w.new ≡ record { at = next w.old.at e; records = [] }) }
-    ensures shape { OnOk result (SameShape w.old.at.machine w.new.at.machine) }
+    ensures answer { IfOk result (λ r. r.0 ≡ stepped w.old.state e) }
+    ensures tally { IfOk result (λ r. r.1 ≡ counted tally (event_records w.old.state e)) }
+    ensures world { OnOk result (w.new ≡ record { state = next w.old.state e; records = [] }) }
+    ensures shape { OnOk result (SameShape w.old.state.machine w.new.state.machine) }
 {
     let stepped = w.step(e)?;
     let tally = counted(tally, w.records());
@@ -65,7 +65,7 @@ fn step_counted(w: &mut World, e: Event, tally: Tally) -> Result<(Stepped, Tally
 /// Makes the events of a scenario's schedule, and keeps no more of their records than the tally.
 fn run_counted(alloc: Global, sc: &Scenario) -> Result<(World, Tally), NoMemory>
     requires accepted { IsAccepted sc.now }
-    ensures at { IfOk result (λ r. r.0.at ≡ after (start sc.now) (sched sc.now)) }
+    ensures state { IfOk result (λ r. r.0.state ≡ after (start sc.now) (sched sc.now)) }
     ensures tally { IfOk result (λ r. r.1 ≡ tally_of (records (start sc.now) (sched sc.now))) }
 {
     let mut w = World::new(alloc, sc)?;

@@ -19,7 +19,7 @@ use std::alloc::Global;
 
 /// Tells whether every script is at its end.
 fn at_end(w: &World) -> bool
-    ensures { result ≡ at_end w.now.at }
+    ensures { result ≡ at_end w.now.state }
 {
     for h in 0..w.harts() {
         if w.left(HartNo(h)).is_some() {
@@ -31,7 +31,7 @@ fn at_end(w: &World) -> bool
 
 /// Returns the status of a run: 1 where it has a touch, else 7 where a script is not at its end, else 0.
 pub fn status_of(w: &World) -> u8
-    ensures value { result ≡ status_at w.now.at }
+    ensures value { result ≡ status_at w.now.state }
     ensures kind { IsAnswer result }
     ensures run { result ≢ 3 }
 {

@@ -21,7 +21,7 @@ world-nil : (sc : Scenario) → world_of sc [] ≡ start sc
 unfolding after
 world-nil sc = refl
 
-run-nil : (sc : Scenario) (w : WorldView) → IsAccepted sc → WorldsStart → w.at ≡ start sc → w.records ≡ [] → IsRun sc w []
+run-nil : (sc : Scenario) (w : WorldView) → IsAccepted sc → WorldsStart → w.state ≡ start sc → w.records ≡ [] → IsRun sc w []
 run-nil sc w a law at none = record {
   accepted = a;
   world = shown_is w (world_of sc []) (at ∙ sym (world-nil sc)) none;
@@ -34,7 +34,7 @@ threaded-nil : (sc : Scenario) → IsThreaded sc []
 threaded-nil sc = record { each = λ n e h. absurd (cc); few = λ t. omega arith }
 
 live-nil : (sc : Scenario) (harts : ℕ) (counts : Counts) (draws : Draws) (w : WorldView) → IsAccepted sc → WorldsStart → harts ≡ length sc.harts → AreCounts counts [] → draws ≡ draw_from (begun (seed_of sc.plan))
-    → w.at ≡ start sc → w.records ≡ [] → IsLive sc sc.limit harts (sc.ram / sc.block_size) counts draws w []
+    → w.state ≡ start sc → w.records ≡ [] → IsLive sc sc.limit harts (sc.ram / sc.block_size) counts draws w []
 live-nil sc harts counts draws w a law is are drawn at none = record {
   limit_is = refl;
   harts_is = is;
@@ -47,6 +47,6 @@ live-nil sc harts counts draws w a law is are drawn at none = record {
 }
 
 pub live_start : (sc : Scenario) (harts : ℕ) (counts : Counts) (draws : Draws) (w : WorldView) (es : List Event) → IsAccepted sc → WorldsStart → harts ≡ length sc.harts → AreCounts counts [] → draws ≡ draw_from (begun (seed_of sc.plan))
-    → w.at ≡ start sc → w.records ≡ [] → es ≡ [] → IsLive sc sc.limit harts (sc.ram / sc.block_size) counts draws w es
+    → w.state ≡ start sc → w.records ≡ [] → es ≡ [] → IsLive sc sc.limit harts (sc.ram / sc.block_size) counts draws w es
 live_start sc harts counts draws w es a law is are drawn at none empty =
     subst (λ (fs : List Event). IsLive sc sc.limit harts (sc.ram / sc.block_size) counts draws w fs) (sym empty) (live-nil sc harts counts draws w a law is are drawn at none)

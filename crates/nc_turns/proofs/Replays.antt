@@ -20,13 +20,13 @@ use Rattle.nc_turns.specs.Played.{history_lines, live_text}
 
 -- the world has the sizes of the scenario and no records, and these events are left
 pub record Replaying (held now : Option (List ℕ)) (sc : Scenario) (w : WorldView) (es left : List Event) : Type 0 where
-  pub so_far : SoFar held now (start sc) w.at es left
+  pub so_far : SoFar held now (start sc) w.state es left
   pub none : w.records ≡ []
-  pub harts : length w.at.machine.harts ≡ length sc.harts
-  pub size : w.at.machine.size ≡ sc.block_size
-  pub ram : length w.at.machine.cache.ram ≡ sc.ram
+  pub harts : length w.state.machine.harts ≡ length sc.harts
+  pub size : w.state.machine.size ≡ sc.block_size
+  pub ram : length w.state.machine.cache.ram ≡ sc.ram
 
-pub replay_start : (held : Option (List ℕ)) (sc : Scenario) (w : WorldView) (es : List Event) → IsAccepted sc → w.at ≡ start sc → w.records ≡ [] → Replaying held held sc w es es
+pub replay_start : (held : Option (List ℕ)) (sc : Scenario) (w : WorldView) (es : List Event) → IsAccepted sc → w.state ≡ start sc → w.records ≡ [] → Replaying held held sc w es es
 replay_start held sc w es a at none = record {
   so_far = subst (λ v. SoFar held held (start sc) v es es) (sym at) (at_start held held (start sc) es (Appends-nil held));
   none = none;
@@ -36,40 +36,40 @@ replay_start held sc w es a at none = record {
 }
 
 pub replay_on : (held mid now : Option (List ℕ)) (sc : Scenario) (w v : WorldView) (es left rest : List Event) (e : Event) → left ≡ e ∷ rest
-    → v ≡ record { at = next w.at e; records = [] } → SameShape w.at.machine v.at.machine → Appends mid now (flat_map line (event_records w.at e)) → Replaying held mid sc w es left → Replaying held now sc v es rest
+    → v ≡ record { state = next w.state e; records = [] } → SameShape w.state.machine v.state.machine → Appends mid now (flat_map line (event_records w.state e)) → Replaying held mid sc w es left → Replaying held now sc v es rest
 replay_on held mid now sc w v es left rest e here stepped same grown r = record {
-  so_far = subst (λ (u : WorldState). SoFar held now (start sc) u es rest) (sym (ap (λ (s : WorldView). s.at) stepped)) (one_more held mid now (start sc) w.at es left rest e here grown r.so_far);
+  so_far = subst (λ (u : WorldState). SoFar held now (start sc) u es rest) (sym (ap (λ (s : WorldView). s.state) stepped)) (one_more held mid now (start sc) w.state es left rest e here grown r.so_far);
   none = ap (λ (s : WorldView). s.records) stepped;
   harts = same.harts ∙ r.harts;
   size = same.size ∙ r.size;
   ram = same.ram ∙ r.ram;
 }
 
-pub replay_stopped : (held mid now : Option (List ℕ)) (sc : Scenario) (w : WorldView) (es left rest : List Event) (e : Event) → left ≡ e ∷ rest → GrowsByFront mid now (flat_map line (event_records w.at e)) → Replaying held mid sc w es left
+pub replay_stopped : (held mid now : Option (List ℕ)) (sc : Scenario) (w : WorldView) (es left rest : List Event) (e : Event) → left ≡ e ∷ rest → GrowsByFront mid now (flat_map line (event_records w.state e)) → Replaying held mid sc w es left
     → GrowsByFront held now (report sc es)
 unfolding report
-replay_stopped held mid now sc w es left rest e here grown r = stopped held mid now (start sc) w.at es left rest e (tail sc (after (start sc) es)) here grown r.so_far
+replay_stopped held mid now sc w es left rest e here grown r = stopped held mid now (start sc) w.state es left rest e (tail sc (after (start sc) es)) here grown r.so_far
 
 pub replay_paused : (held now : Option (List ℕ)) (sc : Scenario) (w : WorldView) (es left : List Event) → left ≡ [] → Replaying held now sc w es left → GrowsByFront held now (report sc es)
 unfolding report
 replay_paused held now sc w es left none r =
-    paused held now (text_of (start sc) es) (tail sc (after (start sc) es)) (at_end held now (start sc) w.at es left none r.so_far).0
+    paused held now (text_of (start sc) es) (tail sc (after (start sc) es)) (at_end held now (start sc) w.state es left none r.so_far).0
 
-pub replay_cut : (held mid now : Option (List ℕ)) (sc : Scenario) (w : WorldView) (es left : List Event) (text : List ℕ) → left ≡ [] → text ≡ tail sc w.at → GrowsByFront mid now text → Replaying held mid sc w es left → GrowsByFront held now (report sc es)
+pub replay_cut : (held mid now : Option (List ℕ)) (sc : Scenario) (w : WorldView) (es left : List Event) (text : List ℕ) → left ≡ [] → text ≡ tail sc w.state → GrowsByFront mid now text → Replaying held mid sc w es left → GrowsByFront held now (report sc es)
 unfolding report
 replay_cut held mid now sc w es left text none is grown r =
-    let p = at_end held mid (start sc) w.at es left none r.so_far in
+    let p = at_end held mid (start sc) w.state es left none r.so_far in
     cut held mid now (text_of (start sc) es) (tail sc (after (start sc) es)) p.0 (subst (λ t. GrowsByFront mid now t) (is ∙ ap (tail sc) p.1) grown)
 
-pub replay_done : (held mid now : Option (List ℕ)) (sc : Scenario) (w : WorldView) (es left : List Event) (text : List ℕ) → left ≡ [] → text ≡ tail sc w.at → Appends mid now text → Replaying held mid sc w es left → Appends held now (report sc es)
+pub replay_done : (held mid now : Option (List ℕ)) (sc : Scenario) (w : WorldView) (es left : List Event) (text : List ℕ) → left ≡ [] → text ≡ tail sc w.state → Appends mid now text → Replaying held mid sc w es left → Appends held now (report sc es)
 unfolding report
 replay_done held mid now sc w es left text none is grown r =
-    let p = at_end held mid (start sc) w.at es left none r.so_far in
+    let p = at_end held mid (start sc) w.state es left none r.so_far in
     Appends-trans held mid now (text_of (start sc) es) (tail sc (after (start sc) es)) p.0 (subst (λ t. Appends mid now t) (is ∙ ap (tail sc) p.1) grown)
 
-pub replay_status : (held now : Option (List ℕ)) (sc : Scenario) (w : WorldView) (es left : List Event) → left ≡ [] → Replaying held now sc w es left → status_at w.at ≡ status sc es
+pub replay_status : (held now : Option (List ℕ)) (sc : Scenario) (w : WorldView) (es left : List Event) → left ≡ [] → Replaying held now sc w es left → status_at w.state ≡ status sc es
 unfolding status
-replay_status held now sc w es left none r = ap status_at (at_end held now (start sc) w.at es left none r.so_far).1
+replay_status held now sc w es left none r = ap status_at (at_end held now (start sc) w.state es left none r.so_far).1
 
 -- ---- a history before its report
 

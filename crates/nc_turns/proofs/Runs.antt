@@ -26,14 +26,14 @@ after-push w (x ∷ es) e = after-push (next w x) es e
 pub world-push : (sc : Scenario) (es : List Event) (e : Event) → world_of sc (es ++ e ∷ []) ≡ next (world_of sc es) e
 world-push sc es e = after-push (start sc) es e
 
-pub shown_is : (w : WorldView) (a : WorldState) → w.at ≡ a → w.records ≡ [] → w ≡ record { at = a; records = [] }
-shown_is w a at none = ap (λ (v : WorldState). record { at = v; records = w.records }) at ∙ ap (λ rs. record { at = a; records = rs }) none
+pub shown_is : (w : WorldView) (a : WorldState) → w.state ≡ a → w.records ≡ [] → w ≡ record { state = a; records = [] }
+shown_is w a at none = ap (λ (v : WorldState). record { state = v; records = w.records }) at ∙ ap (λ rs. record { state = a; records = rs }) none
 
 -- one event more is one step more
 pub run-push : (sc : Scenario) (w v : WorldView) (es : List Event) (e : Event) → WorldsStay → IsThere (length sc.harts) sc.block_size sc.ram e → length (es ++ e ∷ []) ≤ sc.limit
-    → v.at ≡ next w.at e → v.records ≡ [] → IsRun sc w es → IsRun sc v (es ++ e ∷ [])
+    → v.state ≡ next w.state e → v.records ≡ [] → IsRun sc w es → IsRun sc v (es ++ e ∷ [])
 run-push sc w v es e law there few at none r =
-    let here : v.at ≡ world_of sc (es ++ e ∷ []) = at ∙ ap (λ (u : WorldView). next u.at e) r.world ∙ sym (world-push sc es e) in
+    let here : v.state ≡ world_of sc (es ++ e ∷ []) = at ∙ ap (λ (u : WorldView). next u.state e) r.world ∙ sym (world-push sc es e) in
     record {
       accepted = r.accepted;
       world = shown_is v (world_of sc (es ++ e ∷ [])) here none;

@@ -48,7 +48,7 @@ total es =
 -- the world is the run of the events on the scenario, and its records are dropped
 pub record IsRun (sc : Scenario) (w : WorldView) (es : List Event) : Type 0 where
   pub accepted : IsAccepted sc
-  pub world : w ≡ record { at = world_of sc es; records = [] }
+  pub world : w ≡ record { state = world_of sc es; records = [] }
   pub of_scenario : IsWorldOf sc (world_of sc es)
   pub there : AreThere sc es
   pub few : length es ≤ sc.limit

@@ -135,9 +135,9 @@ impl<N: SceneName> LiveState<N> {
 
     /// The world that the history leads to. It has no records.
     pub fn world(&self) -> &World
-        ensures at { result.now.at ≡ world_of N.scene self.now }
+        ensures state { result.now.state ≡ world_of N.scene self.now }
         ensures none { result.now.records ≡ [] }
-        ensures harts { length result.now.at.machine.harts ≡ length N.scene.harts }
+        ensures harts { length result.now.state.machine.harts ≡ length N.scene.harts }
     {
         &self.world
     }

@@ -17,7 +17,7 @@ state_of w = record {
 }
 
 abbrev pub shown : Inside → WorldView
-shown w = record { at = state_of w; records = w.log.records }
+shown w = record { state = state_of w; records = w.log.records }
 
 abbrev pub IsSound : Inside → Type 0
 IsSound w = WorldInvariant (state_of w) w.size w.pool

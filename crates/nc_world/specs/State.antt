@@ -37,4 +37,4 @@ state_code machine driver owner grant slots pages =
     (λ _. refl)
 
 abbrev pub shown_code : Coded WorldState → Coded Record → Coded WorldView
-shown_code state told = code_by (WorldState × List Record) (coded× state (coded_list told)) (λ s. (s.at, s.records)) (λ p. record { at = p.0; records = p.1 }) (λ _. refl)
+shown_code state told = code_by (WorldState × List Record) (coded× state (coded_list told)) (λ s. (s.state, s.records)) (λ p. record { state = p.0; records = p.1 }) (λ _. refl)

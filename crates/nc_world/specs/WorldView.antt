@@ -9,7 +9,7 @@ use Rattle.nc_world.specs.declared.world.Stepped.TheVariants.{Done, Skipped}
 
 -- the state, and the records since they were last taken
 pub record WorldView : Type 0 where
-  pub at : WorldState
+  pub state : WorldState
   pub records : List Record
 
 -- an event is answered Done exactly where it may happen

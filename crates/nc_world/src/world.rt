@@ -101,7 +101,7 @@ impl World {
     #[tactic(auto, unfolding(nc_rules::specs::World::start))]
     pub fn new(alloc: Global, sc: &Scenario) -> Result<World, NoMemory>
         requires { IsAccepted sc.now }
-        ensures at { IfOk result (λ w. w.at ≡ start sc.now) }
+        ensures state { IfOk result (λ w. w.state ≡ start sc.now) }
         ensures records { IfOk result (λ w. w.records ≡ []) }
     {
         worlds_begin();
@@ -127,11 +127,11 @@ impl World {
     ///
     /// `NoMemory` where memory runs out; then nothing has changed.
     pub fn step(&mut self, e: Event) -> Result<Stepped, NoMemory>
-        requires there { IsThere (length self.old.at.machine.harts) self.old.at.machine.size (length self.old.at.machine.cache.ram) e }
-        ensures answer { IfOk result (λ s. s ≡ answer self.old.at e) }
-        ensures next { OnOk result (self.new.at ≡ next self.old.at e) }
-        ensures records { OnOk result (self.new.records ≡ self.old.records ++ event_records self.old.at e) }
-        ensures shape { OnOk result (SameShape self.old.at.machine self.new.at.machine) }
+        requires there { IsThere (length self.old.state.machine.harts) self.old.state.machine.size (length self.old.state.machine.cache.ram) e }
+        ensures answer { IfOk result (λ s. s ≡ answer self.old.state e) }
+        ensures next { OnOk result (self.new.state ≡ next self.old.state e) }
+        ensures records { OnOk result (self.new.records ≡ self.old.records ++ event_records self.old.state e) }
+        ensures shape { OnOk result (SameShape self.old.state.machine self.new.state.machine) }
         ensures err { OnErr result (self.new ≡ self.old) }
     {
         self.sound();
@@ -150,7 +150,7 @@ impl World {
     /// Hands the records over, and leaves none. It takes no memory.
     pub fn take_records(&mut self) -> RecordList
         ensures taken { result ≡ self.old.records }
-        ensures state { self.new.at ≡ self.old.at }
+        ensures state { self.new.state ≡ self.old.state }
         ensures none { self.new.records ≡ [] }
     {
         self.log.take()
@@ -158,7 +158,7 @@ impl World {
 
     /// Drops the records. It takes no memory, and the next event finds the room for its records here.
     pub fn clear_records(&mut self)
-        ensures state { self.new.at ≡ self.old.at }
+        ensures state { self.new.state ≡ self.old.state }
         ensures none { self.new.records ≡ [] }
     {
         self.log.clear();
@@ -166,14 +166,14 @@ impl World {
 
     /// How many events were done.
     pub fn events(&self) -> u64
-        ensures { result ≡ self.now.at.events }
+        ensures { result ≡ self.now.state.events }
     {
         self.events
     }
 
     /// How many touches were reported.
     pub fn touches(&self) -> u64
-        ensures { result ≡ self.now.at.touches }
+        ensures { result ≡ self.now.state.touches }
     {
         self.touches
     }
@@ -181,8 +181,8 @@ impl World {
     /// The slot word that the search of hart h's driver tries next; None where it is at no search.
     #[tactic(auto, unfolding(nc_rules::specs::Driver::searching))]
     pub fn searching(&self, h: HartNo) -> Option<u32>
-        requires { h.0 < length self.now.at.machine.harts }
-        ensures { result ≡ searching (driver_of self.now.at h.0) }
+        requires { h.0 < length self.now.state.machine.harts }
+        ensures { result ≡ searching (driver_of self.now.state h.0) }
     {
         match self.coming(h) {
             Next::Search(k) => Some(k),
@@ -197,31 +197,31 @@ impl World {
 
     /// The number of the operation in hand of hart h's script, counted from 0; None at the script's end.
     pub fn left(&self, h: HartNo) -> Option<u32>
-        requires { h.0 < length self.now.at.machine.harts }
-        ensures { result ≡ left_op (driver_of self.now.at h.0) }
+        requires { h.0 < length self.now.state.machine.harts }
+        ensures { result ≡ left_op (driver_of self.now.state h.0) }
     {
         self.drivers[usize::from(h.0)].left()
     }
 
     /// The hart that holds slot word k; None exactly where it is free or not there.
     pub fn holder(&self, k: u32) -> Option<HartNo>
-        ensures { result ≡ holder_of self.now.at.slots k }
+        ensures { result ≡ holder_of self.now.state.slots k }
     {
         self.slots.holder(k)
     }
 
     /// Whether every script is at its end and every store queue is empty.
     pub fn ended(&self) -> bool
-        ensures { result ≡ is_ended self.now.at }
+        ensures { result ≡ is_ended self.now.state }
     {
         self.at_end() && self.are_empty()
     }
 
     /// The bytes of a span in one block inside RAM: the caches', else memory's.
     pub fn bytes(&self, span: Span) -> Bytes
-        requires block { span.at % self.now.at.machine.size + span.len ≤ self.now.at.machine.size }
-        requires inside { span.at + span.len ≤ length self.now.at.machine.cache.ram }
-        ensures value { result ≡ bytes_of self.now.at.machine span }
+        requires block { span.at % self.now.state.machine.size + span.len ≤ self.now.state.machine.size }
+        requires inside { span.at + span.len ≤ length self.now.state.machine.cache.ram }
+        ensures value { result ≡ bytes_of self.now.state.machine span }
         ensures len { length result ≡ span.len }
     {
         self.machine.bytes(span)
@@ -229,8 +229,8 @@ impl World {
 
     /// How many harts there are: a driver, a store queue and a cache for each.
     pub fn harts(&self) -> u8
-        ensures machine { result ≡ length self.now.at.machine.harts }
-        ensures drivers { result ≡ length self.now.at.drivers }
+        ensures machine { result ≡ length self.now.state.machine.harts }
+        ensures drivers { result ≡ length self.now.state.drivers }
         ensures some { 1 ≤ result }
         ensures few { result ≤ 4 }
     {
@@ -242,22 +242,22 @@ impl World {
 
     /// Whether every script is at its end.
     fn at_end(&self) -> bool
-        ensures { result ≡ at_end self.now.at }
+        ensures { result ≡ at_end self.now.state }
     {
         self.drivers.iter().all(|d| d.left().is_none())
     }
 
     /// Whether every store queue is empty.
     fn are_empty(&self) -> bool
-        ensures { result ≡ list_all (λ h. length h.queue.entries == 0) self.now.at.machine.harts }
+        ensures { result ≡ list_all (λ h. length h.queue.entries == 0) self.now.state.machine.harts }
     {
         acts::are_empty(&self.machine, self.harts())
     }
 
     /// What holds of every world.
     fn sound(&self)
-        ensures machine { IsMachine self.now.at.machine }
-        ensures holds { Holds self.now.at }
+        ensures machine { IsMachine self.now.state.machine }
+        ensures holds { Holds self.now.state }
         ensures stays { EachStaysDriver }
     {
         every_driver_stays();
@@ -266,8 +266,8 @@ impl World {
 
     /// What holds of every world, and that each event keeps it.
     fn laws(&self)
-        ensures machine { IsMachine self.now.at.machine }
-        ensures holds { Holds self.now.at }
+        ensures machine { IsMachine self.now.state.machine }
+        ensures holds { Holds self.now.state }
         ensures stays { EachStaysDriver }
         ensures keeps { EventsKeepHolding }
         ensures may { MovesMayBeMade }
@@ -279,9 +279,9 @@ impl World {
 
     /// What the driver of hart h does next.
     fn coming(&self, h: HartNo) -> Next
-        requires { h.0 < length self.now.at.machine.harts }
-        ensures next { result ≡ next_of (driver_of self.now.at h.0) }
-        ensures there { NextFits self.now.at.machine h.0 result }
+        requires { h.0 < length self.now.state.machine.harts }
+        ensures next { result ≡ next_of (driver_of self.now.state h.0) }
+        ensures there { NextFits self.now.state.machine h.0 result }
     {
         self.sound();
         self.ahead(h)
@@ -289,33 +289,33 @@ impl World {
 
     /// What comes next of the driver of hart h.
     fn ahead(&self, h: HartNo) -> Next
-        requires { h.0 < length self.now.at.machine.harts }
-        ensures { result ≡ next_of (driver_of self.now.at h.0) }
+        requires { h.0 < length self.now.state.machine.harts }
+        ensures { result ≡ next_of (driver_of self.now.state h.0) }
     {
         self.drivers[usize::from(h.0)].next(&self.book)
     }
 
     /// The number of the operation in hand of hart h's script.
     fn number(&self, h: HartNo) -> u32
-        requires { h.0 < length self.now.at.machine.harts }
-        ensures { result ≡ (driver_of self.now.at h.0).op }
+        requires { h.0 < length self.now.state.machine.harts }
+        ensures { result ≡ (driver_of self.now.state h.0).op }
     {
         self.drivers[usize::from(h.0)].op()
     }
 
     /// Whether that operation is made of the script's own accesses, and not of a plan's.
     fn is_script(&self, h: HartNo) -> bool
-        requires { h.0 < length self.now.at.machine.harts }
-        ensures { result ≡ is_script (driver_of self.now.at h.0).phase }
+        requires { h.0 < length self.now.state.machine.harts }
+        ensures { result ≡ is_script (driver_of self.now.state h.0).phase }
     {
         self.drivers[usize::from(h.0)].is_script()
     }
 
     /// The touch that an operation of hart h's driver is.
     fn issue_touch(&self, h: HartNo, op: &HartOp) -> Option<Touch>
-        requires hart { h.0 < length self.now.at.machine.harts }
-        requires there { OpIsThere self.now.at.machine h.0 op.now }
-        ensures { result ≡ issue_touch self.now.at h (is_script (driver_of self.now.at h.0).phase) op.now }
+        requires hart { h.0 < length self.now.state.machine.harts }
+        requires there { OpIsThere self.now.state.machine h.0 op.now }
+        ensures { result ≡ issue_touch self.now.state h (is_script (driver_of self.now.state h.0).phase) op.now }
     {
         if self.is_script(h) {
             self.op_touch(h, op)
@@ -327,8 +327,8 @@ impl World {
     /// The touch that an operation of hart h's script is.
     #[tactic(auto, unfolding(nc_rules::specs::EventTouches::op_touch))]
     fn op_touch(&self, h: HartNo, op: &HartOp) -> Option<Touch>
-        requires there { OpIsThere self.now.at.machine h.0 op.now }
-        ensures { result ≡ op_touch self.now.at h op.now }
+        requires there { OpIsThere self.now.state.machine h.0 op.now }
+        ensures { result ≡ op_touch self.now.state h op.now }
     {
         match op {
             HartOp::Load { span, kind } => self.piece_touch(h, Access::Read, *span, *kind),
@@ -343,8 +343,8 @@ impl World {
 
     /// The touch that a piece of a script's load or store is.
     fn piece_touch(&self, h: HartNo, access: Access, span: Span, kind: MemType) -> Option<Touch>
-        requires { IsPieceIn (length self.now.at.machine.cache.ram) span }
-        ensures { result ≡ piece_touch (owner_of self.now.at) self.now.at.grants self.now.at.machine.pool h access span kind }
+        requires { IsPieceIn (length self.now.state.machine.cache.ram) span }
+        ensures { result ≡ piece_touch (owner_of self.now.state) self.now.state.grants self.now.state.machine.pool h access span kind }
     {
         self.sound();
         let look = Look::Piece { access, span, kind };
@@ -353,8 +353,8 @@ impl World {
 
     /// The touch that a script's cache operation is, by its effect.
     fn cbo_touch(&self, h: HartNo, op: CboOp, block: Block) -> Option<Touch>
-        requires { IsBlockIn self.now.at.machine.size (length self.now.at.machine.cache.ram) block.0 }
-        ensures { result ≡ cbo_touch self.now.at h op block.0 }
+        requires { IsBlockIn self.now.state.machine.size (length self.now.state.machine.cache.ram) block.0 }
+        ensures { result ≡ cbo_touch self.now.state h op block.0 }
     {
         self.sound();
         let block = Span {
@@ -370,8 +370,8 @@ impl World {
 
     /// The touch that the drain of an entry of hart h's queue is.
     fn drain_touch(&self, h: HartNo, entry: &Entry) -> Option<Touch>
-        requires { EntryIsThere self.now.at.machine entry.now }
-        ensures { result ≡ drain_touch self.now.at h entry.now }
+        requires { EntryIsThere self.now.state.machine entry.now }
+        ensures { result ≡ drain_touch self.now.state h entry.now }
     {
         match entry {
             Entry::Reg {
@@ -393,9 +393,9 @@ impl World {
     /// Whether the next step of hart h's driver may be made: an operation that the hart may issue; a claim, a poll and a
     /// take once no entry of class O is queued, a poll once the transfer is over, and a take once the message is there.
     fn may_go_on(&self, h: HartNo, next: &Next) -> bool
-        requires hart { h.0 < length self.now.at.machine.harts }
-        requires there { NextFits self.now.at.machine h.0 next.now }
-        ensures { result ≡ may_go_on self.now.at h next.now }
+        requires hart { h.0 < length self.now.state.machine.harts }
+        requires there { NextFits self.now.state.machine h.0 next.now }
+        ensures { result ≡ may_go_on self.now.state h next.now }
     {
         match next {
             Next::End | Next::Search(_) => false,
@@ -409,10 +409,10 @@ impl World {
 
     /// Whether the next step of hart h's driver, this one, may be made: no token that it waits for is in the hart's queue.
     fn may_issue(&self, h: HartNo, next: &Next) -> bool
-        requires hart { h.0 < length self.now.at.machine.harts }
-        requires there { NextFits self.now.at.machine h.0 next.now }
-        requires next { next.now ≡ next_of (driver_of self.now.at h.0) }
-        ensures { result ≡ may_issue_step self.now.at h }
+        requires hart { h.0 < length self.now.state.machine.harts }
+        requires there { NextFits self.now.state.machine h.0 next.now }
+        requires next { next.now ≡ next_of (driver_of self.now.state h.0) }
+        ensures { result ≡ may_issue_step self.now.state h }
     {
         let out = match self.drivers[usize::from(h.0)].waits_for() {
             Some(label) => !self.machine.lends(h, label),
@@ -423,9 +423,9 @@ impl World {
 
     /// The touch that the next step of hart h's driver is.
     fn step_touch(&self, h: HartNo, next: &Next) -> Option<Touch>
-        requires hart { h.0 < length self.now.at.machine.harts }
-        requires there { NextFits self.now.at.machine h.0 next.now }
-        ensures { result ≡ step_touch self.now.at h next.now }
+        requires hart { h.0 < length self.now.state.machine.harts }
+        requires there { NextFits self.now.state.machine h.0 next.now }
+        ensures { result ≡ step_touch self.now.state h next.now }
     {
         match next {
             Next::Op(op) => self.issue_touch(h, op),
@@ -436,10 +436,10 @@ impl World {
 
     /// The event by its kind.
     fn dispatch(&mut self, e: Event) -> Result<Stepped, NoMemory>
-        requires there { IsThere (length self.old.at.machine.harts) self.old.at.machine.size (length self.old.at.machine.cache.ram) e }
-        ensures answer { IfOk result (λ s. s ≡ answer self.old.at e) }
-        ensures next { OnOk result (self.new.at ≡ next self.old.at e) }
-        ensures records { OnOk result (self.new.records ≡ self.old.records ++ event_records self.old.at e) }
+        requires there { IsThere (length self.old.state.machine.harts) self.old.state.machine.size (length self.old.state.machine.cache.ram) e }
+        ensures answer { IfOk result (λ s. s ≡ answer self.old.state e) }
+        ensures next { OnOk result (self.new.state ≡ next self.old.state e) }
+        ensures records { OnOk result (self.new.records ≡ self.old.records ++ event_records self.old.state e) }
         ensures err { OnErr result (self.new ≡ self.old) }
     {
         match e {
@@ -456,10 +456,10 @@ impl World {
 
     /// The driver of hart h goes on, where it may.
     fn issue_step(&mut self, h: HartNo) -> Result<Stepped, NoMemory>
-        requires { h.0 < length self.old.at.machine.harts }
-        ensures answer { IfOk result (λ s. s ≡ answer self.old.at (Event.Issue h)) }
-        ensures next { OnOk result (self.new.at ≡ next self.old.at (Event.Issue h)) }
-        ensures records { OnOk result (self.new.records ≡ self.old.records ++ event_records self.old.at (Event.Issue h)) }
+        requires { h.0 < length self.old.state.machine.harts }
+        ensures answer { IfOk result (λ s. s ≡ answer self.old.state (Event.Issue h)) }
+        ensures next { OnOk result (self.new.state ≡ next self.old.state (Event.Issue h)) }
+        ensures records { OnOk result (self.new.records ≡ self.old.records ++ event_records self.old.state (Event.Issue h)) }
         ensures err { OnErr result (self.new ≡ self.old) }
     {
         self.laws();
@@ -494,10 +494,10 @@ impl World {
 
     /// Hart h's driver tries the slot word that is next in its search, where it is at one.
     fn try_word(&mut self, h: HartNo) -> Result<Stepped, NoMemory>
-        requires { h.0 < length self.old.at.machine.harts }
-        ensures answer { IfOk result (λ s. s ≡ answer self.old.at (Event.Try h)) }
-        ensures next { OnOk result (self.new.at ≡ next self.old.at (Event.Try h)) }
-        ensures records { OnOk result (self.new.records ≡ self.old.records ++ event_records self.old.at (Event.Try h)) }
+        requires { h.0 < length self.old.state.machine.harts }
+        ensures answer { IfOk result (λ s. s ≡ answer self.old.state (Event.Try h)) }
+        ensures next { OnOk result (self.new.state ≡ next self.old.state (Event.Try h)) }
+        ensures records { OnOk result (self.new.records ≡ self.old.records ++ event_records self.old.state (Event.Try h)) }
         ensures err { OnErr result (self.new ≡ self.old) }
     {
         self.laws();
@@ -520,10 +520,10 @@ impl World {
     /// The search of hart h's driver, where it is at one, is told that its slot word is got, or is not. A word that is
     /// held is not got, whatever was told.
     fn tell_word(&mut self, h: HartNo, got: bool) -> Result<Stepped, NoMemory>
-        requires { h.0 < length self.old.at.machine.harts }
-        ensures answer { IfOk result (λ s. s ≡ answer self.old.at (Event.Told h got)) }
-        ensures next { OnOk result (self.new.at ≡ next self.old.at (Event.Told h got)) }
-        ensures records { OnOk result (self.new.records ≡ self.old.records ++ event_records self.old.at (Event.Told h got)) }
+        requires { h.0 < length self.old.state.machine.harts }
+        ensures answer { IfOk result (λ s. s ≡ answer self.old.state (Event.Told h got)) }
+        ensures next { OnOk result (self.new.state ≡ next self.old.state (Event.Told h got)) }
+        ensures records { OnOk result (self.new.records ≡ self.old.records ++ event_records self.old.state (Event.Told h got)) }
         ensures err { OnErr result (self.new ≡ self.old) }
     {
         self.laws();
@@ -547,10 +547,10 @@ impl World {
 
     /// Entry i of hart h's queue drains, where it may.
     fn drain(&mut self, h: HartNo, i: u8) -> Result<Stepped, NoMemory>
-        requires { h.0 < length self.old.at.machine.harts }
-        ensures answer { IfOk result (λ s. s ≡ answer self.old.at (Event.Drain h i)) }
-        ensures next { OnOk result (self.new.at ≡ next self.old.at (Event.Drain h i)) }
-        ensures records { OnOk result (self.new.records ≡ self.old.records ++ event_records self.old.at (Event.Drain h i)) }
+        requires { h.0 < length self.old.state.machine.harts }
+        ensures answer { IfOk result (λ s. s ≡ answer self.old.state (Event.Drain h i)) }
+        ensures next { OnOk result (self.new.state ≡ next self.old.state (Event.Drain h i)) }
+        ensures records { OnOk result (self.new.records ≡ self.old.records ++ event_records self.old.state (Event.Drain h i)) }
         ensures err { OnErr result (self.new ≡ self.old) }
     {
         self.laws();
@@ -573,12 +573,12 @@ impl World {
 
     /// Entry i of hart h's queue, this one, drains: no token.
     fn drain_entry(&mut self, h: HartNo, i: u8, entry: &Entry) -> Result<Stepped, NoMemory>
-        requires hart { h.0 < length self.old.at.machine.harts }
-        requires leaves { leaving self.old.at.machine h.0 i ≡ Some entry.now }
+        requires hart { h.0 < length self.old.state.machine.harts }
+        requires leaves { leaving self.old.state.machine h.0 i ≡ Some entry.now }
         requires plain { is_token entry.now ≡ false }
-        ensures answer { IfOk result (λ s. s ≡ answer self.old.at (Event.Drain h i)) }
-        ensures next { OnOk result (self.new.at ≡ next self.old.at (Event.Drain h i)) }
-        ensures records { OnOk result (self.new.records ≡ self.old.records ++ event_records self.old.at (Event.Drain h i)) }
+        ensures answer { IfOk result (λ s. s ≡ answer self.old.state (Event.Drain h i)) }
+        ensures next { OnOk result (self.new.state ≡ next self.old.state (Event.Drain h i)) }
+        ensures records { OnOk result (self.new.records ≡ self.old.records ++ event_records self.old.state (Event.Drain h i)) }
         ensures err { OnErr result (self.new ≡ self.old) }
     {
         self.laws();
@@ -601,11 +601,11 @@ impl World {
         first: u8,
         count: u8,
     ) -> Result<Stepped, NoMemory>
-        requires hart { h.0 < length self.old.at.machine.harts }
-        requires leaves { leaving self.old.at.machine h.0 i ≡ Some (entries.Lend label first count) }
-        ensures answer { IfOk result (λ s. s ≡ answer self.old.at (Event.Drain h i)) }
-        ensures next { OnOk result (self.new.at ≡ next self.old.at (Event.Drain h i)) }
-        ensures records { OnOk result (self.new.records ≡ self.old.records ++ event_records self.old.at (Event.Drain h i)) }
+        requires hart { h.0 < length self.old.state.machine.harts }
+        requires leaves { leaving self.old.state.machine h.0 i ≡ Some (entries.Lend label first count) }
+        ensures answer { IfOk result (λ s. s ≡ answer self.old.state (Event.Drain h i)) }
+        ensures next { OnOk result (self.new.state ≡ next self.old.state (Event.Drain h i)) }
+        ensures records { OnOk result (self.new.records ≡ self.old.records ++ event_records self.old.state (Event.Drain h i)) }
         ensures err { OnErr result (self.new ≡ self.old) }
     {
         self.laws();
@@ -628,11 +628,11 @@ impl World {
 
     /// A copy of a block comes to hart h, where it may.
     fn fill(&mut self, h: HartNo, b: Block) -> Result<Stepped, NoMemory>
-        requires hart { h.0 < length self.old.at.machine.harts }
-        requires block { IsBlockIn self.old.at.machine.size (length self.old.at.machine.cache.ram) b.0 }
-        ensures answer { IfOk result (λ s. s ≡ answer self.old.at (Event.Fill h b)) }
-        ensures next { OnOk result (self.new.at ≡ next self.old.at (Event.Fill h b)) }
-        ensures records { OnOk result (self.new.records ≡ self.old.records ++ event_records self.old.at (Event.Fill h b)) }
+        requires hart { h.0 < length self.old.state.machine.harts }
+        requires block { IsBlockIn self.old.state.machine.size (length self.old.state.machine.cache.ram) b.0 }
+        ensures answer { IfOk result (λ s. s ≡ answer self.old.state (Event.Fill h b)) }
+        ensures next { OnOk result (self.new.state ≡ next self.old.state (Event.Fill h b)) }
+        ensures records { OnOk result (self.new.records ≡ self.old.records ++ event_records self.old.state (Event.Fill h b)) }
         ensures err { OnErr result (self.new ≡ self.old) }
     {
         self.laws();
@@ -648,11 +648,11 @@ impl World {
 
     /// Hart h gives up its copy of a block, where it has one.
     fn evict(&mut self, h: HartNo, b: Block) -> Result<Stepped, NoMemory>
-        requires hart { h.0 < length self.old.at.machine.harts }
-        requires block { IsBlockIn self.old.at.machine.size (length self.old.at.machine.cache.ram) b.0 }
-        ensures answer { IfOk result (λ s. s ≡ answer self.old.at (Event.Evict h b)) }
-        ensures next { OnOk result (self.new.at ≡ next self.old.at (Event.Evict h b)) }
-        ensures records { OnOk result (self.new.records ≡ self.old.records ++ event_records self.old.at (Event.Evict h b)) }
+        requires hart { h.0 < length self.old.state.machine.harts }
+        requires block { IsBlockIn self.old.state.machine.size (length self.old.state.machine.cache.ram) b.0 }
+        ensures answer { IfOk result (λ s. s ≡ answer self.old.state (Event.Evict h b)) }
+        ensures next { OnOk result (self.new.state ≡ next self.old.state (Event.Evict h b)) }
+        ensures records { OnOk result (self.new.records ≡ self.old.records ++ event_records self.old.state (Event.Evict h b)) }
         ensures err { OnErr result (self.new ≡ self.old) }
     {
         self.laws();
@@ -670,9 +670,9 @@ impl World {
     #[tactic(auto, using(crate::proofs::Answered::transaction_rules), unfolding(nc_rules::specs::Events::enabled, nc_rules::specs::Next::next, nc_rules::specs::Next::performed, nc_rules::specs::Next::event_records, nc_rules::specs::Outcomes::outcome))]
     fn chan_read(&mut self, c: ChanNo) -> Result<Stepped, NoMemory>
         requires { c.0 < 4 }
-        ensures answer { IfOk result (λ s. s ≡ answer self.old.at (Event.ChanRead c)) }
-        ensures next { OnOk result (self.new.at ≡ next self.old.at (Event.ChanRead c)) }
-        ensures records { OnOk result (self.new.records ≡ self.old.records ++ event_records self.old.at (Event.ChanRead c)) }
+        ensures answer { IfOk result (λ s. s ≡ answer self.old.state (Event.ChanRead c)) }
+        ensures next { OnOk result (self.new.state ≡ next self.old.state (Event.ChanRead c)) }
+        ensures records { OnOk result (self.new.records ≡ self.old.records ++ event_records self.old.state (Event.ChanRead c)) }
         ensures err { OnErr result (self.new ≡ self.old) }
     {
         self.laws();
@@ -694,9 +694,9 @@ impl World {
     #[tactic(auto, using(crate::proofs::Answered::transaction_rules), unfolding(nc_rules::specs::Events::enabled, nc_rules::specs::Next::next, nc_rules::specs::Next::performed, nc_rules::specs::Next::event_records, nc_rules::specs::Outcomes::outcome))]
     fn chan_write(&mut self, c: ChanNo) -> Result<Stepped, NoMemory>
         requires { c.0 < 4 }
-        ensures answer { IfOk result (λ s. s ≡ answer self.old.at (Event.ChanWrite c)) }
-        ensures next { OnOk result (self.new.at ≡ next self.old.at (Event.ChanWrite c)) }
-        ensures records { OnOk result (self.new.records ≡ self.old.records ++ event_records self.old.at (Event.ChanWrite c)) }
+        ensures answer { IfOk result (λ s. s ≡ answer self.old.state (Event.ChanWrite c)) }
+        ensures next { OnOk result (self.new.state ≡ next self.old.state (Event.ChanWrite c)) }
+        ensures records { OnOk result (self.new.records ≡ self.old.records ++ event_records self.old.state (Event.ChanWrite c)) }
         ensures err { OnErr result (self.new ≡ self.old) }
     {
         self.laws();

@@ -6,4 +6,4 @@ use Rattle.nc_rules.specs.Lines.{at_end}
 use Rattle.nc_top.proofs.run.at_end.Given as goal
 
 abbrev pub invariant-loop-h : goal.invariant-loop-h
-invariant-loop-h l = list_all (λ d. is_none (left_op d)) (drop l.h l.w.at.drivers) ≡ at_end l.w.at
+invariant-loop-h l = list_all (λ d. is_none (left_op d)) (drop l.h l.w.state.drivers) ≡ at_end l.w.state

@@ -6,13 +6,13 @@ use Rattle.nc_top.proofs.run.run_out.Goals as goal
 
 pub running-init : goal.running-init
 running-init g c =
-    (go_start (g.K.Sink.held c.args.out.now) c.args.sc.now c.in-Ok.w c.new-sched.result c.requires c.in-Ok.ensures.at c.in-Ok.ensures.records c.new-sched.ensures.whole, omega arith)
+    (go_start (g.K.Sink.held c.args.out.now) c.args.sc.now c.in-Ok.w c.new-sched.result c.requires c.in-Ok.ensures.state c.in-Ok.ensures.records c.new-sched.ensures.whole, omega arith)
 
 pub running-preserved : goal.running-preserved
 running-preserved g c =
     let held = g.K.Sink.held in (
       go_on (held c.args.out.now) (held c.running.out) (held c.step_out.new.out) c.args.sc.now c.running.w c.step_out.new.w c.running.sched c.next.new.self c.running.last c.in_ok-stepped.stepped c.in-Some.e
-          c.in-Some.ensures.event (ap (λ (s : WorldView). s.at) c.in_ok-stepped.ensures.world) (ap (λ (s : WorldView). s.records) c.in_ok-stepped.ensures.world) c.in_ok-stepped.ensures.shape
+          c.in-Some.ensures.event (ap (λ (s : WorldView). s.state) c.in_ok-stepped.ensures.world) (ap (λ (s : WorldView). s.records) c.in_ok-stepped.ensures.world) c.in_ok-stepped.ensures.shape
           c.in_ok-stepped.ensures.answer c.in_ok-stepped.ensures.written c.running.invariant.0,
       omega (arith, c.running.invariant.1, c.in_ok-stepped.ensures.later),
     )

@@ -5,7 +5,7 @@ use Rattle.nc_turns.proofs.Replays.{replay_start, replay_on, replay_stopped, rep
 use Rattle.nc_turns.proofs.writing.replay_out.Goals as goal
 
 pub loop-e-init : goal.loop-e-init
-loop-e-init g c = (replay_start (g.K.Sink.held c.args.out.now) c.args.sc.now c.in-Ok.w c.args.history.now c.requires.accepted c.in-Ok.ensures.at c.in-Ok.ensures.records, omega arith)
+loop-e-init g c = (replay_start (g.K.Sink.held c.args.out.now) c.args.sc.now c.in-Ok.w c.args.history.now c.requires.accepted c.in-Ok.ensures.state c.in-Ok.ensures.records, omega arith)
 
 pub loop-e-preserved : goal.loop-e-preserved
 loop-e-preserved g c =

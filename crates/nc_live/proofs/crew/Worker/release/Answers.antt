@@ -8,7 +8,7 @@ use Rattle.nc_live.proofs.crew.Worker.release.Goals as goal
 pub loop-k-preserved : goal.loop-k-preserved
 loop-k-preserved g c =
     let k = c.loop-k.k in
-    let slots = c.args.world.now.at.slots in
+    let slots = c.args.world.now.state.slots in
     let me = c.args.self.now.me in
     let f : ℕ → Bool = λ j. is_held_by slots j me in
     let ys = c.args.self.now.mine.items in

@@ -9,12 +9,12 @@ use Rattle.nc_sched.proofs.sched.Sched.next.Goals as goal
 
 pub returns-then-self-eq0-clause-event : goal.returns-then-self-eq0-clause-event
 returns-then-self-eq0-clause-event c =
-    to_come-none c.args.sc.now c.args.self.now c.args.w.now.at (is_done c.args.last) (sym (ap (λ (s : Stand). s.left) c.self.view_is) ∙ c.if-self-eq0.true)
+    to_come-none c.args.sc.now c.args.self.now c.args.w.now.state (is_done c.args.last) (sym (ap (λ (s : Stand). s.left) c.self.view_is) ∙ c.if-self-eq0.true)
 
 pub returns-in_default-clause-event : goal.returns-in_default-clause-event
 returns-in_default-clause-event c =
     let sc = c.args.sc.now in
-    let w = c.args.w.now.at in
+    let w = c.args.w.now.state in
     let s = c.args.self.now in
     let at : c.enter_round-phase.result ≡ enter_round sc (after_answer s.phase (is_done c.args.last)) = c.enter_round-phase.ensures ∙ ap (enter_round sc) (c.after_answer.ensures ∙ ap (λ (v : Stand). after_answer v.phase (is_done c.args.last)) c.self.view_is) in
     to_come-end sc s w (is_done c.args.last) (ap (λ p. given sc p s.generator w) (sym at) ∙ sym c.take_event.ensures.event ∙ c.in_default.is)
@@ -22,7 +22,7 @@ returns-in_default-clause-event c =
 pub returns-clause-event : goal.returns-clause-event
 returns-clause-event c =
     let sc = c.args.sc.now in
-    let w = c.args.w.now.at in
+    let w = c.args.w.now.state in
     let s = c.args.self.now in
     let e = c.in-Some.e in
     let was_done = is_done c.args.last in
@@ -36,4 +36,4 @@ returns-clause-event c =
 pub returns-clause-there : goal.returns-clause-there
 returns-clause-there c =
     let s = c.args.self.now in
-    there c.args.sc.now c.enter_round-phase.result s.generator c.args.w.now.at c.in-Some.e c.requires.accepted (sym c.take_event.ensures.event ∙ c.in-Some.is)
+    there c.args.sc.now c.enter_round-phase.result s.generator c.args.w.now.state c.in-Some.e c.requires.accepted (sym c.take_event.ensures.event ∙ c.in-Some.is)

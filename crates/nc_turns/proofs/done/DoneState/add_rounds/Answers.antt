@@ -28,7 +28,7 @@ adding-preserved g c =
     let t = c.next.new.self in
     let last = c.adding.last in
     let e = c.in-Some.e in
-    let here = subst (λ (v : WorldState). to_come c.args.sc.now s v (is_done last) ≡ e ∷ to_come c.args.sc.now t (next v e) (enabled v e)) c.world.ensures.at c.in-Some.ensures.event in
+    let here = subst (λ (v : WorldState). to_come c.args.sc.now s v (is_done last) ≡ e ∷ to_come c.args.sc.now t (next v e) (enabled v e)) c.world.ensures.state c.in-Some.ensures.event in
     let come = subst (λ (x : Scenario). to_come x s w (is_done last) ≡ e ∷ to_come x t (next w e) (enabled w e)) c.requires.scene here in (
       adding_on sc c.args.self.now.events es c.append.new.self.events s t last c.in_ok-stepped.stepped e come c.in-Some.ensures.fewer c.in_ok-stepped.ensures.events c.in_ok-stepped.ensures.answer c.adding.invariant.0,
       c.in_ok-stepped.ensures.turns ∙ c.adding.invariant.1,

@@ -14,4 +14,4 @@ invariant_of-result g c =
     let es = c.new-3.result.items in
     subst (λ (s : Scenario). IsLive s sc.limit harts (sc.ram / sc.block_size) c.none.result c.new.result w es) c.requires.scene
     (live_start sc harts c.none.result c.new.result w es c.requires.accepted c.worlds_start.ensures (ap (λ hs. length hs) c.as_slice.ensures) c.none.ensures
-    (c.new.ensures ∙ ap (λ (n : ℕ). draw_from (begun n)) c.seed_of.ensures) c.in_ok-new.ensures.at c.in_ok-new.ensures.records c.new-3.ensures.items)
+    (c.new.ensures ∙ ap (λ (n : ℕ). draw_from (begun n)) c.seed_of.ensures) c.in_ok-new.ensures.state c.in_ok-new.ensures.records c.new-3.ensures.items)

@@ -10,4 +10,4 @@ pub returns-clause-slot : goal.returns-clause-slot
 returns-clause-slot g c =
     let sc = g.N.SceneName.scene in
     let run = c.self.invariant.run in
-    slots_below sc (world_of sc c.self.inside.history.items) c.args.h c.searching.result run.of_scenario c.requires (c.searching.ensures ∙ ap (λ (u : WorldView). searching (driver_of u.at c.args.h.0)) run.world)
+    slots_below sc (world_of sc c.self.inside.history.items) c.args.h c.searching.result run.of_scenario c.requires (c.searching.ensures ∙ ap (λ (u : WorldView). searching (driver_of u.state c.args.h.0)) run.world)

@@ -13,11 +13,11 @@ returns-in-Inval c =
     let u = state_of c.self.inside in
     let b = c.args.block.0 in
     c.hart_touch.ensures ∙ ap (λ (size : ℕ). Some (discard_touch (owner_of u) c.args.h (block_span size b))) c.self.invariant.size
-    ∙ ap (λ (v : WorldView). cbo_touch v.at c.args.h Inval b) c.self.view_is ∙ ap (λ (op : CboOp). cbo_touch c.args.self.now.at c.args.h op b) (sym c.in-Inval.is)
+    ∙ ap (λ (v : WorldView). cbo_touch v.state c.args.h Inval b) c.self.view_is ∙ ap (λ (op : CboOp). cbo_touch c.args.self.now.state c.args.h op b) (sym c.in-Inval.is)
 
 pub returns-in-Zero : goal.returns-in-Zero
 returns-in-Zero c =
     let u = state_of c.self.inside in
     let b = c.args.block.0 in
     c.hart_touch-in-Zero.ensures ∙ ap (λ (size : ℕ). zero_touch (owner_of u) u.grants c.args.h (block_span size b)) c.self.invariant.size
-    ∙ ap (λ (v : WorldView). cbo_touch v.at c.args.h Zero b) c.self.view_is ∙ ap (λ (op : CboOp). cbo_touch c.args.self.now.at c.args.h op b) (sym c.in-Zero.is)
+    ∙ ap (λ (v : WorldView). cbo_touch v.state c.args.h Zero b) c.self.view_is ∙ ap (λ (op : CboOp). cbo_touch c.args.self.now.state c.args.h op b) (sym c.in-Zero.is)

@@ -5,5 +5,5 @@ use Rattle.nc_world.proofs.world.World.coming.Goals as goal
 
 pub returns-clause-there : goal.returns-clause-there
 returns-clause-there c =
-    let w = c.args.self.now.at in
+    let w = c.args.self.now.state in
     subst (NextFits w.machine c.args.h.0) (sym c.ahead.ensures) (next_fits w c.args.h.0 c.sound.ensures.stays c.sound.ensures.holds c.requires)

@@ -33,9 +33,9 @@ lent-requires-clause-lent c =
     let count = c.args.count in
     let d = driver_of w h.0 in
     let back = sym c.self.view_is in
-    let lt : h.0 < length w.machine.harts = subst (λ (v : WorldView). h.0 < length v.at.machine.harts) back c.requires.hart in
-    let sound : IsMachine w.machine = subst (λ (v : WorldView). IsMachine v.at.machine) back c.laws.ensures.machine in
-    let out : leaving w.machine h.0 i ≡ Some (entries.Lend label first count) = subst (λ (v : WorldView). leaving v.at.machine h.0 i ≡ Some (entries.Lend label first count)) back c.requires.leaves in
+    let lt : h.0 < length w.machine.harts = subst (λ (v : WorldView). h.0 < length v.state.machine.harts) back c.requires.hart in
+    let sound : IsMachine w.machine = subst (λ (v : WorldView). IsMachine v.state.machine) back c.laws.ensures.machine in
+    let out : leaving w.machine h.0 i ≡ Some (entries.Lend label first count) = subst (λ (v : WorldView). leaving v.state.machine h.0 i ≡ Some (entries.Lend label first count)) back c.requires.leaves in
     c.tokens_are_lent.ensures w h.0 i label first count c.self.invariant.holds lt out
 
 pub carry-requires-clause-inside : goal.carry-requires-clause-inside
@@ -48,9 +48,9 @@ carry-requires-clause-inside c =
     let count = c.args.count in
     let d = driver_of w h.0 in
     let back = sym c.self.view_is in
-    let lt : h.0 < length w.machine.harts = subst (λ (v : WorldView). h.0 < length v.at.machine.harts) back c.requires.hart in
-    let sound : IsMachine w.machine = subst (λ (v : WorldView). IsMachine v.at.machine) back c.laws.ensures.machine in
-    let out : leaving w.machine h.0 i ≡ Some (entries.Lend label first count) = subst (λ (v : WorldView). leaving v.at.machine h.0 i ≡ Some (entries.Lend label first count)) back c.requires.leaves in
+    let lt : h.0 < length w.machine.harts = subst (λ (v : WorldView). h.0 < length v.state.machine.harts) back c.requires.hart in
+    let sound : IsMachine w.machine = subst (λ (v : WorldView). IsMachine v.state.machine) back c.laws.ensures.machine in
+    let out : leaving w.machine h.0 i ≡ Some (entries.Lend label first count) = subst (λ (v : WorldView). leaving v.state.machine h.0 i ≡ Some (entries.Lend label first count)) back c.requires.leaves in
     let moves : moves_view c.in_ok-moves.moves ≡ (lent d label first).moves = c.in_ok-moves.ensures.moves in
     let may = token_moves w h i label first count (moves_view c.in_ok-moves.moves) c.laws.ensures.may sound c.self.invariant.holds lt out moves in
     subst (λ (os : List Owner). All (λ t. IsRangeIn (length os) t.0) (moves_view c.in_ok-moves.moves).transfers) (sym c.in_ok-reserve.ensures.owners) may.transfers
@@ -65,9 +65,9 @@ carry-requires-clause-grants c =
     let count = c.args.count in
     let d = driver_of w h.0 in
     let back = sym c.self.view_is in
-    let lt : h.0 < length w.machine.harts = subst (λ (v : WorldView). h.0 < length v.at.machine.harts) back c.requires.hart in
-    let sound : IsMachine w.machine = subst (λ (v : WorldView). IsMachine v.at.machine) back c.laws.ensures.machine in
-    let out : leaving w.machine h.0 i ≡ Some (entries.Lend label first count) = subst (λ (v : WorldView). leaving v.at.machine h.0 i ≡ Some (entries.Lend label first count)) back c.requires.leaves in
+    let lt : h.0 < length w.machine.harts = subst (λ (v : WorldView). h.0 < length v.state.machine.harts) back c.requires.hart in
+    let sound : IsMachine w.machine = subst (λ (v : WorldView). IsMachine v.state.machine) back c.laws.ensures.machine in
+    let out : leaving w.machine h.0 i ≡ Some (entries.Lend label first count) = subst (λ (v : WorldView). leaving v.state.machine h.0 i ≡ Some (entries.Lend label first count)) back c.requires.leaves in
     let moves : moves_view c.in_ok-moves.moves ≡ (lent d label first).moves = c.in_ok-moves.ensures.moves in
     let may = token_moves w h i label first count (moves_view c.in_ok-moves.moves) c.laws.ensures.may sound c.self.invariant.holds lt out moves in
     subst (λ (gs : List Grant). CanAddAll (length c.reserve.new.book.owners) gs (moves_view c.in_ok-moves.moves).grants) (sym c.in_ok-reserve.ensures.grants)
@@ -83,9 +83,9 @@ carry-requires-clause-backs c =
     let count = c.args.count in
     let d = driver_of w h.0 in
     let back = sym c.self.view_is in
-    let lt : h.0 < length w.machine.harts = subst (λ (v : WorldView). h.0 < length v.at.machine.harts) back c.requires.hart in
-    let sound : IsMachine w.machine = subst (λ (v : WorldView). IsMachine v.at.machine) back c.laws.ensures.machine in
-    let out : leaving w.machine h.0 i ≡ Some (entries.Lend label first count) = subst (λ (v : WorldView). leaving v.at.machine h.0 i ≡ Some (entries.Lend label first count)) back c.requires.leaves in
+    let lt : h.0 < length w.machine.harts = subst (λ (v : WorldView). h.0 < length v.state.machine.harts) back c.requires.hart in
+    let sound : IsMachine w.machine = subst (λ (v : WorldView). IsMachine v.state.machine) back c.laws.ensures.machine in
+    let out : leaving w.machine h.0 i ≡ Some (entries.Lend label first count) = subst (λ (v : WorldView). leaving v.state.machine h.0 i ≡ Some (entries.Lend label first count)) back c.requires.leaves in
     let moves : moves_view c.in_ok-moves.moves ≡ (lent d label first).moves = c.in_ok-moves.ensures.moves in
     let may = token_moves w h i label first count (moves_view c.in_ok-moves.moves) c.laws.ensures.may sound c.self.invariant.holds lt out moves in
     may.backs
@@ -100,9 +100,9 @@ carry-requires-clause-pages c =
     let count = c.args.count in
     let d = driver_of w h.0 in
     let back = sym c.self.view_is in
-    let lt : h.0 < length w.machine.harts = subst (λ (v : WorldView). h.0 < length v.at.machine.harts) back c.requires.hart in
-    let sound : IsMachine w.machine = subst (λ (v : WorldView). IsMachine v.at.machine) back c.laws.ensures.machine in
-    let out : leaving w.machine h.0 i ≡ Some (entries.Lend label first count) = subst (λ (v : WorldView). leaving v.at.machine h.0 i ≡ Some (entries.Lend label first count)) back c.requires.leaves in
+    let lt : h.0 < length w.machine.harts = subst (λ (v : WorldView). h.0 < length v.state.machine.harts) back c.requires.hart in
+    let sound : IsMachine w.machine = subst (λ (v : WorldView). IsMachine v.state.machine) back c.laws.ensures.machine in
+    let out : leaving w.machine h.0 i ≡ Some (entries.Lend label first count) = subst (λ (v : WorldView). leaving v.state.machine h.0 i ≡ Some (entries.Lend label first count)) back c.requires.leaves in
     let moves : moves_view c.in_ok-moves.moves ≡ (lent d label first).moves = c.in_ok-moves.ensures.moves in
     let may = token_moves w h i label first count (moves_view c.in_ok-moves.moves) c.laws.ensures.may sound c.self.invariant.holds lt out moves in
     may.pages
@@ -117,9 +117,9 @@ invariant_of-self-2 c =
     let count = c.args.count in
     let d = driver_of w h.0 in
     let back = sym c.self.view_is in
-    let lt : h.0 < length w.machine.harts = subst (λ (v : WorldView). h.0 < length v.at.machine.harts) back c.requires.hart in
-    let sound : IsMachine w.machine = subst (λ (v : WorldView). IsMachine v.at.machine) back c.laws.ensures.machine in
-    let out : leaving w.machine h.0 i ≡ Some (entries.Lend label first count) = subst (λ (v : WorldView). leaving v.at.machine h.0 i ≡ Some (entries.Lend label first count)) back c.requires.leaves in
+    let lt : h.0 < length w.machine.harts = subst (λ (v : WorldView). h.0 < length v.state.machine.harts) back c.requires.hart in
+    let sound : IsMachine w.machine = subst (λ (v : WorldView). IsMachine v.state.machine) back c.laws.ensures.machine in
+    let out : leaving w.machine h.0 i ≡ Some (entries.Lend label first count) = subst (λ (v : WorldView). leaving v.state.machine h.0 i ≡ Some (entries.Lend label first count)) back c.requires.leaves in
     let moves : moves_view c.in_ok-moves.moves ≡ (lent d label first).moves = c.in_ok-moves.ensures.moves in
     let same = same_next w _ (Drain h i) (token_goes w h i label first count) (moves_view c.in_ok-moves.moves) (drain_may w h i _ out) (token_is w h i label first count out) moves
     (c.drain.ensures.state ∙ ap (λ (k : MachineState). drain_next k h.0 i) c.in_ok-reserve.ensures.machine) c.in_ok-moves.ensures.driver
@@ -138,16 +138,16 @@ returns-clause-next c =
     let count = c.args.count in
     let d = driver_of w h.0 in
     let back = sym c.self.view_is in
-    let lt : h.0 < length w.machine.harts = subst (λ (v : WorldView). h.0 < length v.at.machine.harts) back c.requires.hart in
-    let sound : IsMachine w.machine = subst (λ (v : WorldView). IsMachine v.at.machine) back c.laws.ensures.machine in
-    let out : leaving w.machine h.0 i ≡ Some (entries.Lend label first count) = subst (λ (v : WorldView). leaving v.at.machine h.0 i ≡ Some (entries.Lend label first count)) back c.requires.leaves in
+    let lt : h.0 < length w.machine.harts = subst (λ (v : WorldView). h.0 < length v.state.machine.harts) back c.requires.hart in
+    let sound : IsMachine w.machine = subst (λ (v : WorldView). IsMachine v.state.machine) back c.laws.ensures.machine in
+    let out : leaving w.machine h.0 i ≡ Some (entries.Lend label first count) = subst (λ (v : WorldView). leaving v.state.machine h.0 i ≡ Some (entries.Lend label first count)) back c.requires.leaves in
     let moves : moves_view c.in_ok-moves.moves ≡ (lent d label first).moves = c.in_ok-moves.ensures.moves in
     let same = same_next w _ (Drain h i) (token_goes w h i label first count) (moves_view c.in_ok-moves.moves) (drain_may w h i _ out) (token_is w h i label first count out) moves
     (c.drain.ensures.state ∙ ap (λ (k : MachineState). drain_next k h.0 i) c.in_ok-reserve.ensures.machine) c.in_ok-moves.ensures.driver
     (c.carry.ensures.owners ∙ ap (λ (os : List Owner). owners_moved os (moves_view c.in_ok-moves.moves).transfers) c.in_ok-reserve.ensures.owners)
     (c.carry.ensures.grants ∙ ap (λ (gs : List Grant). grants_ended (grants_added gs (moves_view c.in_ok-moves.moves).grants) (moves_view c.in_ok-moves.moves).ended) c.in_ok-reserve.ensures.grants)
     c.one_more-self-inside.ensures refl c.carry.ensures.slots c.carry.ensures.pages in
-    same ∙ ap (λ (v : WorldView). next v.at (Drain h i)) c.self.view_is
+    same ∙ ap (λ (v : WorldView). next v.state (Drain h i)) c.self.view_is
 
 pub returns-clause-records : goal.returns-clause-records
 returns-clause-records c =
@@ -159,11 +159,11 @@ returns-clause-records c =
     let count = c.args.count in
     let d = driver_of w h.0 in
     let back = sym c.self.view_is in
-    let lt : h.0 < length w.machine.harts = subst (λ (v : WorldView). h.0 < length v.at.machine.harts) back c.requires.hart in
-    let sound : IsMachine w.machine = subst (λ (v : WorldView). IsMachine v.at.machine) back c.laws.ensures.machine in
-    let out : leaving w.machine h.0 i ≡ Some (entries.Lend label first count) = subst (λ (v : WorldView). leaving v.at.machine h.0 i ≡ Some (entries.Lend label first count)) back c.requires.leaves in
+    let lt : h.0 < length w.machine.harts = subst (λ (v : WorldView). h.0 < length v.state.machine.harts) back c.requires.hart in
+    let sound : IsMachine w.machine = subst (λ (v : WorldView). IsMachine v.state.machine) back c.laws.ensures.machine in
+    let out : leaving w.machine h.0 i ≡ Some (entries.Lend label first count) = subst (λ (v : WorldView). leaving v.state.machine h.0 i ≡ Some (entries.Lend label first count)) back c.requires.leaves in
     let moves : moves_view c.in_ok-moves.moves ≡ (lent d label first).moves = c.in_ok-moves.ensures.moves in
-    let number : c.number-n.result ≡ d.op = subst (λ (v : WorldView). c.number-n.result ≡ (driver_of v.at h.0).op) back c.number-n.ensures in
+    let number : c.number-n.result ≡ d.op = subst (λ (v : WorldView). c.number-n.result ≡ (driver_of v.state h.0).op) back c.number-n.ensures in
     let e = entries.Lend label first count in
     let start = c.self.inside.log.records in
     let x = records.Event (Drain h i) in
@@ -171,4 +171,4 @@ returns-clause-records c =
     let drained = c.drain.ensures.records ∙ ap (λ (k : MachineState). c.push.new.self.records ++ drain_records k h e) c.in_ok-reserve.ensures.machine in
     let all = c.moves.ensures.records ∙ ap (λ (j : ℕ). c.drain.new.log.records ++ moves_records h j (moves_view c.in_ok-moves.moves)) number ∙ ap (λ (v : Moved). c.drain.new.log.records ++ moves_records h d.op v) moves in
     let sum = searched_records start _ _ _ _ _ x pushed drained all ∙ ap (λ (l : List Record). start ++ l) (sym (told_by w (Drain h i) (token_goes w h i label first count) (drain_may w h i _ out) (token_is w h i label first count out))) in
-    subst (λ (v : WorldView). c.moves.new.self.records ≡ v.records ++ event_records v.at (Drain h i)) c.self.view_is sum
+    subst (λ (v : WorldView). c.moves.new.self.records ≡ v.records ++ event_records v.state (Drain h i)) c.self.view_is sum

@@ -38,10 +38,10 @@ carry-requires-clause-inside c =
     let n = c.coming-next.result in
     let d = driver_of w h.0 in
     let back = sym c.self.view_is in
-    let lt : h.0 < length w.machine.harts = subst (λ (v : WorldView). h.0 < length v.at.machine.harts) back c.requires in
-    let sound : IsMachine w.machine = subst (λ (v : WorldView). IsMachine v.at.machine) back c.laws.ensures.machine in
-    let coming : next_of d ≡ n = sym (subst (λ (v : WorldView). n ≡ next_of (driver_of v.at h.0)) back c.coming-next.ensures.next) in
-    let may_go : may_issue_step w h ≡ true = sym (subst (λ (v : WorldView). c.may_issue.result ≡ may_issue_step v.at h) back c.may_issue.ensures) ∙ c.if-not-may_issue.false in
+    let lt : h.0 < length w.machine.harts = subst (λ (v : WorldView). h.0 < length v.state.machine.harts) back c.requires in
+    let sound : IsMachine w.machine = subst (λ (v : WorldView). IsMachine v.state.machine) back c.laws.ensures.machine in
+    let coming : next_of d ≡ n = sym (subst (λ (v : WorldView). n ≡ next_of (driver_of v.state h.0)) back c.coming-next.ensures.next) in
+    let may_go : may_issue_step w h ≡ true = sym (subst (λ (v : WorldView). c.may_issue.result ≡ may_issue_step v.state h) back c.may_issue.ensures) ∙ c.if-not-may_issue.false in
     let moves : moves_view c.in_ok-moves.moves ≡ (went_on d w.owners w.pages n (step_seen w.machine h n)).moves =
     c.in_ok-moves.ensures.moves ∙ ap (λ (os : List Owner). (went_on d os w.pages n c.seen-saw.result).moves) c.in_ok-reserve.ensures.owners
     ∙ ap (λ (s : Seen). (went_on d w.owners w.pages n s).moves) c.seen-saw.ensures in
@@ -55,10 +55,10 @@ carry-requires-clause-grants c =
     let n = c.coming-next.result in
     let d = driver_of w h.0 in
     let back = sym c.self.view_is in
-    let lt : h.0 < length w.machine.harts = subst (λ (v : WorldView). h.0 < length v.at.machine.harts) back c.requires in
-    let sound : IsMachine w.machine = subst (λ (v : WorldView). IsMachine v.at.machine) back c.laws.ensures.machine in
-    let coming : next_of d ≡ n = sym (subst (λ (v : WorldView). n ≡ next_of (driver_of v.at h.0)) back c.coming-next.ensures.next) in
-    let may_go : may_issue_step w h ≡ true = sym (subst (λ (v : WorldView). c.may_issue.result ≡ may_issue_step v.at h) back c.may_issue.ensures) ∙ c.if-not-may_issue.false in
+    let lt : h.0 < length w.machine.harts = subst (λ (v : WorldView). h.0 < length v.state.machine.harts) back c.requires in
+    let sound : IsMachine w.machine = subst (λ (v : WorldView). IsMachine v.state.machine) back c.laws.ensures.machine in
+    let coming : next_of d ≡ n = sym (subst (λ (v : WorldView). n ≡ next_of (driver_of v.state h.0)) back c.coming-next.ensures.next) in
+    let may_go : may_issue_step w h ≡ true = sym (subst (λ (v : WorldView). c.may_issue.result ≡ may_issue_step v.state h) back c.may_issue.ensures) ∙ c.if-not-may_issue.false in
     let moves : moves_view c.in_ok-moves.moves ≡ (went_on d w.owners w.pages n (step_seen w.machine h n)).moves =
     c.in_ok-moves.ensures.moves ∙ ap (λ (os : List Owner). (went_on d os w.pages n c.seen-saw.result).moves) c.in_ok-reserve.ensures.owners
     ∙ ap (λ (s : Seen). (went_on d w.owners w.pages n s).moves) c.seen-saw.ensures in
@@ -73,10 +73,10 @@ carry-requires-clause-backs c =
     let n = c.coming-next.result in
     let d = driver_of w h.0 in
     let back = sym c.self.view_is in
-    let lt : h.0 < length w.machine.harts = subst (λ (v : WorldView). h.0 < length v.at.machine.harts) back c.requires in
-    let sound : IsMachine w.machine = subst (λ (v : WorldView). IsMachine v.at.machine) back c.laws.ensures.machine in
-    let coming : next_of d ≡ n = sym (subst (λ (v : WorldView). n ≡ next_of (driver_of v.at h.0)) back c.coming-next.ensures.next) in
-    let may_go : may_issue_step w h ≡ true = sym (subst (λ (v : WorldView). c.may_issue.result ≡ may_issue_step v.at h) back c.may_issue.ensures) ∙ c.if-not-may_issue.false in
+    let lt : h.0 < length w.machine.harts = subst (λ (v : WorldView). h.0 < length v.state.machine.harts) back c.requires in
+    let sound : IsMachine w.machine = subst (λ (v : WorldView). IsMachine v.state.machine) back c.laws.ensures.machine in
+    let coming : next_of d ≡ n = sym (subst (λ (v : WorldView). n ≡ next_of (driver_of v.state h.0)) back c.coming-next.ensures.next) in
+    let may_go : may_issue_step w h ≡ true = sym (subst (λ (v : WorldView). c.may_issue.result ≡ may_issue_step v.state h) back c.may_issue.ensures) ∙ c.if-not-may_issue.false in
     let moves : moves_view c.in_ok-moves.moves ≡ (went_on d w.owners w.pages n (step_seen w.machine h n)).moves =
     c.in_ok-moves.ensures.moves ∙ ap (λ (os : List Owner). (went_on d os w.pages n c.seen-saw.result).moves) c.in_ok-reserve.ensures.owners
     ∙ ap (λ (s : Seen). (went_on d w.owners w.pages n s).moves) c.seen-saw.ensures in
@@ -90,10 +90,10 @@ carry-requires-clause-pages c =
     let n = c.coming-next.result in
     let d = driver_of w h.0 in
     let back = sym c.self.view_is in
-    let lt : h.0 < length w.machine.harts = subst (λ (v : WorldView). h.0 < length v.at.machine.harts) back c.requires in
-    let sound : IsMachine w.machine = subst (λ (v : WorldView). IsMachine v.at.machine) back c.laws.ensures.machine in
-    let coming : next_of d ≡ n = sym (subst (λ (v : WorldView). n ≡ next_of (driver_of v.at h.0)) back c.coming-next.ensures.next) in
-    let may_go : may_issue_step w h ≡ true = sym (subst (λ (v : WorldView). c.may_issue.result ≡ may_issue_step v.at h) back c.may_issue.ensures) ∙ c.if-not-may_issue.false in
+    let lt : h.0 < length w.machine.harts = subst (λ (v : WorldView). h.0 < length v.state.machine.harts) back c.requires in
+    let sound : IsMachine w.machine = subst (λ (v : WorldView). IsMachine v.state.machine) back c.laws.ensures.machine in
+    let coming : next_of d ≡ n = sym (subst (λ (v : WorldView). n ≡ next_of (driver_of v.state h.0)) back c.coming-next.ensures.next) in
+    let may_go : may_issue_step w h ≡ true = sym (subst (λ (v : WorldView). c.may_issue.result ≡ may_issue_step v.state h) back c.may_issue.ensures) ∙ c.if-not-may_issue.false in
     let moves : moves_view c.in_ok-moves.moves ≡ (went_on d w.owners w.pages n (step_seen w.machine h n)).moves =
     c.in_ok-moves.ensures.moves ∙ ap (λ (os : List Owner). (went_on d os w.pages n c.seen-saw.result).moves) c.in_ok-reserve.ensures.owners
     ∙ ap (λ (s : Seen). (went_on d w.owners w.pages n s).moves) c.seen-saw.ensures in
@@ -107,14 +107,14 @@ invariant_of-self-2 c =
     let n = c.coming-next.result in
     let d = driver_of w h.0 in
     let back = sym c.self.view_is in
-    let lt : h.0 < length w.machine.harts = subst (λ (v : WorldView). h.0 < length v.at.machine.harts) back c.requires in
-    let sound : IsMachine w.machine = subst (λ (v : WorldView). IsMachine v.at.machine) back c.laws.ensures.machine in
-    let coming : next_of d ≡ n = sym (subst (λ (v : WorldView). n ≡ next_of (driver_of v.at h.0)) back c.coming-next.ensures.next) in
-    let may_go : may_issue_step w h ≡ true = sym (subst (λ (v : WorldView). c.may_issue.result ≡ may_issue_step v.at h) back c.may_issue.ensures) ∙ c.if-not-may_issue.false in
+    let lt : h.0 < length w.machine.harts = subst (λ (v : WorldView). h.0 < length v.state.machine.harts) back c.requires in
+    let sound : IsMachine w.machine = subst (λ (v : WorldView). IsMachine v.state.machine) back c.laws.ensures.machine in
+    let coming : next_of d ≡ n = sym (subst (λ (v : WorldView). n ≡ next_of (driver_of v.state h.0)) back c.coming-next.ensures.next) in
+    let may_go : may_issue_step w h ≡ true = sym (subst (λ (v : WorldView). c.may_issue.result ≡ may_issue_step v.state h) back c.may_issue.ensures) ∙ c.if-not-may_issue.false in
     let moves : moves_view c.in_ok-moves.moves ≡ (went_on d w.owners w.pages n (step_seen w.machine h n)).moves =
     c.in_ok-moves.ensures.moves ∙ ap (λ (os : List Owner). (went_on d os w.pages n c.seen-saw.result).moves) c.in_ok-reserve.ensures.owners
     ∙ ap (λ (s : Seen). (went_on d w.owners w.pages n s).moves) c.seen-saw.ensures in
-    let touch : c.step_touch-touch.result ≡ step_touch w h n = subst (λ (v : WorldView). c.step_touch-touch.result ≡ step_touch v.at h n) back c.step_touch-touch.ensures in
+    let touch : c.step_touch-touch.result ≡ step_touch w h n = subst (λ (v : WorldView). c.step_touch-touch.result ≡ step_touch v.state h n) back c.step_touch-touch.ensures in
     let out = issue_outcome_is w h n coming (going w h n (next_may w h n coming may_go)) in
     let drivers = c.in_ok-moves.ensures.driver ∙ ap (λ (os : List Owner). slice_set w.drivers h.0 (went_on d os w.pages n c.seen-saw.result).driver) c.in_ok-reserve.ensures.owners
     ∙ ap (λ (s : Seen). slice_set w.drivers h.0 (went_on d w.owners w.pages n s).driver) c.seen-saw.ensures in
@@ -132,14 +132,14 @@ returns-clause-next c =
     let n = c.coming-next.result in
     let d = driver_of w h.0 in
     let back = sym c.self.view_is in
-    let lt : h.0 < length w.machine.harts = subst (λ (v : WorldView). h.0 < length v.at.machine.harts) back c.requires in
-    let sound : IsMachine w.machine = subst (λ (v : WorldView). IsMachine v.at.machine) back c.laws.ensures.machine in
-    let coming : next_of d ≡ n = sym (subst (λ (v : WorldView). n ≡ next_of (driver_of v.at h.0)) back c.coming-next.ensures.next) in
-    let may_go : may_issue_step w h ≡ true = sym (subst (λ (v : WorldView). c.may_issue.result ≡ may_issue_step v.at h) back c.may_issue.ensures) ∙ c.if-not-may_issue.false in
+    let lt : h.0 < length w.machine.harts = subst (λ (v : WorldView). h.0 < length v.state.machine.harts) back c.requires in
+    let sound : IsMachine w.machine = subst (λ (v : WorldView). IsMachine v.state.machine) back c.laws.ensures.machine in
+    let coming : next_of d ≡ n = sym (subst (λ (v : WorldView). n ≡ next_of (driver_of v.state h.0)) back c.coming-next.ensures.next) in
+    let may_go : may_issue_step w h ≡ true = sym (subst (λ (v : WorldView). c.may_issue.result ≡ may_issue_step v.state h) back c.may_issue.ensures) ∙ c.if-not-may_issue.false in
     let moves : moves_view c.in_ok-moves.moves ≡ (went_on d w.owners w.pages n (step_seen w.machine h n)).moves =
     c.in_ok-moves.ensures.moves ∙ ap (λ (os : List Owner). (went_on d os w.pages n c.seen-saw.result).moves) c.in_ok-reserve.ensures.owners
     ∙ ap (λ (s : Seen). (went_on d w.owners w.pages n s).moves) c.seen-saw.ensures in
-    let touch : c.step_touch-touch.result ≡ step_touch w h n = subst (λ (v : WorldView). c.step_touch-touch.result ≡ step_touch v.at h n) back c.step_touch-touch.ensures in
+    let touch : c.step_touch-touch.result ≡ step_touch w h n = subst (λ (v : WorldView). c.step_touch-touch.result ≡ step_touch v.state h n) back c.step_touch-touch.ensures in
     let out = issue_outcome_is w h n coming (going w h n (next_may w h n coming may_go)) in
     let drivers = c.in_ok-moves.ensures.driver ∙ ap (λ (os : List Owner). slice_set w.drivers h.0 (went_on d os w.pages n c.seen-saw.result).driver) c.in_ok-reserve.ensures.owners
     ∙ ap (λ (s : Seen). slice_set w.drivers h.0 (went_on d w.owners w.pages n s).driver) c.seen-saw.ensures in
@@ -148,7 +148,7 @@ returns-clause-next c =
     (c.carry.ensures.owners ∙ ap (λ (os : List Owner). owners_moved os (moves_view c.in_ok-moves.moves).transfers) c.in_ok-reserve.ensures.owners)
     (c.carry.ensures.grants ∙ ap (λ (gs : List Grant). grants_ended (grants_added gs (moves_view c.in_ok-moves.moves).grants) (moves_view c.in_ok-moves.moves).ended) c.in_ok-reserve.ensures.grants)
     c.one_more-self-inside.ensures (c.touches_after-self-inside.ensures ∙ ap (touches_after w.touches) touch) c.carry.ensures.slots c.carry.ensures.pages in
-    same ∙ ap (λ (v : WorldView). next v.at (Issue h)) c.self.view_is
+    same ∙ ap (λ (v : WorldView). next v.state (Issue h)) c.self.view_is
 
 pub returns-clause-records : goal.returns-clause-records
 returns-clause-records c =
@@ -157,17 +157,17 @@ returns-clause-records c =
     let n = c.coming-next.result in
     let d = driver_of w h.0 in
     let back = sym c.self.view_is in
-    let lt : h.0 < length w.machine.harts = subst (λ (v : WorldView). h.0 < length v.at.machine.harts) back c.requires in
-    let sound : IsMachine w.machine = subst (λ (v : WorldView). IsMachine v.at.machine) back c.laws.ensures.machine in
-    let coming : next_of d ≡ n = sym (subst (λ (v : WorldView). n ≡ next_of (driver_of v.at h.0)) back c.coming-next.ensures.next) in
-    let may_go : may_issue_step w h ≡ true = sym (subst (λ (v : WorldView). c.may_issue.result ≡ may_issue_step v.at h) back c.may_issue.ensures) ∙ c.if-not-may_issue.false in
+    let lt : h.0 < length w.machine.harts = subst (λ (v : WorldView). h.0 < length v.state.machine.harts) back c.requires in
+    let sound : IsMachine w.machine = subst (λ (v : WorldView). IsMachine v.state.machine) back c.laws.ensures.machine in
+    let coming : next_of d ≡ n = sym (subst (λ (v : WorldView). n ≡ next_of (driver_of v.state h.0)) back c.coming-next.ensures.next) in
+    let may_go : may_issue_step w h ≡ true = sym (subst (λ (v : WorldView). c.may_issue.result ≡ may_issue_step v.state h) back c.may_issue.ensures) ∙ c.if-not-may_issue.false in
     let moves : moves_view c.in_ok-moves.moves ≡ (went_on d w.owners w.pages n (step_seen w.machine h n)).moves =
     c.in_ok-moves.ensures.moves ∙ ap (λ (os : List Owner). (went_on d os w.pages n c.seen-saw.result).moves) c.in_ok-reserve.ensures.owners
     ∙ ap (λ (s : Seen). (went_on d w.owners w.pages n s).moves) c.seen-saw.ensures in
     let out = issue_outcome_is w h n coming (going w h n (next_may w h n coming may_go)) in
-    let touch : c.step_touch-touch.result ≡ step_touch w h n = subst (λ (v : WorldView). c.step_touch-touch.result ≡ step_touch v.at h n) back c.step_touch-touch.ensures in
-    let by_script : c.is_script-by_script.result ≡ is_script d.phase = subst (λ (v : WorldView). c.is_script-by_script.result ≡ is_script (driver_of v.at h.0).phase) back c.is_script-by_script.ensures in
-    let number : c.number-n.result ≡ d.op = subst (λ (v : WorldView). c.number-n.result ≡ (driver_of v.at h.0).op) back c.number-n.ensures in
+    let touch : c.step_touch-touch.result ≡ step_touch w h n = subst (λ (v : WorldView). c.step_touch-touch.result ≡ step_touch v.state h n) back c.step_touch-touch.ensures in
+    let by_script : c.is_script-by_script.result ≡ is_script d.phase = subst (λ (v : WorldView). c.is_script-by_script.result ≡ is_script (driver_of v.state h.0).phase) back c.is_script-by_script.ensures in
+    let number : c.number-n.result ≡ d.op = subst (λ (v : WorldView). c.number-n.result ≡ (driver_of v.state h.0).op) back c.number-n.ensures in
     let start = c.self.inside.log.records in
     let x = records.Event (Issue h) in
     let by = is_script d.phase in
@@ -178,4 +178,4 @@ returns-clause-records c =
     ∙ ap (λ (k : MachineState). touched_log ++ act_records k h by n) c.in_ok-reserve.ensures.machine in
     let all = c.moves.ensures.records ∙ ap (λ (k : ℕ). c.act.new.log.records ++ moves_records h k (moves_view c.in_ok-moves.moves)) number ∙ ap (λ (v : Moved). c.act.new.log.records ++ moves_records h d.op v) moves in
     let sum = joined start _ _ _ _ _ _ _ x pushed touched wrote all ∙ ap (λ (l : List Record). start ++ l) (sym (told_by w (Issue h) (parts_outcome w h n) (may_is w h may_go) out)) in
-    subst (λ (v : WorldView). c.moves.new.self.records ≡ v.records ++ event_records v.at (Issue h)) c.self.view_is sum
+    subst (λ (v : WorldView). c.moves.new.self.records ≡ v.records ++ event_records v.state (Issue h)) c.self.view_is sum

@@ -10,4 +10,4 @@ pub returns : goal.returns
 returns c =
     let u = state_of c.self.inside in
     c.hart_touch.ensures ∙ ap (λ (pool : Span). piece_touch (owner_of u) u.grants pool c.args.h c.args.access c.args.span c.args.kind) c.self.invariant.pool
-    ∙ ap (λ (v : WorldView). piece_touch (owner_of v.at) v.at.grants v.at.machine.pool c.args.h c.args.access c.args.span c.args.kind) c.self.view_is
+    ∙ ap (λ (v : WorldView). piece_touch (owner_of v.state) v.state.grants v.state.machine.pool c.args.h c.args.access c.args.span c.args.kind) c.self.view_is

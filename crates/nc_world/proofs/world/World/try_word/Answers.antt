@@ -30,9 +30,9 @@ try_word-requires c =
     let k = c.in-Some.k in
     let d = driver_of w h.0 in
     let back = sym c.self.view_is in
-    let lt : h.0 < length w.machine.harts = subst (λ (v : WorldView). h.0 < length v.at.machine.harts) back c.requires in
-    let sound : IsMachine w.machine = subst (λ (v : WorldView). IsMachine v.at.machine) back c.laws.ensures.machine in
-    let at : searching d ≡ Some k = sym (subst (λ (v : WorldView). c.searching.result ≡ searching (driver_of v.at h.0)) back c.searching.ensures) ∙ c.in-Some.is in
+    let lt : h.0 < length w.machine.harts = subst (λ (v : WorldView). h.0 < length v.state.machine.harts) back c.requires in
+    let sound : IsMachine w.machine = subst (λ (v : WorldView). IsMachine v.state.machine) back c.laws.ensures.machine in
+    let at : searching d ≡ Some k = sym (subst (λ (v : WorldView). c.searching.result ≡ searching (driver_of v.state h.0)) back c.searching.ensures) ∙ c.in-Some.is in
     word_there w h.0 k c.laws.ensures.stays c.self.invariant.holds lt at
 
 pub carry-requires-clause-inside : goal.carry-requires-clause-inside
@@ -42,9 +42,9 @@ carry-requires-clause-inside c =
     let k = c.in-Some.k in
     let d = driver_of w h.0 in
     let back = sym c.self.view_is in
-    let lt : h.0 < length w.machine.harts = subst (λ (v : WorldView). h.0 < length v.at.machine.harts) back c.requires in
-    let sound : IsMachine w.machine = subst (λ (v : WorldView). IsMachine v.at.machine) back c.laws.ensures.machine in
-    let at : searching d ≡ Some k = sym (subst (λ (v : WorldView). c.searching.result ≡ searching (driver_of v.at h.0)) back c.searching.ensures) ∙ c.in-Some.is in
+    let lt : h.0 < length w.machine.harts = subst (λ (v : WorldView). h.0 < length v.state.machine.harts) back c.requires in
+    let sound : IsMachine w.machine = subst (λ (v : WorldView). IsMachine v.state.machine) back c.laws.ensures.machine in
+    let at : searching d ≡ Some k = sym (subst (λ (v : WorldView). c.searching.result ≡ searching (driver_of v.state h.0)) back c.searching.ensures) ∙ c.in-Some.is in
     let moves : moves_view c.in_ok-moves.moves ≡ (told d (is_none (holder_of w.slots k))).moves =
     c.in_ok-moves.ensures.moves ∙ ap (λ (b : Bool). (told d b).moves) (c.is_free.ensures ∙ ap is_none c.holder-holder.ensures) in
     let may = try_moves w h k (moves_view c.in_ok-moves.moves) c.laws.ensures.may sound c.self.invariant.holds lt at moves in
@@ -57,9 +57,9 @@ carry-requires-clause-grants c =
     let k = c.in-Some.k in
     let d = driver_of w h.0 in
     let back = sym c.self.view_is in
-    let lt : h.0 < length w.machine.harts = subst (λ (v : WorldView). h.0 < length v.at.machine.harts) back c.requires in
-    let sound : IsMachine w.machine = subst (λ (v : WorldView). IsMachine v.at.machine) back c.laws.ensures.machine in
-    let at : searching d ≡ Some k = sym (subst (λ (v : WorldView). c.searching.result ≡ searching (driver_of v.at h.0)) back c.searching.ensures) ∙ c.in-Some.is in
+    let lt : h.0 < length w.machine.harts = subst (λ (v : WorldView). h.0 < length v.state.machine.harts) back c.requires in
+    let sound : IsMachine w.machine = subst (λ (v : WorldView). IsMachine v.state.machine) back c.laws.ensures.machine in
+    let at : searching d ≡ Some k = sym (subst (λ (v : WorldView). c.searching.result ≡ searching (driver_of v.state h.0)) back c.searching.ensures) ∙ c.in-Some.is in
     let moves : moves_view c.in_ok-moves.moves ≡ (told d (is_none (holder_of w.slots k))).moves =
     c.in_ok-moves.ensures.moves ∙ ap (λ (b : Bool). (told d b).moves) (c.is_free.ensures ∙ ap is_none c.holder-holder.ensures) in
     let may = try_moves w h k (moves_view c.in_ok-moves.moves) c.laws.ensures.may sound c.self.invariant.holds lt at moves in
@@ -73,9 +73,9 @@ carry-requires-clause-backs c =
     let k = c.in-Some.k in
     let d = driver_of w h.0 in
     let back = sym c.self.view_is in
-    let lt : h.0 < length w.machine.harts = subst (λ (v : WorldView). h.0 < length v.at.machine.harts) back c.requires in
-    let sound : IsMachine w.machine = subst (λ (v : WorldView). IsMachine v.at.machine) back c.laws.ensures.machine in
-    let at : searching d ≡ Some k = sym (subst (λ (v : WorldView). c.searching.result ≡ searching (driver_of v.at h.0)) back c.searching.ensures) ∙ c.in-Some.is in
+    let lt : h.0 < length w.machine.harts = subst (λ (v : WorldView). h.0 < length v.state.machine.harts) back c.requires in
+    let sound : IsMachine w.machine = subst (λ (v : WorldView). IsMachine v.state.machine) back c.laws.ensures.machine in
+    let at : searching d ≡ Some k = sym (subst (λ (v : WorldView). c.searching.result ≡ searching (driver_of v.state h.0)) back c.searching.ensures) ∙ c.in-Some.is in
     let moves : moves_view c.in_ok-moves.moves ≡ (told d (is_none (holder_of w.slots k))).moves =
     c.in_ok-moves.ensures.moves ∙ ap (λ (b : Bool). (told d b).moves) (c.is_free.ensures ∙ ap is_none c.holder-holder.ensures) in
     let may = try_moves w h k (moves_view c.in_ok-moves.moves) c.laws.ensures.may sound c.self.invariant.holds lt at moves in
@@ -88,9 +88,9 @@ carry-requires-clause-pages c =
     let k = c.in-Some.k in
     let d = driver_of w h.0 in
     let back = sym c.self.view_is in
-    let lt : h.0 < length w.machine.harts = subst (λ (v : WorldView). h.0 < length v.at.machine.harts) back c.requires in
-    let sound : IsMachine w.machine = subst (λ (v : WorldView). IsMachine v.at.machine) back c.laws.ensures.machine in
-    let at : searching d ≡ Some k = sym (subst (λ (v : WorldView). c.searching.result ≡ searching (driver_of v.at h.0)) back c.searching.ensures) ∙ c.in-Some.is in
+    let lt : h.0 < length w.machine.harts = subst (λ (v : WorldView). h.0 < length v.state.machine.harts) back c.requires in
+    let sound : IsMachine w.machine = subst (λ (v : WorldView). IsMachine v.state.machine) back c.laws.ensures.machine in
+    let at : searching d ≡ Some k = sym (subst (λ (v : WorldView). c.searching.result ≡ searching (driver_of v.state h.0)) back c.searching.ensures) ∙ c.in-Some.is in
     let moves : moves_view c.in_ok-moves.moves ≡ (told d (is_none (holder_of w.slots k))).moves =
     c.in_ok-moves.ensures.moves ∙ ap (λ (b : Bool). (told d b).moves) (c.is_free.ensures ∙ ap is_none c.holder-holder.ensures) in
     let may = try_moves w h k (moves_view c.in_ok-moves.moves) c.laws.ensures.may sound c.self.invariant.holds lt at moves in
@@ -103,9 +103,9 @@ invariant_of-self-2 c =
     let k = c.in-Some.k in
     let d = driver_of w h.0 in
     let back = sym c.self.view_is in
-    let lt : h.0 < length w.machine.harts = subst (λ (v : WorldView). h.0 < length v.at.machine.harts) back c.requires in
-    let sound : IsMachine w.machine = subst (λ (v : WorldView). IsMachine v.at.machine) back c.laws.ensures.machine in
-    let at : searching d ≡ Some k = sym (subst (λ (v : WorldView). c.searching.result ≡ searching (driver_of v.at h.0)) back c.searching.ensures) ∙ c.in-Some.is in
+    let lt : h.0 < length w.machine.harts = subst (λ (v : WorldView). h.0 < length v.state.machine.harts) back c.requires in
+    let sound : IsMachine w.machine = subst (λ (v : WorldView). IsMachine v.state.machine) back c.laws.ensures.machine in
+    let at : searching d ≡ Some k = sym (subst (λ (v : WorldView). c.searching.result ≡ searching (driver_of v.state h.0)) back c.searching.ensures) ∙ c.in-Some.is in
     let moves : moves_view c.in_ok-moves.moves ≡ (told d (is_none (holder_of w.slots k))).moves =
     c.in_ok-moves.ensures.moves ∙ ap (λ (b : Bool). (told d b).moves) (c.is_free.ensures ∙ ap is_none c.holder-holder.ensures) in
     let same = same_next w _ (Try h) (try_goes w h k) (moves_view c.in_ok-moves.moves) (search_may w h k at) (try_is w h k at) moves
@@ -122,9 +122,9 @@ returns-clause-next c =
     let k = c.in-Some.k in
     let d = driver_of w h.0 in
     let back = sym c.self.view_is in
-    let lt : h.0 < length w.machine.harts = subst (λ (v : WorldView). h.0 < length v.at.machine.harts) back c.requires in
-    let sound : IsMachine w.machine = subst (λ (v : WorldView). IsMachine v.at.machine) back c.laws.ensures.machine in
-    let at : searching d ≡ Some k = sym (subst (λ (v : WorldView). c.searching.result ≡ searching (driver_of v.at h.0)) back c.searching.ensures) ∙ c.in-Some.is in
+    let lt : h.0 < length w.machine.harts = subst (λ (v : WorldView). h.0 < length v.state.machine.harts) back c.requires in
+    let sound : IsMachine w.machine = subst (λ (v : WorldView). IsMachine v.state.machine) back c.laws.ensures.machine in
+    let at : searching d ≡ Some k = sym (subst (λ (v : WorldView). c.searching.result ≡ searching (driver_of v.state h.0)) back c.searching.ensures) ∙ c.in-Some.is in
     let moves : moves_view c.in_ok-moves.moves ≡ (told d (is_none (holder_of w.slots k))).moves =
     c.in_ok-moves.ensures.moves ∙ ap (λ (b : Bool). (told d b).moves) (c.is_free.ensures ∙ ap is_none c.holder-holder.ensures) in
     let same = same_next w _ (Try h) (try_goes w h k) (moves_view c.in_ok-moves.moves) (search_may w h k at) (try_is w h k at) moves
@@ -132,7 +132,7 @@ returns-clause-next c =
     (c.carry.ensures.owners ∙ ap (λ (os : List Owner). owners_moved os (moves_view c.in_ok-moves.moves).transfers) c.in_ok-reserve.ensures.owners)
     (c.carry.ensures.grants ∙ ap (λ (gs : List Grant). grants_ended (grants_added gs (moves_view c.in_ok-moves.moves).grants) (moves_view c.in_ok-moves.moves).ended) c.in_ok-reserve.ensures.grants)
     c.one_more-self-inside.ensures refl (c.carry.ensures.slots ∙ ap (λ (ss : List (Option HartNo)). slots_back ss (moves_view c.in_ok-moves.moves).backs) (c.try_word.ensures.words)) c.carry.ensures.pages in
-    same ∙ ap (λ (v : WorldView). next v.at (Try h)) c.self.view_is
+    same ∙ ap (λ (v : WorldView). next v.state (Try h)) c.self.view_is
 
 pub returns-clause-records : goal.returns-clause-records
 returns-clause-records c =
@@ -141,16 +141,16 @@ returns-clause-records c =
     let k = c.in-Some.k in
     let d = driver_of w h.0 in
     let back = sym c.self.view_is in
-    let lt : h.0 < length w.machine.harts = subst (λ (v : WorldView). h.0 < length v.at.machine.harts) back c.requires in
-    let sound : IsMachine w.machine = subst (λ (v : WorldView). IsMachine v.at.machine) back c.laws.ensures.machine in
-    let at : searching d ≡ Some k = sym (subst (λ (v : WorldView). c.searching.result ≡ searching (driver_of v.at h.0)) back c.searching.ensures) ∙ c.in-Some.is in
+    let lt : h.0 < length w.machine.harts = subst (λ (v : WorldView). h.0 < length v.state.machine.harts) back c.requires in
+    let sound : IsMachine w.machine = subst (λ (v : WorldView). IsMachine v.state.machine) back c.laws.ensures.machine in
+    let at : searching d ≡ Some k = sym (subst (λ (v : WorldView). c.searching.result ≡ searching (driver_of v.state h.0)) back c.searching.ensures) ∙ c.in-Some.is in
     let moves : moves_view c.in_ok-moves.moves ≡ (told d (is_none (holder_of w.slots k))).moves =
     c.in_ok-moves.ensures.moves ∙ ap (λ (b : Bool). (told d b).moves) (c.is_free.ensures ∙ ap is_none c.holder-holder.ensures) in
-    let number : c.number-n.result ≡ d.op = subst (λ (v : WorldView). c.number-n.result ≡ (driver_of v.at h.0).op) back c.number-n.ensures in
+    let number : c.number-n.result ≡ d.op = subst (λ (v : WorldView). c.number-n.result ≡ (driver_of v.state h.0).op) back c.number-n.ensures in
     let start = c.self.inside.log.records in
     let x = records.Event (Try h) in
     let pushed = c.push.ensures.records ∙ ap (λ (l : List Record). l ++ x ∷ []) c.in_ok-reserve.ensures.records in
     let looked = c.tried.ensures.records ∙ ap (λ (o : Option HartNo). c.push.new.self.records ++ try_records h k o) c.holder-holder.ensures in
     let all = c.moves.ensures.records ∙ ap (λ (j : ℕ). c.tried.new.self.records ++ moves_records h j (moves_view c.in_ok-moves.moves)) number ∙ ap (λ (v : Moved). c.tried.new.self.records ++ moves_records h d.op v) moves in
     let sum = searched_records start _ _ _ _ _ x pushed looked all ∙ ap (λ (l : List Record). start ++ l) (sym (told_by w (Try h) (try_goes w h k) (search_may w h k at) (try_is w h k at))) in
-    subst (λ (v : WorldView). c.moves.new.self.records ≡ v.records ++ event_records v.at (Try h)) c.self.view_is sum
+    subst (λ (v : WorldView). c.moves.new.self.records ≡ v.records ++ event_records v.state (Try h)) c.self.view_is sum
