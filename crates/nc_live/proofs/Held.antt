@@ -50,9 +50,6 @@ sifted_keep k f ys xs s kept = record {
   rest = λ j from. s.rest j (omega arith);
 }
 
-pub sifted_none : (f : ℕ → Bool) (ys : List ℕ) → Sifted 0 f ys ys
-sifted_none f ys = record { done = λ j below. absurd (omega arith); rest = λ j from. refl }
-
 pub left_fails : (a b : Bool) → (a && not b) ≡ true → b ≡ false
 left_fails true true e = absurd (cc)
 left_fails true false e = refl

@@ -35,19 +35,6 @@ is_driver e h (inr (inr (i, is))) = ap (is_driver_event h) is ∙ eq-eqb h.0 h.0
 
 -- ---- what is counted is there
 
-hart_below : (sc : Scenario) (g h : HartNo) → length sc.harts ≤ 4 → g.0 < length sc.harts → (g.0 == h.0) ≡ true → h.0 < 4
-hart_below sc g h few lt is = omega (arith, few, lt, eqb-true g.0 h.0 is)
-
-pub counted_there : (sc : Scenario) (e : Event) (h : HartNo) → length sc.harts ≤ 4 → IsThere (length sc.harts) sc.block_size sc.ram e → belongs (Driver h) e ≡ true → h.0 < 4
-counted_there sc (Issue g) h few there is = hart_below sc g h few there is
-counted_there sc (Try g) h few there is = absurd (cc)
-counted_there sc (Told g got) h few there is = hart_below sc g h few there is
-counted_there sc (Drain g i) h few there is = hart_below sc g h few there is
-counted_there sc (Fill g b) h few there is = absurd (cc)
-counted_there sc (Evict g b) h few there is = absurd (cc)
-counted_there sc (ChanRead c) h few there is = absurd (cc)
-counted_there sc (ChanWrite c) h few there is = absurd (cc)
-
 pub is_counted : (sc : Scenario) (t : Turner) → length sc.harts ≤ 4 → IsThread sc t → IsCounted t
 is_counted sc (Driver h) few is = omega (arith, few, is)
 is_counted sc Channels few is = tt

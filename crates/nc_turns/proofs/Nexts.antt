@@ -82,9 +82,6 @@ next_there sc es Caches a is =
     copy_is sc (first % 2 == 0) (first / 2 % length sc.harts) k (mod-lt (first / 2) a.harts_some)
     (block_is sc.block_size sc.ram k (mod-lt (second_word g) (blocks_some sc a)))
 
-pub told_there : (sc : Scenario) (h : HartNo) (a : PoolTry) → h.0 < length sc.harts → IsThere (length sc.harts) sc.block_size sc.ram (told_by h a)
-told_there sc h a lt = lt
-
 -- ---- its thread has room
 
 -- each thread that has the event has made fewer than its most
@@ -128,8 +125,3 @@ next_room sc es Caches room =
     let g = after_draws (begun (seed_of sc.plan)) (made_by Caches es) in
     let a = first_word g in
     copy_room sc es (a % 2 == 0) (hart (a / 2 % (size_of sc).harts)) (block (second_word g % (size_of sc).blocks)) room
-
-pub told_room : (sc : Scenario) (es : List Event) (h : HartNo) (a : PoolTry) → made_by (Driver h) es < most sc → HasRoom sc es (told_by h a)
-told_room sc es h a room (Driver g) is = mine sc es h g room is
-told_room sc es h a room Channels is = absurd (cc)
-told_room sc es h a room Caches is = absurd (cc)

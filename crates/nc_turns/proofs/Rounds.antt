@@ -70,6 +70,3 @@ adding_on sc old es fs s t last a e come fewer grown answered h =
       whole = ap (λ gs. fs ++ gs) rest ∙ ap (λ gs. gs ++ to_come sc t (next w e) (enabled w e)) grown ∙ append_assoc es (e ∷ []) (to_come sc t (next w e) (enabled w e)) ∙ ap (λ gs. es ++ gs) (sym come) ∙ h.whole;
       room = omega (arith, ap (λ gs. length gs) grown, length-append es (e ∷ []), fewer, h.room);
     }
-
-pub adding_end : (sc : Scenario) (old es : List Event) (s : Stand) (last : Option Stepped) → to_come sc s (world_of sc es) (is_done last) ≡ [] → Adding sc old es s last → es ≡ sched (finished sc old)
-adding_end sc old es s last none h = sym (append-nil es) ∙ ap (λ gs. es ++ gs) (sym none) ∙ h.whole

@@ -48,10 +48,6 @@ held_by_test : (t : Bool) (ts bus : List BusRec) → (if t then Some ts else Non
 held_by_test true ts bus e = refl
 held_by_test false ts bus e = absurd (cc)
 
-held_from : (h b : ℕ) (o : Option Line) (bus : List BusRec) → evict_bus h b o ≡ Some bus → held_by o h ≡ true
-held_from h b None bus e = absurd (cc)
-held_from h b (Some l) bus e = held_by_test (holds l.held h) _ bus e
-
 not_held_by_test : (t : Bool) (ts : List BusRec) → (if t then Some ts else None) ≡ None → t ≡ false
 not_held_by_test true ts e = absurd (cc)
 not_held_by_test false ts e = refl
@@ -91,10 +87,6 @@ no_search w h e = ap is_some e
 no_told : (w : WorldState) (h : HartNo) (got : Bool) → searching (driver_of w h.0) ≡ None → enabled w (events.Told h got) ≡ false
 unfolding enabled
 no_told w h got e = ap is_some e
-
-no_drain : (w : WorldState) (h : HartNo) (i : ℕ) → leaving w.machine h.0 i ≡ None → enabled w (events.Drain h i) ≡ false
-unfolding enabled
-no_drain w h i e = ap is_some e
 
 -- an event that may not happen
 pub record IsOff (w : WorldState) (e : Event) : Type 0 where

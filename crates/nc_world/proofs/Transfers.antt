@@ -155,7 +155,3 @@ fill_places m h b is there =
       | true ↦ places m.size b (load_bus m.size m.cache.ram h b (line_at m.cache b)) (block_small m b is there) (of_load m.size m.cache.ram h b (line_at m.cache b))
       | false ↦ tt
     ]
-
-some_places : (s b : ℕ) (o : Option (List BusRec)) → s * b < 2 ^ 32 → AreOfSome b o → SomeHavePlaces s o
-some_places s b None small of = tt
-some_places s b (Some ts) small of = places s b ts small of

@@ -65,10 +65,6 @@ back_as sc f w h m lot i e x v ahead u plain p side comes row =
 pub lent_byte : (dir : Dir) (n : MapId) (v : ℕ) (ahead : List QueueEntry) (m : MachineState) (x y : ℕ) → LentAs dir n v ahead m x y → view m n.hart.0 x ≡ v
 lent_byte dir n v ahead m x y row = dir_end dir _ _ _ (λ to. to.buffer.shows) (λ from. from.lending.buffer.shows) row
 
-pub back_byte : (dir : Dir) (n : MapId) (v : ℕ) (ahead : List QueueEntry) (m : MachineState) (x y : ℕ) → BackAs dir n v ahead m x y → byte m.cache.ram y ≡ v
-back_byte dir n v ahead m x y row =
-    dir_end dir _ _ _ (λ to. to.device.both.memory) (λ either. either_end (list_any is_full ahead) _ _ _ (λ drops. drops.device.memory) (λ comes. comes.device.both.memory) either) row
-
 -- ---- behind
 
 -- what is to come is what its driver has left

@@ -138,10 +138,6 @@ member_lies sc f w h lots lot i e b plain there =
 pub base_lot : (sc : Scenario) (f : List ℕ) (w : WorldState) (h : HartNo) (lots : List Lot) (lot : Lot) → IsBase sc f w h lots lot → IsLotIn (length w.machine.cache.ram) (driver_of w h.0).fixed lot
 base_lot sc f w h lots lot b = member_lot sc f w h lots lot (member_of sc f w h lots lot b)
 
--- an entry lies in a buffer, but of an area
-pub base_lies : (sc : Scenario) (f : List ℕ) (w : WorldState) (h : HartNo) (lots : List Lot) (lot : Lot) (i : ℕ) (e : Entry) → IsBase sc f w h lots lot → is_area lot.kind ≡ false → slice_get lot.list.entries i ≡ Some e → LiesInBuffer (driver_of w h.0).fixed e.span
-base_lies sc f w h lots lot i e b plain there = member_lies sc f w h lots lot i e (member_of sc f w h lots lot b) plain there
-
 -- none of its bytes is the pool's or a slot's
 pub member_beside : (sc : Scenario) (f : List ℕ) (w : WorldState) (h : HartNo) (lots : List Lot) (lot : Lot) (i : ℕ) (e : Entry) (x : ℕ) → IsMember sc f w h lots lot → is_area lot.kind ≡ false → slice_get lot.list.entries i ≡ Some e → covers e.span x ≡ true
     → (covers (pool_of sc) x ≡ false) × (covers (slots_of sc) x ≡ false)
@@ -281,7 +277,3 @@ member_unseen sc f w h lots lot i e k z b all_kept there side bounced slot on x 
                 ne (sym theirs.me ∙ sym (slot_harts fx.me (driver_of w p.id.hart.0).fixed.me b.slots k my_word their_word) ∙ b.each.me)
           ]
     ]
-
-pub base_unseen : (sc : Scenario) (f : List ℕ) (w : WorldState) (h : HartNo) (lots : List Lot) (lot : Lot) (i : ℕ) (e : Entry) (k z : ℕ) → IsBase sc f w h lots lot → slice_get lot.list.entries i ≡ Some e → (lot.side ≡ sides.Wanted) ⊎ (lot.side ≡ sides.Synced) → e.bounced ≡ true → e.slot ≡ Some k
-    → covers (slot_at sc k) z ≡ true → IsUnseen (book_of w) (owner_of w) (slots_of sc) z
-base_unseen sc f w h lots lot i e k z b there side bounced slot on = member_unseen sc f w h lots lot i e k z (member_of sc f w h lots lot b) b.kept there side bounced slot on

@@ -355,13 +355,6 @@ made_ends sc f w h k lots c made =
       },
     )
 
--- with full fences nothing is to come of a lot that is still
-pub still_restful : (f : DriverConfig) (n : MapId) (o : Owner) (lot : Lot) → f.light ≡ false → IsStill f lot → o ≡ owner_of_side n lot.side → IsRestful o
-still_restful f n o lot full (StillDevice is) same = subst IsRestful (sym (same ∙ ap (owner_of_side n) is)) tt
-still_restful f n o lot full (StillSynced is kind) same = subst IsRestful (sym (same ∙ ap (owner_of_side n) is)) tt
-still_restful f n o lot full (StillOwn is kind) same = subst IsRestful (sym (same ∙ ap (owner_of_side n) is)) tt
-still_restful f n o lot full (StillSent is light) same = absurd (both_ways f.light full light)
-
 copy_opens : (sc : Scenario) (f : List ℕ) (w : WorldState) (h : HartNo) (k : CopyOp) (lots : List Lot) → IsCall sc f w h (copy_op k) lots → AreMade (copy_op k) lots → some_lot_waits lots ≡ false → BytesStand sc f (gone w h w.machine (opened (with_lots (driver_of w h.0) lots) (copy_op k)))
 copy_opens sc f w h k lots c made none =
     let o = copy_op k in

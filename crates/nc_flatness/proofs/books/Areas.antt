@@ -58,18 +58,3 @@ pub record IsAreaPlace (w : WorldState) (x : ℕ) : Type 0 where
 
 pub area_pooled : (sc : Scenario) (f : List ℕ) (w : WorldState) (n : MapId) (x : ℕ) → Flatness sc f w → (m : IsMapped w n x) → m.loan.area ≡ true → covers (pool_of sc) x ≡ true
 area_pooled sc f w n x flat m area = entry_pooled sc f w n.hart.0 m.is.lot m.is.i m.is.entry x flat m.is.here (sym m.is.area ∙ area) (of_buffer w n m.loan x m.is m.on)
-
-pub mapped_unpooled : (sc : Scenario) (f : List ℕ) (w : WorldState) (n : MapId) (x : ℕ) → Flatness sc f w → (m : IsMapped w n x) → m.loan.area ≡ false → covers (pool_of sc) x ≡ false
-mapped_unpooled sc f w n x flat m area = entry_unpooled sc f w n.hart.0 m.is.lot m.is.i m.is.entry x flat m.is.here (sym m.is.area ∙ area) (of_buffer w n m.loan x m.is m.on)
-
-area_place_of : (sc : Scenario) (f : List ℕ) (w : WorldState) (x : ℕ) → Flatness sc f w → IsOfArea (book_of w) x → IsAreaPlace w x
-area_place_of sc f w x flat o =
-    let m = loan_mapped sc f w o.id o.loan x flat o.lent o.on in
-    record { id = o.id; is = m; area = ap (λ (l : Loan). l.area) (sym (same_some o.loan m.loan (sym o.lent ∙ m.known))) ∙ o.area }
-
--- a place of the pool is nobody's, or an area's
-pub pool_ways : (sc : Scenario) (f : List ℕ) (w : WorldState) (x : ℕ) → Flatness sc f w → covers (pool_of sc) x ≡ true → (owner_of w x ≡ Pool) ⊎ IsAreaPlace w x
-pool_ways sc f w x flat over = elim (flat.bytes.pooled x over) [
-  | inl nobody ↦ inl nobody
-  | inr area ↦ inr (area_place_of sc f w x flat area)
-]

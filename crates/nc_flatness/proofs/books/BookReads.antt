@@ -105,15 +105,6 @@ rest_gone w h machine went g lt same = elim (cases_eq g h.0) [
   | inr ne ↦ rest_away w h machine went g ne
 ]
 
--- a driver that keeps its lots and its rest leaves the book as it is
-pub book_gone : (w : WorldState) (h : HartNo) (machine : MachineState) (went : Went) → h.0 < length w.drivers → went.driver.fixed ≡ (driver_of w h.0).fixed → went.driver.lots ≡ (driver_of w h.0).lots → went.driver.rest ≡ (driver_of w h.0).rest
-    → book_of (gone w h machine went) ≡ book_of w
-book_gone w h machine went lt fixed lots rest =
-    let loans : (n : MapId) → (book_of (gone w h machine went)).loan n ≡ (book_of w).loan n = λ n. loan_gone w h machine went n lt fixed lots in
-    let rests : (g : ℕ) → (book_of (gone w h machine went)).rest g ≡ (book_of w).rest g = λ g. rest_gone w h machine went g lt rest in
-    let buffers = buffer_gone w h machine went lt fixed in
-    λ i. record { loan = λ n. loans n i; rest = λ g. rests g i; buffer = buffers i }
-
 -- ---- what a row reads
 
 -- two books are alike in it
@@ -154,10 +145,6 @@ seen_alike a b (Device n) x loans = ap (λ (o : Option Loan). place_of o x) (loa
 seen_alike a b (Returning n) x loans = ap (λ (o : Option Loan). place_of o x) (loans n)
 seen_alike a b (Synced n) x loans = refl
 seen_alike a b Pool x loans = refl
-
--- what nobody sees by other books and owners of the same mappings
-pub unseen_alike : (a b : Book) (ws us : ℕ → Owner) (slots : Span) (z : ℕ) → ((n : MapId) → a.loan n ≡ b.loan n) → ((x : ℕ) → ws x ≡ us x) → IsUnseen a ws slots z → IsUnseen b us slots z
-unseen_alike a b ws us slots z loans owners none x off same = none x off (seen_alike a b (ws x) x loans ∙ ap (λ (o : Owner). seen_at b o x) (owners x) ∙ same)
 
 -- ---- what stands beside the rows
 
@@ -200,30 +187,12 @@ may_to a b ws us n x still e may = subst (MayBeHeld b) (sym (still.owners n x re
 
 -- ---- copies of the coherent pool
 
--- a place that may be held is of an area that is being lent
-pub held_lent : (a : Book) (o : Owner) → MayBeHeld a o → is_lent_area a o ≡ true
-held_lent a (Lending n) may = lent_by (a.loan n) may
-  where
-    lent_by : (o : Option Loan) → IsAllocating a n o → area_of o ≡ true
-    lent_by None is = absurd is
-    lent_by (Some l) is = is.0
-held_lent a (Thread h) may = absurd may
-held_lent a (Passing h g) may = absurd may
-held_lent a (Device n) may = absurd may
-held_lent a (Returning n) may = absurd may
-held_lent a (Synced n) may = absurd may
-held_lent a Pool may = absurd may
-
 -- else there is none
 pub pool_unheld : (sc : Scenario) (f : List ℕ) (w : WorldState) (x : ℕ) → Flatness sc f w → covers w.machine.pool x ≡ true → (MayBeHeld (book_of w) (owner_of w x) → ⊥) → NotHeld w.machine x
 pool_unheld sc f w x flat on never = elim (flat.bytes.uncached x on) [
   | inl none ↦ none
   | inr may ↦ absurd (never may)
 ]
-
--- as of each place that is of no area that is being lent
-pub unlent_unheld : (sc : Scenario) (f : List ℕ) (w : WorldState) (x : ℕ) → Flatness sc f w → covers w.machine.pool x ≡ true → is_lent_area (book_of w) (owner_of w x) ≡ false → NotHeld w.machine x
-unlent_unheld sc f w x flat on off = pool_unheld sc f w x flat on (λ may. false≢true (sym off ∙ held_lent (book_of w) (owner_of w x) may))
 
 -- an area that is allocated is the lot in hand of its hart, which has its end in the rest
 pub record IsAllocated (w : WorldState) (x : ℕ) : Type 0 where

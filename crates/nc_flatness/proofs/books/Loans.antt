@@ -56,9 +56,6 @@ lot_of sc f w h lot flat here =
     let drives = flat.bytes.drives h (subst (λ k. h < k) flat.world.of_scenario.harts lt) in
     all_at IsMapping (driver_of w h).lots lot drives.lots here
 
-label_lot : (lot : Lot) (id : LotId) → lot.id.label.0 ≡ id.label.0 → lot.id.first ≡ id.first → is_lot id lot ≡ true
-label_lot lot id a b = its_name lot id (λ i. record { label = record { 0 = a i }; first = b i })
-
 -- two lots of one driver with one name are one
 pub one_lot : (sc : Scenario) (f : List ℕ) (w : WorldState) (h : ℕ) (a b : Lot) → Flatness sc f w → In a (driver_of w h).lots → In b (driver_of w h).lots → a.id ≡ b.id → a ≡ b
 one_lot sc f w h a b flat here there same =
@@ -122,9 +119,6 @@ apart_lots sc f w h n a b flat here there off is =
 -- an area never bounces
 pub area_direct : (sc : Scenario) (f : List ℕ) (w : WorldState) (h : ℕ) (lot : Lot) (i : ℕ) (e : Entry) → Flatness sc f w → IsEntryOf (driver_of w h).lots lot i e → is_area lot.kind ≡ true → e.bounced ≡ false
 area_direct sc f w h lot i e flat here area = lots.area_direct (length w.machine.cache.ram) (driver_of w h).fixed lot i e (lot_in sc f w h lot flat here.lot_in) area here.entry
-
-pub bounced_area : (sc : Scenario) (f : List ℕ) (w : WorldState) (h : ℕ) (lot : Lot) (i : ℕ) (e : Entry) → Flatness sc f w → IsEntryOf (driver_of w h).lots lot i e → e.bounced ≡ true → is_area lot.kind ≡ false
-bounced_area sc f w h lot i e flat here bounced = false_from_ne_true (is_area lot.kind) (λ area. false≢true (sym (area_direct sc f w h lot i e flat here area) ∙ bounced))
 
 -- ---- a mapping of the book
 

@@ -21,9 +21,6 @@ no_buffer = record { span = record { at = 0; len = 0 }; fill = 0; step = 0; owne
 abbrev pub buffer_at : Scenario → ℕ → Span
 buffer_at sc b = (slice_index_or sc.buffers b no_buffer).span
 
-pub in_covers : (span : Span) (x : ℕ) → IsIn span x → covers span x ≡ true
-in_covers span x here = covers-from span x here.from here.before
-
 pub covers_in : (span : Span) (x : ℕ) → covers span x ≡ true → IsIn span x
 covers_in span x over = record { from = covers-low span x over; before = covers-high span x over }
 

@@ -282,18 +282,6 @@ seen_lent w n l x known (inl e) = ap (λ (o : Owner). seen_at (book_of w) o x) e
 seen_lent w n l x known (inr (inl e)) = ap (λ (o : Owner). seen_at (book_of w) o x) e ∙ ap (λ (o : Option Loan). place_of o x) known
 seen_lent w n l x known (inr (inr e)) = ap (λ (o : Owner). seen_at (book_of w) o x) e ∙ ap (λ (o : Option Loan). place_of o x) known
 
--- a place of an entry that does not bounce is seen as it is, whatever side its lot has
-side_same : (w : WorldState) (n : MapId) (x : ℕ) (side : Side) → (m : IsMapped w n x) → m.is.entry.bounced ≡ false → owner_of w x ≡ owner_of_side n side → seen w x ≡ x
-side_same w n x sides.Lending m direct e = seen_lent w n m.loan x m.known (inl e) ∙ device_same w n m.loan x m.is direct m.on
-side_same w n x sides.Device m direct e = seen_lent w n m.loan x m.known (inr (inl e)) ∙ device_same w n m.loan x m.is direct m.on
-side_same w n x sides.Returning m direct e = seen_lent w n m.loan x m.known (inr (inr e)) ∙ device_same w n m.loan x m.is direct m.on
-side_same w n x sides.Synced m direct e = ap (λ (o : Owner). seen_at (book_of w) o x) e
-side_same w n x sides.Wanted m direct e = ap (λ (o : Owner). seen_at (book_of w) o x) e
-side_same w n x sides.Own m direct e = ap (λ (o : Owner). seen_at (book_of w) o x) e
-
-pub seen_direct : (w : WorldState) (n : MapId) (x : ℕ) → (m : IsMapped w n x) → m.is.entry.bounced ≡ false → seen w x ≡ x
-seen_direct w n x m direct = side_same w n x m.is.lot.side m direct m.owner
-
 -- it is seen in the slot of its entry
 pub record IsSlotted (w : WorldState) (x : ℕ) : Type 0 where
   pub id : MapId
@@ -418,17 +406,3 @@ seen_whole sc f w n l x y flat lt less e known back here off same =
 unsided : (n : MapId) (side : Side) → (side ≡ sides.Wanted) ⊎ (side ≡ sides.Synced) → is_out (owner_of_side n side) ≡ false
 unsided n side (inl e) = ap (λ (s : Side). is_out (owner_of_side n s)) e
 unsided n side (inr e) = ap (λ (s : Side). is_out (owner_of_side n s)) e
-
--- the slot of an entry of a lot that waits to be lent, or is synced
-pub wanted_unseen : (sc : Scenario) (f : List ℕ) (w : WorldState) (h : ℕ) (lot : Lot) (i : ℕ) (e : Entry) (k z : ℕ) → Flatness sc f w → IsEntryOf (driver_of w h).lots lot i e → (lot.side ≡ sides.Wanted) ⊎ (lot.side ≡ sides.Synced) → e.bounced ≡ true
-    → e.slot ≡ Some k → covers (slot_at sc k) z ≡ true → IsUnseen (book_of w) (owner_of w) (slots_of sc) z
-wanted_unseen sc f w h lot i e k z flat here side bounced slot on x off same = elim (seen_ways sc f w x flat) [
-  | inl at ↦ false≢true (sym off ∙ ap (covers (slots_of sc)) (sym at ∙ same) ∙ slot_slots sc k z (slot_few sc f w h lot i e k flat here slot) on)
-  | inr p ↦
-      let m = p.is.is in
-      let its = has_slot sc f w p.id.hart.0 m.lot m.i m.entry flat m.here m.lent p.bounced in
-      let word : its.k ≡ k = slots_one sc its.k k z (subst (λ (y : ℕ). covers (slot_at sc its.k) y ≡ true) same (its.inside (seen w x) (slotted_on w x p))) on in
-      let one = slot_one sc f w h p.id.hart.0 lot m.lot i m.i e m.entry k flat here m.here slot (its.slot ∙ ap Some word) in
-      let off_side = unsided p.id m.lot.side (subst (λ (l : Lot). (l.side ≡ sides.Wanted) ⊎ (l.side ≡ sides.Synced)) one.lot side) in
-      false≢true (sym off_side ∙ ap is_out (sym p.is.owner) ∙ p.out)
-]

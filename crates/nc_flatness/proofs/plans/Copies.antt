@@ -73,10 +73,6 @@ copied_op o k e = let same : o ≡ copy_op k = cc in ap is_copy same
 pub copy_none : (sc : Scenario) (f : List ℕ) (w : WorldState) (h : ℕ) (o : Op) → in_hand (driver_of w h) ≡ Some o → is_copy o ≡ false → CopyStands sc f w h
 copy_none sc f w h o hand none k is begun = absurd (false≢true (sym none ∙ copied_op o k (sym hand ∙ is)))
 
--- the script is at its end
-pub copy_past : (sc : Scenario) (f : List ℕ) (w : WorldState) (h : ℕ) → in_hand (driver_of w h) ≡ None → CopyStands sc f w h
-copy_past sc f w h hand k is begun = let both = sym hand ∙ is in absurd (cc)
-
 -- its start step is not made
 pub copy_idle : (sc : Scenario) (f : List ℕ) (w : WorldState) (h n : ℕ) → (driver_of w h).phase ≡ Steps n → CopyStands sc f w h
 copy_idle sc f w h n idle k is begun = absurd (subst (λ (p : Phase). IsBegun p) idle begun)

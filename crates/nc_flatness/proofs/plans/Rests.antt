@@ -360,11 +360,6 @@ ends_two steps a b one ended too other = elim (one a b ended too) [
   | inr both ↦ both
 ]
 
--- and of no two others
-pub ends_others : (steps : List Step) (a b : LotId) → EndsOne steps → HasEnd a steps → a ≢ b → (IsEndName a → IsEndName b → ⊥) → list_any (ends b) steps ≡ false
-ends_others steps a b one ended other apart =
-    false_from_ne_true (list_any (ends b) steps) (λ too. let both = ends_two steps a b one ended too other in apart both.0 both.1)
-
 -- ---- a store of a last load's bytes
 
 -- the step that comes next is one, of a piece

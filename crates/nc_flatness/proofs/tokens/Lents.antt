@@ -478,10 +478,6 @@ only_lending : (lots : List Lot) (lot : Lot) → AreApart lots → In lot lots �
 only_lending lots lot apart here side =
     all_in (λ (l : Lot). is_lot lot.id l ≡ true → l.side ≡ sides.Lending) lots (λ l there named. ap (λ (k : Lot). k.side) (same_named lots lot.id l lot apart there here named (its_name lot lot.id refl)) ∙ side)
 
-pub first_unsent : (f : DriverConfig) (lots : List Lot) (s : Step) (rest : List Step) (lot : Lot) → AreApart lots → StepGoes f lots s rest → In lot lots → turns_lot lot.id s.first ≡ true → is_sent (s ∷ rest) lot ≡ false
-first_unsent f lots s rest lot apart goes here turns =
-    false_from_ne_true (is_sent (s ∷ rest) lot) (λ sent. false≢true (sym (first_off f lots s rest lot.id goes (only_lending lots lot apart here (sent_side (s ∷ rest) lot sent))) ∙ turns))
-
 pub last_unsent : (f : DriverConfig) (lots : List Lot) (s : Step) (rest : List Step) (lot : Lot) → AreApart lots → StepGoes f lots s rest → In lot lots → turns_lot lot.id s.last ≡ true → is_sent (s ∷ rest) lot ≡ false
 last_unsent f lots s rest lot apart goes here turns =
     false_from_ne_true (is_sent (s ∷ rest) lot)

@@ -155,15 +155,6 @@ named_by sc f w n l label first count flat is here named =
     let same : t.lot ≡ is.lot = one_of sc f w n.hart.0 n t.lot is.lot flat t.here is.here.lot_in entry is.entry_of in
     subst (λ (lot : Lot). is_lot_token lot.id (entries.Lend label first count) ≡ true) same (is_named t.lot label first count t.is)
 
--- a token that names a mapping is one of its lot
-pub named_token : (sc : Scenario) (f : List ℕ) (w : WorldState) (n : MapId) (l : Loan) (e : Entry) → Flatness sc f w → (is : IsLoan w n l) → In e (queue_of w.machine n.hart.0) → names n e ≡ true → is_lot_token is.lot.id e ≡ true
-named_token sc f w n l (entries.Lend label first count) flat is here named = named_by sc f w n l label first count flat is here named
-named_token sc f w n l (entries.Store span bytes kind) flat is here named = absurd (false≢true named)
-named_token sc f w n l (entries.Cbo block op) flat is here named = absurd (false≢true named)
-named_token sc f w n l (entries.Reg chan off width value) flat is here named = absurd (false≢true named)
-named_token sc f w n l (entries.Mail buf to) flat is here named = absurd (false≢true named)
-named_token sc f w n l (entries.Mark pred succ) flat is here named = absurd (false≢true named)
-
 -- the token of a lot names each of its mappings
 pub token_names : (w : WorldState) (n : MapId) (l : Loan) → (is : IsLoan w n l) → names n (lot_token is.lot) ≡ true
 token_names w n l is =
@@ -172,23 +163,6 @@ token_names w n l is =
     let high : nat_lt n.entry (is.lot.id.first + length is.lot.list.entries) ≡ true = let number = is.number in grind (arith, nat_tests) in
     and_from (is.lot.id.label.0 == n.label.0) (nat_le is.lot.id.first n.entry && nat_lt n.entry (is.lot.id.first + length is.lot.list.entries)) (eq-eqb is.lot.id.label.0 n.label.0 is.label)
     (and_from (nat_le is.lot.id.first n.entry) (nat_lt n.entry (is.lot.id.first + length is.lot.list.entries)) low high)
-
--- the lot of a mapping whose token is queued is sent
-pub named_sent : (sc : Scenario) (f : List ℕ) (w : WorldState) (n : MapId) (l : Loan) (e : Entry) → Flatness sc f w → (is : IsLoan w n l) → In e (queue_of w.machine n.hart.0) → names n e ≡ true
-    → (is_sent (driver_of w n.hart.0).rest is.lot ≡ true) × (e ≡ lot_token is.lot)
-named_sent sc f w n l e flat is here named =
-    let d = driver_of w n.hart.0 in
-    let q = queue_of w.machine n.hart.0 in
-    let token = named_token sc f w n l e flat is here named in
-    let light = token_light sc f w n.hart.0 is.lot.id e flat is.hart here token in
-    let lt : n.hart.0 < length sc.harts = omega (arith, is.hart, flat.world.of_scenario.harts) in
-    let stands = all_at (TokenStands d.rest q) d.lots is.lot (flat.bytes.tokens n.hart.0 lt light) is.here.lot_in in
-    queued_sent d.rest q is.lot e stands here token
-
--- where the lot is not sent none is
-pub unsent_unnamed : (sc : Scenario) (f : List ℕ) (w : WorldState) (n : MapId) (l : Loan) → Flatness sc f w → (is : IsLoan w n l) → is_sent (driver_of w n.hart.0).rest is.lot ≡ false → list_any (names n) (queue_of w.machine n.hart.0) ≡ false
-unsent_unnamed sc f w n l flat is off =
-    none_of (names n) (queue_of w.machine n.hart.0) (λ e here. false_from_ne_true (names n e) (λ named. false≢true (sym off ∙ (named_sent sc f w n l e flat is here named).0)))
 
 pub sent_named : (sc : Scenario) (f : List ℕ) (w : WorldState) (n : MapId) (l : Loan) → Flatness sc f w → (is : IsLoan w n l) → (driver_of w n.hart.0).fixed.light ≡ true → is_sent (driver_of w n.hart.0).rest is.lot ≡ true
     → list_any (names n) (queue_of w.machine n.hart.0) ≡ true

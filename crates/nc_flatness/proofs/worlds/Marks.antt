@@ -76,7 +76,3 @@ entry_silent s size grants h (entries.Mark pred succ) = refl
 pub fence_silent : (s : ℕ) (grants : List Grant) (b : Bool) (h : HartNo) (p q c d : ℕ) → marks_of s grants (if b then records.Mark h p q else records.Fence h c d) ≡ []
 fence_silent s grants true h p q c d = refl
 fence_silent s grants false h p q c d = refl
-
--- a touch comes first
-pub touch_first : (s : ℕ) (grants : List Grant) (t : Touch) (rs : List Record) → all_marks s grants (touch_records (Some t) ++ rs) ≡ Touched ∷ all_marks s grants rs
-touch_first s grants t rs = refl
