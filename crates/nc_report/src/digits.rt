@@ -1,10 +1,8 @@
-//! Numbers and bytes in hexadecimal digits.
+//! Numbers in hexadecimal digits.
 
 ghost use Rattle.std.specs.Prelude.{Some};
-ghost use Rattle.hex.specs.Hex.{encode_lower};
 ghost use Rattle.nc_rules.specs.Lines.{hex_digits};
 
-use nc_num::Bytes;
 use std::fmt;
 
 /// A number in at least three hexadecimal digits.
@@ -52,26 +50,5 @@ impl fmt::Display for Sixteen {
 
     fn fmt<W: fmt::Write>(&self, f: &mut fmt::Formatter<W>) -> fmt::Result {
         write!(f, "{:016x}", self.0)
-    }
-}
-
-/// Some bytes in two hexadecimal digits each.
-#[derive(Drop)]
-pub(crate) struct InHex(pub Bytes);
-
-impl fmt::Display for InHex {
-    ghost output = { λ b. Some (encode_lower b.0) };
-
-    fn fmt<W: fmt::Write>(&self, f: &mut fmt::Formatter<W>) -> fmt::Result {
-        let bytes = self.0.as_slice();
-        let mut digits = [0u8; 256];
-        let shown = &mut digits[..2 * bytes.len()];
-        let Ok(()) = hex::encode_to_slice(bytes, shown) else {
-            unreachable!();
-        };
-        let Ok(text) = str::from_utf8(shown) else {
-            unreachable!();
-        };
-        write!(f, "{text}")
     }
 }

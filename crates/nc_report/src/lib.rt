@@ -7,6 +7,7 @@ mod after;
 mod digits;
 mod faults;
 mod lines;
+mod put;
 mod steps;
 mod words;
 

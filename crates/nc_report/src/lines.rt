@@ -1,15 +1,16 @@
 //! A line for each record. Each function here writes one form of line behind a text.
 
-ghost use Rattle.std.specs.Prelude.{◌≡◌, ◌++◌, [], ◌∷◌, string_bytes, decimal, OnOk, IfOk};
+ghost use Rattle.std.specs.Prelude.{◌≡◌, ◌++◌, [], ◌∷◌, decimal, OnOk, IfOk};
 ghost use Rattle.std.specs.List.{flat_map};
 ghost use Rattle.hex.specs.Hex.{encode_lower};
 ghost use Rattle.nc_rules.specs.Lines.{line, words, place, origin, operation, target};
 ghost use Rattle.nc_rules.specs.declared.records.Record.{Record};
 
-use crate::digits::{InHex, Six, Sixteen};
+use crate::digits::{Six, Sixteen};
+use crate::put;
 use crate::words::{
-    ActorWords, AnswerWords, HeardWords, KindWord, OperationWord, OwnerWords, TargetWords, Token,
-    TriedWords,
+    ActorWords, AnswerWords, HeardWords, KindWord, OwnerWords, TargetWords, TriedWords,
+    operation_word, put_token,
 };
 use nc_cache::Origin;
 use nc_env::CboOp;
@@ -20,17 +21,36 @@ use nc_rules::{Answer, Record, ToldAnswer};
 use nc_scen::Event;
 use nc_slots::TryAnswer;
 use std::alloc::{AllocError, Global};
+use std::io::Write;
 
-fn event(text: &mut String, e: Event) -> Result<(), AllocError>
-    ensures { OnOk result (string_bytes text.new ≡ string_bytes text.old ++ line (Record.Event e)) }
+fn event(text: &mut Vec<u8>, e: Event) -> Result<(), AllocError>
+    ensures { OnOk result (text.new.items ≡ text.old.items ++ line (Record.Event e)) }
 {
-    write!(text, "e {}\n", Token(e))
+    put::word(text, "e ")?;
+    put_token(text, e)?;
+    put::byte(text, b'\n')
 }
 
-fn touch(text: &mut String, t: Touch) -> Result<(), AllocError>
-    ensures { OnOk result (string_bytes text.new ≡ string_bytes text.old ++ line (Record.Touched t)) }
+/// Puts a word and a number.
+fn begin(text: &mut Vec<u8>, word: &str, n: u64) -> Result<(), AllocError>
+    ensures { OnOk result (text.new.items ≡ text.old.items ++ (word.now ++ 32 ∷ decimal n)) }
 {
-    write!(
+    put::word(text, word)?;
+    put::number_behind(text, b' ', n)
+}
+
+/// Puts a blank and a place.
+fn at_place(text: &mut Vec<u8>, at: Place) -> Result<(), AllocError>
+    ensures { OnOk result (text.new.items ≡ text.old.items ++ 32 ∷ place at) }
+{
+    put::byte(text, b' ')?;
+    put::six(text, at.0)
+}
+
+fn touch(text: &mut Vec<u8>, t: Touch) -> Result<(), AllocError>
+    ensures { OnOk result (text.new.items ≡ text.old.items ++ line (Record.Touched t)) }
+{
+    let Ok(()) = write!(
         text,
         "touch {} {} {} {} {}\n",
         KindWord(t.kind),
@@ -38,184 +58,205 @@ fn touch(text: &mut String, t: Touch) -> Result<(), AllocError>
         Six(t.span.at),
         t.span.len,
         OwnerWords(t.holder)
-    )
+    ) else {
+        return Err(AllocError);
+    };
+    Ok(())
 }
 
-/// Writes a hart's bytes at a place, behind this word.
-fn piece(
-    text: &mut String,
-    word: &str,
-    hart: HartNo,
-    at: Place,
-    bytes: &Bytes,
-) -> Result<(), AllocError>
-    ensures { OnOk result (string_bytes text.new ≡ string_bytes text.old
-        ++ words (word.now ∷ decimal hart.0 ∷ place at ∷ encode_lower bytes.now ∷ [])) }
+/// Writes the bytes of a hart or a channel at a place, behind this word and its number.
+fn piece(text: &mut Vec<u8>, word: &str, n: u8, at: Place, bytes: &Bytes) -> Result<(), AllocError>
+    ensures { OnOk result (text.new.items ≡ text.old.items
+        ++ words (word.now ∷ decimal n ∷ place at ∷ encode_lower bytes.now ∷ [])) }
 {
-    write!(text, "{word} {} {} {}\n", hart.0, Six(at.0), InHex(*bytes))
+    begin(text, word, n as u64)?;
+    at_place(text, at)?;
+    put::byte(text, b' ')?;
+    put::digits(text, bytes)?;
+    put::byte(text, b'\n')
 }
 
 /// Writes a cache operation on a block, behind this word.
 fn operation(
-    text: &mut String,
+    text: &mut Vec<u8>,
     word: &str,
     hart: HartNo,
     op: CboOp,
     at: Place,
 ) -> Result<(), AllocError>
-    ensures { OnOk result (string_bytes text.new ≡ string_bytes text.old
+    ensures { OnOk result (text.new.items ≡ text.old.items
         ++ words (word.now ∷ decimal hart.0 ∷ operation op ∷ place at ∷ [])) }
 {
-    write!(
-        text,
-        "{word} {} {} {}\n",
-        hart.0,
-        OperationWord(op),
-        Six(at.0)
-    )
+    begin(text, word, hart.0 as u64)?;
+    put::byte(text, b' ')?;
+    put::word(text, operation_word(op))?;
+    at_place(text, at)?;
+    put::byte(text, b'\n')
 }
 
 /// Writes a fence's sets, behind this word.
-fn sets(text: &mut String, word: &str, hart: HartNo, pred: u8, succ: u8) -> Result<(), AllocError>
-    ensures { OnOk result (string_bytes text.new ≡ string_bytes text.old
+fn sets(text: &mut Vec<u8>, word: &str, hart: HartNo, pred: u8, succ: u8) -> Result<(), AllocError>
+    ensures { OnOk result (text.new.items ≡ text.old.items
         ++ words (word.now ∷ decimal hart.0 ∷ decimal pred ∷ decimal succ ∷ [])) }
 {
-    write!(text, "{word} {} {pred} {succ}\n", hart.0)
+    begin(text, word, hart.0 as u64)?;
+    put::number_behind(text, b' ', pred as u64)?;
+    put::number_behind(text, b' ', succ as u64)?;
+    put::byte(text, b'\n')
 }
 
 /// Writes an IO store, behind this word.
-fn target(text: &mut String, word: &str, hart: HartNo, to: IoTarget) -> Result<(), AllocError>
-    ensures { OnOk result (string_bytes text.new ≡ string_bytes text.old
+fn target(text: &mut Vec<u8>, word: &str, hart: HartNo, to: IoTarget) -> Result<(), AllocError>
+    ensures { OnOk result (text.new.items ≡ text.old.items
         ++ words (word.now ∷ decimal hart.0 ∷ target to ∷ [])) }
 {
-    write!(text, "{word} {} {}\n", hart.0, TargetWords(to))
+    let Ok(()) = write!(text, "{word} {} {}\n", hart.0, TargetWords(to)) else {
+        return Err(AllocError);
+    };
+    Ok(())
 }
 
-fn drained_mark(text: &mut String, hart: HartNo) -> Result<(), AllocError>
-    ensures { OnOk result (string_bytes text.new ≡ string_bytes text.old ++ line (Record.DrMark hart)) }
+fn drained_mark(text: &mut Vec<u8>, hart: HartNo) -> Result<(), AllocError>
+    ensures { OnOk result (text.new.items ≡ text.old.items ++ line (Record.DrMark hart)) }
 {
-    write!(text, "dr {} mark\n", hart.0)
+    begin(text, "dr", hart.0 as u64)?;
+    put::word(text, " mark\n")
 }
 
 /// Writes where a copy came from, to the end of its line.
-fn origin(text: &mut String, from: &Origin) -> Result<(), AllocError>
-    ensures { OnOk result (string_bytes text.new ≡ string_bytes text.old ++ words (origin from.now ∷ [])) }
+fn origin(text: &mut Vec<u8>, from: &Origin) -> Result<(), AllocError>
+    ensures { OnOk result (text.new.items ≡ text.old.items ++ words (origin from.now ∷ [])) }
 {
     match from {
-        Origin::Mem(bytes) => write!(text, "mem {}\n", InHex(*bytes)),
-        Origin::Hart(g) => write!(text, "hart {}\n", g.0),
-        Origin::Held => write!(text, "held\n"),
+        Origin::Mem(bytes) => {
+            put::word(text, "mem ")?;
+            put::digits(text, bytes)?;
+            put::byte(text, b'\n')
+        }
+        Origin::Hart(g) => {
+            begin(text, "hart", g.0 as u64)?;
+            put::byte(text, b'\n')
+        }
+        Origin::Held => put::word(text, "held\n"),
     }
 }
 
 /// Writes a copy that came, behind this word.
 fn copy(
-    text: &mut String,
+    text: &mut Vec<u8>,
     word: &str,
     hart: HartNo,
     at: Place,
     from: &Origin,
 ) -> Result<(), AllocError>
-    ensures { OnOk result (string_bytes text.new ≡ string_bytes text.old
+    ensures { OnOk result (text.new.items ≡ text.old.items
         ++ words (word.now ∷ decimal hart.0 ∷ place at ∷ origin from.now ∷ [])) }
 {
-    write!(text, "{word} {} {} ", hart.0, Six(at.0))?;
+    begin(text, word, hart.0 as u64)?;
+    at_place(text, at)?;
+    put::byte(text, b' ')?;
     origin(text, from)
 }
 
-fn dropped(text: &mut String, hart: HartNo, at: Place) -> Result<(), AllocError>
-    ensures { OnOk result (string_bytes text.new ≡ string_bytes text.old ++ line (Record.Drop hart at)) }
+fn dropped(text: &mut Vec<u8>, hart: HartNo, at: Place) -> Result<(), AllocError>
+    ensures { OnOk result (text.new.items ≡ text.old.items ++ line (Record.Drop hart at)) }
 {
-    write!(text, "drop {} {}\n", hart.0, Six(at.0))
+    begin(text, "drop", hart.0 as u64)?;
+    at_place(text, at)?;
+    put::byte(text, b'\n')
 }
 
-/// Writes a channel's bytes at a place, behind this word.
-fn transaction(
-    text: &mut String,
-    word: &str,
-    chan: ChanNo,
-    at: Place,
-    bytes: &Bytes,
-) -> Result<(), AllocError>
-    ensures { OnOk result (string_bytes text.new ≡ string_bytes text.old
-        ++ words (word.now ∷ decimal chan.0 ∷ place at ∷ encode_lower bytes.now ∷ [])) }
+fn chan_done(text: &mut Vec<u8>, chan: ChanNo) -> Result<(), AllocError>
+    ensures { OnOk result (text.new.items ≡ text.old.items ++ line (Record.Cd chan)) }
 {
-    write!(text, "{word} {} {} {}\n", chan.0, Six(at.0), InHex(*bytes))
+    begin(text, "cd", chan.0 as u64)?;
+    put::byte(text, b'\n')
 }
 
-fn chan_done(text: &mut String, chan: ChanNo) -> Result<(), AllocError>
-    ensures { OnOk result (string_bytes text.new ≡ string_bytes text.old ++ line (Record.Cd chan)) }
+fn chan_error(text: &mut Vec<u8>, chan: ChanNo, bus: u64, len: u32) -> Result<(), AllocError>
+    ensures { OnOk result (text.new.items ≡ text.old.items ++ line (Record.Ce chan bus len)) }
 {
-    write!(text, "cd {}\n", chan.0)
+    let Ok(()) = write!(text, "ce {} {} {len}\n", chan.0, Sixteen(bus)) else {
+        return Err(AllocError);
+    };
+    Ok(())
 }
 
-fn chan_error(text: &mut String, chan: ChanNo, bus: u64, len: u32) -> Result<(), AllocError>
-    ensures { OnOk result (string_bytes text.new ≡ string_bytes text.old ++ line (Record.Ce chan bus len)) }
+fn owned(text: &mut Vec<u8>, span: Span, owner: Owner) -> Result<(), AllocError>
+    ensures { OnOk result (text.new.items ≡ text.old.items ++ line (Record.Ow span owner)) }
 {
-    write!(text, "ce {} {} {len}\n", chan.0, Sixteen(bus))
-}
-
-fn owned(text: &mut String, span: Span, owner: Owner) -> Result<(), AllocError>
-    ensures { OnOk result (string_bytes text.new ≡ string_bytes text.old ++ line (Record.Ow span owner)) }
-{
-    write!(
+    let Ok(()) = write!(
         text,
         "ow {} {} {}\n",
         Six(span.at),
         span.len,
         OwnerWords(owner)
-    )
+    ) else {
+        return Err(AllocError);
+    };
+    Ok(())
 }
 
-fn tried(text: &mut String, hart: HartNo, word: u32, found: TryAnswer) -> Result<(), AllocError>
-    ensures { OnOk result (string_bytes text.new ≡ string_bytes text.old ++ line (Record.Try hart word found)) }
+fn tried(text: &mut Vec<u8>, hart: HartNo, word: u32, found: TryAnswer) -> Result<(), AllocError>
+    ensures { OnOk result (text.new.items ≡ text.old.items ++ line (Record.Try hart word found)) }
 {
-    write!(text, "try {} {word} {}\n", hart.0, TriedWords(found))
+    let Ok(()) = write!(text, "try {} {word} {}\n", hart.0, TriedWords(found)) else {
+        return Err(AllocError);
+    };
+    Ok(())
 }
 
-fn told(text: &mut String, hart: HartNo, word: u32, found: ToldAnswer) -> Result<(), AllocError>
-    ensures { OnOk result (string_bytes text.new ≡ string_bytes text.old ++ line (Record.Told hart word found)) }
+fn told(text: &mut Vec<u8>, hart: HartNo, word: u32, found: ToldAnswer) -> Result<(), AllocError>
+    ensures { OnOk result (text.new.items ≡ text.old.items ++ line (Record.Told hart word found)) }
 {
-    write!(text, "told {} {word} {}\n", hart.0, HeardWords(found))
+    let Ok(()) = write!(text, "told {} {word} {}\n", hart.0, HeardWords(found)) else {
+        return Err(AllocError);
+    };
+    Ok(())
 }
 
-fn given_back(text: &mut String, hart: HartNo, word: u32) -> Result<(), AllocError>
-    ensures { OnOk result (string_bytes text.new ≡ string_bytes text.old ++ line (Record.Back hart word)) }
+fn given_back(text: &mut Vec<u8>, hart: HartNo, word: u32) -> Result<(), AllocError>
+    ensures { OnOk result (text.new.items ≡ text.old.items ++ line (Record.Back hart word)) }
 {
-    write!(text, "back {} {word}\n", hart.0)
+    begin(text, "back", hart.0 as u64)?;
+    put::number_behind(text, b' ', word as u64)?;
+    put::byte(text, b'\n')
 }
 
-fn answered(text: &mut String, hart: HartNo, op: u32, answer: &Answer) -> Result<(), AllocError>
-    ensures { OnOk result (string_bytes text.new ≡ string_bytes text.old ++ line (Record.Ans hart op answer.now)) }
+fn answered(text: &mut Vec<u8>, hart: HartNo, op: u32, answer: &Answer) -> Result<(), AllocError>
+    ensures { OnOk result (text.new.items ≡ text.old.items ++ line (Record.Ans hart op answer.now)) }
 {
-    write!(text, "ans {} {op} {}\n", hart.0, AnswerWords(*answer))
+    let Ok(()) = write!(text, "ans {} {op} {}\n", hart.0, AnswerWords(*answer)) else {
+        return Err(AllocError);
+    };
+    Ok(())
 }
 
 /// Writes the line of a record behind a text.
-fn put_line(text: &mut String, entry: &Record) -> Result<(), AllocError>
-    ensures { OnOk result (string_bytes text.new ≡ string_bytes text.old ++ line entry.now) }
+fn put_line(text: &mut Vec<u8>, entry: &Record) -> Result<(), AllocError>
+    ensures { OnOk result (text.new.items ≡ text.old.items ++ line entry.now) }
 {
     match entry {
         Record::Event(e) => event(text, *e),
         Record::Touched(t) => touch(text, *t),
-        Record::Ld { hart, at, bytes } => piece(text, "ld", *hart, *at, bytes),
-        Record::St { hart, at, bytes } => piece(text, "st", *hart, *at, bytes),
-        Record::Pl { hart, at, bytes } => piece(text, "pl", *hart, *at, bytes),
-        Record::Ps { hart, at, bytes } => piece(text, "ps", *hart, *at, bytes),
+        Record::Ld { hart, at, bytes } => piece(text, "ld", hart.0, *at, bytes),
+        Record::St { hart, at, bytes } => piece(text, "st", hart.0, *at, bytes),
+        Record::Pl { hart, at, bytes } => piece(text, "pl", hart.0, *at, bytes),
+        Record::Ps { hart, at, bytes } => piece(text, "ps", hart.0, *at, bytes),
         Record::Cbo { hart, op, at } => operation(text, "cbo", *hart, *op, *at),
         Record::Fence { hart, pred, succ } => sets(text, "fence", *hart, *pred, *succ),
         Record::Mark { hart, pred, succ } => sets(text, "mark", *hart, *pred, *succ),
         Record::Io { hart, target: to } => target(text, "io", *hart, *to),
-        Record::DrStore { hart, at, bytes } => piece(text, "dr", *hart, *at, bytes),
+        Record::DrStore { hart, at, bytes } => piece(text, "dr", hart.0, *at, bytes),
         Record::DrCbo { hart, op, at } => operation(text, "dr", *hart, *op, *at),
         Record::DrIo { hart, target: to } => target(text, "dr", *hart, *to),
         Record::DrMark(hart) => drained_mark(text, *hart),
         Record::Fill { hart, at, from } => copy(text, "fill", *hart, *at, from),
         Record::Own { hart, at, from } => copy(text, "own", *hart, *at, from),
-        Record::Wb { hart, at, bytes } => piece(text, "wb", *hart, *at, bytes),
+        Record::Wb { hart, at, bytes } => piece(text, "wb", hart.0, *at, bytes),
         Record::Drop { hart, at } => dropped(text, *hart, *at),
-        Record::Cr { chan, at, bytes } => transaction(text, "cr", *chan, *at, bytes),
-        Record::Cw { chan, at, bytes } => transaction(text, "cw", *chan, *at, bytes),
+        Record::Cr { chan, at, bytes } => piece(text, "cr", chan.0, *at, bytes),
+        Record::Cw { chan, at, bytes } => piece(text, "cw", chan.0, *at, bytes),
         Record::Cd(chan) => chan_done(text, *chan),
         Record::Ce { chan, bus, len } => chan_error(text, *chan, *bus, *len),
         Record::Ow { span, owner } => owned(text, *span, *owner),
@@ -229,15 +270,29 @@ fn put_line(text: &mut String, entry: &Record) -> Result<(), AllocError>
 /// More bytes than the lines of most events have.
 const ROOM: usize = 256;
 
+/// The lines of some records.
+#[derive(Drop)]
+pub(crate) struct Written {
+    text: Vec<u8>,
+}
+
+impl Written {
+    pub(crate) fn as_bytes(&self) -> &[u8]
+        ensures { result.now ≡ self.now.text.items }
+    {
+        self.text.as_slice()
+    }
+}
+
 /// Returns the lines of some records.
-pub(crate) fn lines(alloc: Global, records: &[Record]) -> Result<String, AllocError>
-    ensures { IfOk result (λ s. string_bytes s ≡ flat_map line records.now) }
+pub(crate) fn lines(alloc: Global, records: &[Record]) -> Result<Written, AllocError>
+    ensures { IfOk result (λ s. s.text.items ≡ flat_map line records.now) }
 {
-    let mut text = String::with_capacity(alloc, ROOM)?;
+    let mut text = Vec::with_capacity(alloc, ROOM)?;
     for entry in records {
         put_line(&mut text, entry)?;
     }
-    Ok(text)
+    Ok(Written { text })
 }
 
 /// Returns the line `e TOKEN` of an event.
@@ -248,9 +303,9 @@ pub(crate) fn lines(alloc: Global, records: &[Record]) -> Result<String, AllocEr
 pub fn event_line(alloc: Global, e: Event) -> Result<Vec<u8>, NoMemory>
     ensures { IfOk result (λ v. v.items ≡ line (Record.Event e)) }
 {
-    let mut text = String::new(alloc);
+    let mut text = Vec::new(alloc);
     event(&mut text, e)?;
-    Ok(text.into_bytes())
+    Ok(text)
 }
 
 /// Returns the line of a record.
@@ -261,7 +316,7 @@ pub fn event_line(alloc: Global, e: Event) -> Result<Vec<u8>, NoMemory>
 pub fn line(alloc: Global, entry: &Record) -> Result<Vec<u8>, NoMemory>
     ensures { IfOk result (λ v. v.items ≡ line entry.now) }
 {
-    let mut text = String::new(alloc);
+    let mut text = Vec::new(alloc);
     put_line(&mut text, entry)?;
-    Ok(text.into_bytes())
+    Ok(text)
 }

@@ -1,38 +1,43 @@
-//! The words of a line, each as `{}` writes it.
+//! The words of a line: those of most lines are put behind a text, the others are as `{}` writes them.
 
-ghost use Rattle.std.specs.Prelude.{Some};
+ghost use Rattle.std.specs.Prelude.{◌≡◌, ◌++◌, ◌∷◌, decimal, Some, OnOk};
 ghost use Rattle.std.specs.List.{flat_map};
 ghost use Rattle.nc_rules.specs.Lines.{token, kind, actor, owner, operation, field, refusal, segment, answer, target, tried, heard};
 
 use crate::digits::{Eight, Sixteen, Three};
+use crate::put;
 use nc_env::{CboOp, Field};
 use nc_model::{Actor, Owner, TouchKind};
 use nc_plan::{IoTarget, SegList};
 use nc_rules::{Answer, Refusal, ToldAnswer};
 use nc_scen::Event;
 use nc_slots::TryAnswer;
+use std::alloc::AllocError;
 use std::fmt;
 
-/// The token of an event.
-#[derive(Drop)]
-pub(crate) struct Token(pub Event);
-
-impl fmt::Display for Token {
-    ghost output = { λ e. Some (token e.0) };
-
-    fn fmt<W: fmt::Write>(&self, f: &mut fmt::Formatter<W>) -> fmt::Result {
-        match self.0 {
-            Event::Issue(h) => write!(f, "i{}", h.0),
-            Event::Try(h) => write!(f, "t{}", h.0),
-            Event::Told(h, true) => write!(f, "g{}", h.0),
-            Event::Told(h, false) => write!(f, "n{}", h.0),
-            Event::Drain(h, i) => write!(f, "d{}.{}", h.0, i),
-            Event::Fill(h, b) => write!(f, "f{}.{}", h.0, b.0),
-            Event::Evict(h, b) => write!(f, "e{}.{}", h.0, b.0),
-            Event::ChanRead(c) => write!(f, "r{}", c.0),
-            Event::ChanWrite(c) => write!(f, "w{}", c.0),
-        }
+/// Puts the token of an event.
+pub(crate) fn put_token(text: &mut Vec<u8>, e: Event) -> Result<(), AllocError>
+    ensures { OnOk result (text.new.items ≡ text.old.items ++ token e) }
+{
+    match e {
+        Event::Issue(h) => put::number_behind(text, b'i', h.0 as u64),
+        Event::Try(h) => put::number_behind(text, b't', h.0 as u64),
+        Event::Told(h, true) => put::number_behind(text, b'g', h.0 as u64),
+        Event::Told(h, false) => put::number_behind(text, b'n', h.0 as u64),
+        Event::Drain(h, i) => put_two(text, b'd', h.0 as u64, i as u64),
+        Event::Fill(h, b) => put_two(text, b'f', h.0 as u64, b.0 as u64),
+        Event::Evict(h, b) => put_two(text, b'e', h.0 as u64, b.0 as u64),
+        Event::ChanRead(c) => put::number_behind(text, b'r', c.0 as u64),
+        Event::ChanWrite(c) => put::number_behind(text, b'w', c.0 as u64),
     }
+}
+
+/// Puts a letter, and two numbers with a dot between.
+fn put_two(text: &mut Vec<u8>, letter: u8, m: u64, n: u64) -> Result<(), AllocError>
+    ensures { OnOk result (text.new.items ≡ text.old.items ++ (letter ∷ decimal m ++ 46 ∷ decimal n)) }
+{
+    put::number_behind(text, letter, m)?;
+    put::number_behind(text, b'.', n)
 }
 
 /// A kind of touch.
@@ -89,20 +94,15 @@ impl fmt::Display for OwnerWords {
     }
 }
 
-/// A cache operation, by its effect.
-#[derive(Drop)]
-pub(crate) struct OperationWord(pub CboOp);
-
-impl fmt::Display for OperationWord {
-    ghost output = { λ o. Some (operation o.0) };
-
-    fn fmt<W: fmt::Write>(&self, f: &mut fmt::Formatter<W>) -> fmt::Result {
-        match self.0 {
-            CboOp::Clean => write!(f, "clean"),
-            CboOp::Flush => write!(f, "flush"),
-            CboOp::Inval => write!(f, "inval"),
-            CboOp::Zero => write!(f, "zero"),
-        }
+/// The word of a cache operation, by its effect.
+pub(crate) fn operation_word(op: CboOp) -> &'static str
+    ensures { result.now ≡ operation op }
+{
+    match op {
+        CboOp::Clean => "clean",
+        CboOp::Flush => "flush",
+        CboOp::Inval => "inval",
+        CboOp::Zero => "zero",
     }
 }
 
