@@ -1,8 +1,0 @@
-use Rattle.nc_world.proofs.Starts.{start_size, start_ram}
-use Rattle.report_tests.proofs.report.started.Goals as goal
-
-pub returns-clause-size : goal.returns-clause-size
-returns-clause-size c = rw (c.in-Ok-new.ensures.state) (start_size c.in-Ok.sc)
-
-pub returns-clause-ram : goal.returns-clause-ram
-returns-clause-ram c = rw (c.in-Ok-new.ensures.state) (start_ram c.in-Ok.sc c.in-Ok.ensures.accepted)
