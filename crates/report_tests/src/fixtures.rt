@@ -39,9 +39,9 @@ pub const STORE: &str = r#"{
 /// A world at its start, with its scenario.
 pub fn started(alloc: Global, text: &str) -> Option<(Scenario, World)>
     ensures accepted { IfSome result (λ p. IsAccepted p.0) }
-    ensures harts { IfSome result (λ p. length p.1.at.machine.harts ≡ length p.0.harts) }
-    ensures size { IfSome result (λ p. p.1.at.machine.size ≡ p.0.block_size) }
-    ensures ram { IfSome result (λ p. length p.1.at.machine.cache.ram ≡ p.0.ram) }
+    ensures harts { IfSome result (λ p. length p.1.state.machine.harts ≡ length p.0.harts) }
+    ensures size { IfSome result (λ p. p.1.state.machine.size ≡ p.0.block_size) }
+    ensures ram { IfSome result (λ p. length p.1.state.machine.cache.ram ≡ p.0.ram) }
     ensures records { IfSome result (λ p. p.1.records ≡ []) }
 {
     let Ok(sc) = read(alloc, text.as_bytes()) else {

@@ -1,27 +1,22 @@
 -- The coherent pool: a place of it is nobody's, or one of an area, and no other mapping has one.
 use Rattle.std.proofs.Common.{◌≡◌, ℕ, ◌<◌, true, false, List, length, sym, ap, ◌∙◌, inl, inr, subst}
-use Rattle.std.specs.Prelude.{◌⊎◌}
 use Rattle.std.proofs.lemmas.Bool.{cases_Bool}
 use Rattle.nc_num.specs.Places.{covers}
 use Rattle.nc_num.specs.declared.names.MapId.{MapId}
 use Rattle.nc_num.specs.declared.places.Span.{Span}
-use Rattle.nc_model.specs.declared.owners.Owner.TheVariants.{Pool}
 use Rattle.nc_sg.specs.declared.list.Entry.{Entry}
 use Rattle.nc_scen.specs.Regions.{pool_of}
 use Rattle.nc_scen.specs.declared.scenario.Scenario.{Scenario}
 use Rattle.nc_rules.specs.declared.lots.Lot.{Lot}
 use Rattle.nc_rules.specs.Lots.{DriverConfig}
 use Rattle.nc_rules.specs.Turns.{is_area}
-use Rattle.nc_rules.specs.EventTouches.{owner_of}
 use Rattle.nc_rules.specs.World.{WorldState, driver_of}
 use Rattle.nc_holds.specs.Held.{LiesInBuffer, FitsSide, IsEntryOf}
-use Rattle.nc_holds.proofs.lists.Members.{all_at, at_get, same_some}
+use Rattle.nc_holds.proofs.lists.Members.{all_at, at_get}
 use Rattle.nc_holds.proofs.owners.Lots.{area_covers}
-use Rattle.nc_rows.specs.Rows.{Loan}
-use Rattle.nc_flatness.specs.Books.{book_of, IsOfArea}
 use Rattle.nc_flatness.specs.Flatness.{Flatness}
 use Rattle.nc_flatness.proofs.books.Loans.{hart_of_lot, lot_in}
-use Rattle.nc_flatness.proofs.books.Owned.{fixed_is, IsMapped, of_buffer, loan_mapped}
+use Rattle.nc_flatness.proofs.books.Owned.{fixed_is, IsMapped, of_buffer}
 
 -- ---- the pool
 

@@ -1,7 +1,7 @@
 -- What a row reads of a book, and how the book changes as one driver goes on.
 use Rattle.std.proofs.Common.{◌≡◌, ℕ, zero, suc, ◌<◌, Bool, true, false, List, [], ◌∷◌, length, refl, sym, ap, ◌∙◌, inl, inr, subst, arith, cond, Option, Some, None}
 use Rattle.std.specs.Prelude.{◌≢◌, slice_index_or}
-use Rattle.std.proofs.lemmas.Bool.{cases_eq, false≢true}
+use Rattle.std.proofs.lemmas.Bool.{cases_eq}
 use Rattle.std.proofs.lemmas.List.{get_or-set_same, get_or-set_other}
 use Rattle.nc_num.specs.Places.{covers}
 use Rattle.nc_num.specs.declared.names.HartNo.{HartNo}
@@ -27,11 +27,11 @@ use Rattle.nc_calls.specs.PlaceLaws.{NotHeld}
 use Rattle.nc_scripts.proofs.Lists.{all_to}
 use Rattle.nc_holds.specs.Held.{AreRegions}
 use Rattle.nc_rows.specs.Rows.{Loan, Book, LentRow, DeviceRow, BackRow, SyncedRow, Row}
-use Rattle.nc_rows.specs.Laws.{place_of, seen_at, area_of, is_lent_area}
+use Rattle.nc_rows.specs.Laws.{place_of, seen_at}
 use Rattle.nc_rows.specs.Ahead.{settling}
 use Rattle.nc_rows.specs.Parts.{IsDropped, IsZeroed, OpIsQueued, IsQueued, Queued, IsAllocating, MayBeHeld, Uncached}
 use Rattle.nc_flatness.specs.Books.{number_in, loan_of, book_of, mapping_in}
-use Rattle.nc_flatness.specs.Flatness.{IsUnseen, Flatness}
+use Rattle.nc_flatness.specs.Flatness.{Flatness}
 use Rattle.nc_flatness.proofs.books.Owned.{IsMapped, mapped, owned_ram}
 use Rattle.nc_flatness.proofs.plans.Rests.{settling_ends, IsAtPlan, at_plan}
 use Rattle.nc_flatness.proofs.worlds.Outcomes.{gone}

@@ -5,7 +5,7 @@ use Rattle.std.proofs.lemmas.Bool.{cases_Bool, cond-true, cond-false}
 use Rattle.std.specs.Prelude.{slice_index_or}
 use Rattle.nc_num.specs.Places.{covers}
 use Rattle.nc_num.specs.declared.places.Span.{Span}
-use Rattle.nc_model.proofs.Faults.{covers-from, covers-low, covers-high}
+use Rattle.nc_model.proofs.Faults.{covers-low, covers-high}
 use Rattle.nc_model.specs.declared.owners.Owner.{Owner}
 use Rattle.nc_own.specs.Books.{owner_in, transferred}
 use Rattle.nc_own.proofs.Follows.{owner_in-transferred}

@@ -29,7 +29,7 @@ use Rattle.nc_holds.proofs.grants.Words.{slot_once, slot_holder, slot_harts}
 use Rattle.nc_rows.specs.Rows.{Loan, device_place}
 use Rattle.nc_rows.specs.Laws.{place_of, seen_at}
 use Rattle.nc_flatness.specs.Books.{book_of, mapping_in}
-use Rattle.nc_flatness.specs.Flatness.{IsUnseen, Flatness}
+use Rattle.nc_flatness.specs.Flatness.{Flatness}
 use Rattle.nc_flatness.proofs.books.Loans.{IsLoan, hart_of_lot, lot_in, area_direct}
 use Rattle.nc_flatness.proofs.books.Owned.{fixed_is, IsMapped, mapped, owned_ram}
 use Rattle.nc_flatness.proofs.books.Areas.{entry_pooled}

@@ -22,7 +22,7 @@ use Rattle.nc_rules.specs.Lots.{is_lot, is_wanted, lot_id}
 use Rattle.nc_rules.specs.Machine.{queue_of}
 use Rattle.nc_rules.specs.World.{WorldState, driver_of}
 use Rattle.nc_holds.specs.Tokens.{HasLent, token_of, TokenStays}
-use Rattle.nc_holds.proofs.lists.Members.{all_at, in_filter, of_filter, none_of, none_at, at_get}
+use Rattle.nc_holds.proofs.lists.Members.{all_at, in_filter, of_filter, none_at, at_get}
 use Rattle.nc_rows.specs.Ahead.{ends, names, is_settling, settling}
 use Rattle.nc_rows.specs.Rows.{Loan}
 use Rattle.nc_flatness.specs.Books.{is_entry_of}

@@ -7,15 +7,14 @@ use Rattle.nc_cache.specs.declared.line.BusRec.{BusRec}
 use Rattle.nc_cache.specs.declared.line.BusRec.TheVariants as bus
 use Rattle.nc_queue.specs.declared.entry.Entry.{Entry}
 use Rattle.nc_queue.specs.declared.entry.Entry.TheVariants as entries
-use Rattle.nc_model.specs.Flat.{Mark, Touched}
+use Rattle.nc_model.specs.Flat.{Mark}
 use Rattle.nc_model.specs.declared.owners.Grant.{Grant}
 use Rattle.nc_model.specs.declared.owners.Owner.{Owner}
-use Rattle.nc_model.specs.declared.touches.Touch.{Touch}
 use Rattle.nc_rules.specs.declared.answers.Answer.{Answer}
 use Rattle.nc_rules.specs.declared.records.Record.{Record}
 use Rattle.nc_rules.specs.declared.records.Record.TheVariants as records
 use Rattle.nc_rules.specs.Flat.{marks_of, all_marks}
-use Rattle.nc_rules.specs.Records.{touch_records, transfer_record, transfer_records, answer_records, owner_records, back_records, answered, moves_records, entry_record}
+use Rattle.nc_rules.specs.Records.{transfer_record, transfer_records, answer_records, owner_records, back_records, answered, moves_records, entry_record}
 use Rattle.nc_rules.specs.Turns.{Moved}
 
 append_assoc : (a b c : List Mark) → (a ++ b) ++ c ≡ a ++ (b ++ c)
