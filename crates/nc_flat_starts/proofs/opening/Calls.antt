@@ -10,7 +10,6 @@ use Rattle.nc_num.specs.declared.names.Dir.TheVariants.{ToDev, FromDev}
 use Rattle.nc_num.specs.declared.names.HartNo.{HartNo}
 use Rattle.nc_num.specs.declared.names.Label.{Label}
 use Rattle.nc_num.specs.declared.names.MapId.{MapId}
-use Rattle.nc_model.specs.declared.owners.Owner.{Owner}
 use Rattle.nc_pdma_regs.specs.Config.{repeat_of}
 use Rattle.nc_plan.specs.Plans.{In}
 use Rattle.nc_plan.proofs.PlanLaws.{in_right}
@@ -30,7 +29,7 @@ use Rattle.nc_rules.specs.declared.steps.Step.{Step}
 use Rattle.nc_rules.specs.declared.steps.Turn.{Turn}
 use Rattle.nc_rules.specs.declared.steps.Turn.TheVariants as turns
 use Rattle.nc_rules.specs.Machine.{queue_of}
-use Rattle.nc_rules.specs.Lots.{DriverConfig, lot_id, lot_named, is_lot, is_named, is_labelled, is_wanted, owner_of_side, same_kind, lot_waits, some_lot_waits}
+use Rattle.nc_rules.specs.Lots.{DriverConfig, lot_id, lot_named, is_lot, is_named, is_labelled, is_wanted, same_kind, lot_waits, some_lot_waits}
 use Rattle.nc_rules.specs.Turns.{is_area, lots_after, transfers_of, turned_by}
 use Rattle.nc_rules.specs.Plans.{lend_steps}
 use Rattle.nc_rules.specs.Copies as copies
@@ -69,7 +68,7 @@ use Rattle.nc_flat_starts.proofs.opening.Befores.{driven}
 use Rattle.nc_flat_starts.proofs.going.CopyBesides.{ends_beside}
 use Rattle.nc_flat_starts.proofs.going.CopyPlans.{CopyGoes, copy_goes}
 use Rattle.nc_flat_starts.proofs.going.CopyRanges.{AreRanged, ranged_stands}
-use Rattle.nc_flat_starts.proofs.turning.Frames.{IsRestful, SameRest}
+use Rattle.nc_flat_starts.proofs.turning.Frames.{SameRest}
 use Rattle.nc_flat_starts.proofs.turning.Lots.{loan_in, find_only, kept_loans}
 use Rattle.nc_flat_starts.proofs.turning.OpenRows.{writing, dropping, sizes, lend_opens}
 use Rattle.nc_flat_starts.proofs.opening.Opens.{opens_bytes}
