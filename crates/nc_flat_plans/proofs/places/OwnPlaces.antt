@@ -1,8 +1,6 @@
 -- The row of a place of the lot in hand, by what is still to come of its plan, before a step and behind it.
 use Rattle.std.specs.Prelude.{Option, Some, Bool, true, false}
 use Rattle.std.proofs.Common.{◌≡◌, ℕ, List, refl, sym, ap, ◌∙◌, inl, inr, subst}
-use Rattle.std.specs.List.{list_any}
-use Rattle.nc_num.specs.Memory.{byte}
 use Rattle.nc_num.specs.declared.names.Dir.{Dir}
 use Rattle.nc_num.specs.declared.names.HartNo.{HartNo}
 use Rattle.nc_num.specs.declared.names.MapId.{MapId}
@@ -22,13 +20,13 @@ use Rattle.nc_rules.specs.Turns.{is_area}
 use Rattle.nc_rules.specs.EventTouches.{owner_of}
 use Rattle.nc_rules.specs.World.{WorldState, driver_of}
 use Rattle.nc_rules.specs.View.{view}
-use Rattle.nc_rows.specs.Ahead.{is_full, coming}
+use Rattle.nc_rows.specs.Ahead.{coming}
 use Rattle.nc_rows.specs.Places.{ThreadRow}
 use Rattle.nc_rows.specs.Rows.{Loan, LentRow, DeviceRow, BackRow, SyncedRow, Row}
 use Rattle.nc_flatness.specs.Books.{book_of}
 use Rattle.nc_flatness.proofs.worlds.Outcomes.{gone}
 use Rattle.nc_flat_starts.proofs.turning.Frames.{IsPlace, rest_hart}
-use Rattle.nc_flat_plans.proofs.places.OwnRows.{LentAs, GivenAs, BackAs, dir_end, either_end, either_false, of_either_false}
+use Rattle.nc_flat_plans.proofs.places.OwnRows.{LentAs, GivenAs, BackAs, dir_end, either_false, of_either_false}
 use Rattle.nc_flat_plans.proofs.places.Places.{IsUnder, its_id, its_loan, its_place, known, owned}
 use Rattle.nc_flat_plans.proofs.drivers.Shifts.{sided, seen_mapped, IsShift}
 use Rattle.nc_flat_plans.proofs.drivers.StepFrames.{driven, known_now}

@@ -41,36 +41,29 @@ pub record IsOfBytes (p : Entry → Bool) : Type 0 where
   pub registers : (chan : ChanNo) (off width value : ℕ) → p (entries.Reg chan off width value) ≡ false
   pub lends : (label : Label) (first count : ℕ) → p (entries.Lend label first count) ≡ false
 
+-- one that no clean, flush or invalidate passes
+by_ops : (p : Entry → Bool) → ((block : Block) → p (entries.Cbo block kinds.Clean) ≡ false) → ((block : Block) → p (entries.Cbo block kinds.Flush) ≡ false) → ((block : Block) → p (entries.Cbo block kinds.Inval) ≡ false) → ((pred succ : ℕ) → p (entries.Mark pred succ) ≡ false)
+    → ((chan : ChanNo) (off width value : ℕ) → p (entries.Reg chan off width value) ≡ false) → ((label : Label) (first count : ℕ) → p (entries.Lend label first count) ≡ false) → IsOfBytes p
+by_ops p clean flush inval marks registers lends = record { writes = written; drops = dropped_op; marks = marks; registers = registers; lends = lends }
+  where
+    written : (op : CboOp) (block : Block) → writes_back op ≡ true → p (entries.Cbo block op) ≡ false
+    written kinds.Clean block is = clean block
+    written kinds.Flush block is = flush block
+    written kinds.Inval block is = absurd cc
+    written kinds.Zero block is = absurd cc
+
+    dropped_op : (op : CboOp) (block : Block) → drops_copies op ≡ true → p (entries.Cbo block op) ≡ false
+    dropped_op kinds.Inval block is = inval block
+    dropped_op kinds.Flush block is = flush block
+    dropped_op kinds.Clean block is = absurd cc
+    dropped_op kinds.Zero block is = absurd cc
+
 -- a byte at a place, and one of a block
 pub of_place : (s x : ℕ) → IsOfBytes (gives_at s x)
-of_place s x = record { writes = written; drops = dropped_op; marks = λ a b. refl; registers = λ chan off width value. refl; lends = λ label first count. refl }
-  where
-    written : (op : CboOp) (block : Block) → writes_back op ≡ true → gives_at s x (entries.Cbo block op) ≡ false
-    written kinds.Clean block is = refl
-    written kinds.Flush block is = refl
-    written kinds.Inval block is = absurd cc
-    written kinds.Zero block is = absurd cc
-
-    dropped_op : (op : CboOp) (block : Block) → drops_copies op ≡ true → gives_at s x (entries.Cbo block op) ≡ false
-    dropped_op kinds.Inval block is = refl
-    dropped_op kinds.Flush block is = refl
-    dropped_op kinds.Clean block is = absurd cc
-    dropped_op kinds.Zero block is = absurd cc
+of_place s x = by_ops (gives_at s x) (λ block. refl) (λ block. refl) (λ block. refl) (λ pred succ. refl) (λ chan off width value. refl) (λ label first count. refl)
 
 pub of_block : (s b : ℕ) → IsOfBytes (gives_in s b)
-of_block s b = record { writes = written; drops = dropped_op; marks = λ x y. refl; registers = λ chan off width value. refl; lends = λ label first count. refl }
-  where
-    written : (op : CboOp) (block : Block) → writes_back op ≡ true → gives_in s b (entries.Cbo block op) ≡ false
-    written kinds.Clean block is = refl
-    written kinds.Flush block is = refl
-    written kinds.Inval block is = absurd cc
-    written kinds.Zero block is = absurd cc
-
-    dropped_op : (op : CboOp) (block : Block) → drops_copies op ≡ true → gives_in s b (entries.Cbo block op) ≡ false
-    dropped_op kinds.Inval block is = refl
-    dropped_op kinds.Flush block is = refl
-    dropped_op kinds.Clean block is = absurd cc
-    dropped_op kinds.Zero block is = absurd cc
+of_block s b = by_ops (gives_in s b) (λ block. refl) (λ block. refl) (λ block. refl) (λ pred succ. refl) (λ chan off width value. refl) (λ label first count. refl)
 
 -- ---- all that comes
 
