@@ -12,8 +12,8 @@ running-preserved c =
     c.in-Some.ensures.event (ap (λ (s : WorldView). s.state) c.in_ok-stepped.ensures.world) (ap (λ (s : WorldView). s.records) c.in_ok-stepped.ensures.world) c.in_ok-stepped.ensures.shape
     c.in_ok-stepped.ensures.answer c.in_ok-stepped.ensures.tally c.in-Some.ensures.fewer c.running.invariant
 
-pub returns-clause-at : goal.returns-clause-at
-returns-clause-at c = (count_end c.args.sc.now c.running.w c.running.sched c.running.last c.running.tally c.in_default.ensures.event c.running.invariant).0
+pub returns-clause-state : goal.returns-clause-state
+returns-clause-state c = (count_end c.args.sc.now c.running.w c.running.sched c.running.last c.running.tally c.in_default.ensures.event c.running.invariant).0
 
 pub returns-clause-tally : goal.returns-clause-tally
 returns-clause-tally c = (count_end c.args.sc.now c.running.w c.running.sched c.running.last c.running.tally c.in_default.ensures.event c.running.invariant).1
