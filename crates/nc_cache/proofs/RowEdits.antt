@@ -10,7 +10,7 @@ use Rattle.nc_cache.specs.Cache.{with_line}
 use Rattle.nc_cache.specs.Facts.{IsHeld}
 use Rattle.nc_cache.specs.Slab.{SlabState, Reused, Grown}
 use Rattle.nc_cache.specs.Directory.{no_row, row_at, block_at, IsDirectory}
-use Rattle.nc_cache.specs.Rows.{row_for, line_of, lines_of, IsGap, IsRow, IsKept}
+use Rattle.nc_cache.specs.Rows.{row_for, line_of, lines_of, IsGap, IsRow, AreRowsOf}
 use Rattle.nc_cache.proofs.Masks.{row_tells, held-row_for, is_row-row_for}
 use Rattle.nc_cache.proofs.RowPlaces.{rising-set, rising-insert, rising-remove, few_rows}
 use Rattle.nc_cache.proofs.RowMaps.{get-at, lines-set, lines-insert, lines-remove, keys-lines}
@@ -21,8 +21,8 @@ line_of-row_for : (cells : List (List ℕ)) (b cell : ℕ) (d : Held) (bytes : L
 line_of-row_for cells b cell d bytes is here = rw (held-row_for b cell d is, here) refl
 
 -- another line at a row
-pub kept-change : (rows : List Row) (s t : SlabState) (i : ℕ) (row : Row) (d : Held) (bytes : List ℕ) → IsKept rows s → i < length rows → row ≡ get_or rows i row → IsHeld 4 d → t.cells ≡ set s.cells row.line bytes → t.free ≡ s.free
-    → IsKept (set rows i (row_for row.block.0 d row.line)) t
+pub kept-change : (rows : List Row) (s t : SlabState) (i : ℕ) (row : Row) (d : Held) (bytes : List ℕ) → AreRowsOf rows s → i < length rows → row ≡ get_or rows i row → IsHeld 4 d → t.cells ≡ set s.cells row.line bytes → t.free ≡ s.free
+    → AreRowsOf (set rows i (row_for row.block.0 d row.line)) t
 kept-change rows s t i row d bytes kept lt read held cells free =
     let e : row ≡ row_at rows i = get_or_read rows i row lt read no_row in
     let small : row.block.0 < 2 ^ 32 = rw e ((kept.each i no_row lt).block) in
@@ -33,7 +33,7 @@ kept-change rows s t i row d bytes kept lt read held cells free =
       cells = rw (free, len) (cells-set rows s.free (length s.cells) kept.cells i (row_for row.block.0 d row.line) lt (ap (λ (r : Row). r.line) e));
     }
 
-pub lines-change : (rows : List Row) (s t : SlabState) (i : ℕ) (row : Row) (d : Held) (bytes : List ℕ) → IsKept rows s → i < length rows → row ≡ get_or rows i row → IsHeld 4 d → t.cells ≡ set s.cells row.line bytes
+pub lines-change : (rows : List Row) (s t : SlabState) (i : ℕ) (row : Row) (d : Held) (bytes : List ℕ) → AreRowsOf rows s → i < length rows → row ≡ get_or rows i row → IsHeld 4 d → t.cells ≡ set s.cells row.line bytes
     → lines_of (set rows i (row_for row.block.0 d row.line)) t.cells ≡ with_line (lines_of rows s.cells) (block_at rows i) (Some (record { bytes = bytes; held = d }))
 lines-change rows s t i row d bytes kept lt read held cells =
     let e : row ≡ row_at rows i = get_or_read rows i row lt read no_row in
@@ -48,20 +48,20 @@ lines-change rows s t i row d bytes kept lt read held cells =
     ∙ ap (λ b. with_line (lines_of rows s.cells) b (Some (record { bytes = bytes; held = d }))) same_block)
 
 -- one more row
-pub room_for : (rows : List Row) (s : SlabState) (b i : ℕ) → IsKept rows s → IsGap rows b i → b < 2 ^ 32 → s.free ≡ [] → length s.cells < 2 ^ 32
+pub room_for : (rows : List Row) (s : SlabState) (b i : ℕ) → AreRowsOf rows s → IsGap rows b i → b < 2 ^ 32 → s.free ≡ [] → length s.cells < 2 ^ 32
 room_for rows s b i kept gap small none =
     let count = cell_count rows s.free (length s.cells) kept.cells in
     let len : length s.free ≡ 0 = ap length none in
     let few = few_rows rows b i kept.rising kept.each small gap in
     omega arith
 
-pub free_within : (rows : List Row) (s : SlabState) → IsKept rows s → All (λ k. k < length s.cells) s.free
+pub free_within : (rows : List Row) (s : SlabState) → AreRowsOf rows s → All (λ k. k < length s.cells) s.free
 free_within rows s kept = free_below rows s.free (length s.cells) kept.cells
 
 all-insert : (rows : List Row) (i : ℕ) (row : Row) → All IsRow rows → IsRow row → All IsRow (insert rows i row)
 all-insert rows i row each is = All-append IsRow (take i rows) (row ∷ drop i rows) (All-take IsRow i rows each) (All-cons IsRow row (drop i rows) is (All-drop IsRow i rows each))
 
-pub kept-add : (rows : List Row) (s t : SlabState) (i b cell : ℕ) (d : Held) (bytes : List ℕ) → IsKept rows s → IsGap rows b i → b < 2 ^ 32 → IsHeld 4 d → Reused s t cell bytes ⊎ Grown s t cell bytes → IsKept (insert rows i (row_for b d cell)) t
+pub kept-add : (rows : List Row) (s t : SlabState) (i b cell : ℕ) (d : Held) (bytes : List ℕ) → AreRowsOf rows s → IsGap rows b i → b < 2 ^ 32 → IsHeld 4 d → Reused s t cell bytes ⊎ Grown s t cell bytes → AreRowsOf (insert rows i (row_for b d cell)) t
 kept-add rows s t i b cell d bytes kept gap small held (inl reused) = record {
   rising = rising-insert rows i (row_for b d cell) gap kept.rising;
   each = all-insert rows i (row_for b d cell) kept.each (is_row-row_for b cell d small held);
@@ -78,7 +78,7 @@ kept-add rows s t i b cell d bytes kept gap small held (inr grown) = record {
 }
 
 -- the new cell has the bytes, and the cells of the rows have theirs
-new_cell : (rows : List Row) (s t : SlabState) (cell : ℕ) (bytes : List ℕ) → IsKept rows s → Reused s t cell bytes ⊎ Grown s t cell bytes → get_or t.cells cell [] ≡ bytes
+new_cell : (rows : List Row) (s t : SlabState) (cell : ℕ) (bytes : List ℕ) → AreRowsOf rows s → Reused s t cell bytes ⊎ Grown s t cell bytes → get_or t.cells cell [] ≡ bytes
 new_cell rows s t cell bytes kept (inl reused) =
     let len : length s.free ≡ length t.free + 1 = ap length reused.free ∙ length-append t.free (cell ∷ []) in
     let last : get_or s.free (length t.free) 0 ≡ cell = ap (λ f. get_or f (length t.free) 0) reused.free ∙ get_or_at t.free cell [] 0 (length t.free) refl in
@@ -86,7 +86,7 @@ new_cell rows s t cell bytes kept (inl reused) =
     ap (λ cs. get_or cs cell []) reused.cells ∙ get_or-set_same s.cells cell bytes [] below
 new_cell rows s t cell bytes kept (inr grown) = ap (λ cs. get_or cs cell []) grown.cells ∙ get_or_at s.cells bytes [] [] cell (sym grown.last)
 
-old_cells : (rows : List Row) (s t : SlabState) (cell : ℕ) (bytes : List ℕ) → IsKept rows s → Reused s t cell bytes ⊎ Grown s t cell bytes → (k : ℕ) → k < length rows → get_or t.cells (row_at rows k).line [] ≡ get_or s.cells (row_at rows k).line []
+old_cells : (rows : List Row) (s t : SlabState) (cell : ℕ) (bytes : List ℕ) → AreRowsOf rows s → Reused s t cell bytes ⊎ Grown s t cell bytes → (k : ℕ) → k < length rows → get_or t.cells (row_at rows k).line [] ≡ get_or s.cells (row_at rows k).line []
 old_cells rows s t cell bytes kept (inl reused) k lt =
     let len : length s.free ≡ length t.free + 1 = ap length reused.free ∙ length-append t.free (cell ∷ []) in
     let last : get_or s.free (length t.free) 0 ≡ cell = ap (λ f. get_or f (length t.free) 0) reused.free ∙ get_or_at t.free cell [] 0 (length t.free) refl in
@@ -95,17 +95,17 @@ old_cells rows s t cell bytes kept (inl reused) k lt =
 old_cells rows s t cell bytes kept (inr grown) k lt =
     ap (λ cs. get_or cs (row_at rows k).line []) grown.cells ∙ get_or_append_left s.cells (bytes ∷ []) [] (row_at rows k).line (line_below rows s.free (length s.cells) kept.cells k lt)
 
-pub lines-add : (rows : List Row) (s t : SlabState) (i b cell : ℕ) (d : Held) (bytes : List ℕ) → IsKept rows s → IsGap rows b i → IsHeld 4 d → Reused s t cell bytes ⊎ Grown s t cell bytes
+pub lines-add : (rows : List Row) (s t : SlabState) (i b cell : ℕ) (d : Held) (bytes : List ℕ) → AreRowsOf rows s → IsGap rows b i → IsHeld 4 d → Reused s t cell bytes ⊎ Grown s t cell bytes
     → lines_of (insert rows i (row_for b d cell)) t.cells ≡ with_line (lines_of rows s.cells) b (Some (record { bytes = bytes; held = d }))
 lines-add rows s t i b cell d bytes kept gap held taken =
     lines-insert s.cells t.cells rows i (row_for b d cell) gap (old_cells rows s t cell bytes kept taken)
     ∙ ap (λ l. with_line (lines_of rows s.cells) b (Some l)) (line_of-row_for t.cells b cell d bytes held (new_cell rows s t cell bytes kept taken))
 
 -- one row less
-pub room_to_free : (rows : List Row) (s : SlabState) (i : ℕ) → IsKept rows s → i < length rows → length s.free < length s.cells
+pub room_to_free : (rows : List Row) (s : SlabState) (i : ℕ) → AreRowsOf rows s → i < length rows → length s.free < length s.cells
 room_to_free rows s i kept lt = let count = cell_count rows s.free (length s.cells) kept.cells in omega arith
 
-pub kept-remove : (rows : List Row) (s t : SlabState) (i : ℕ) (row : Row) → IsKept rows s → i < length rows → row ≡ get_or rows i row → t.cells ≡ s.cells → t.free ≡ s.free ++ row.line ∷ [] → IsKept (remove rows i) t
+pub kept-remove : (rows : List Row) (s t : SlabState) (i : ℕ) (row : Row) → AreRowsOf rows s → i < length rows → row ≡ get_or rows i row → t.cells ≡ s.cells → t.free ≡ s.free ++ row.line ∷ [] → AreRowsOf (remove rows i) t
 kept-remove rows s t i row kept lt read cells free =
     let e : row ≡ row_at rows i = get_or_read rows i row lt read no_row in
     record {
@@ -114,11 +114,11 @@ kept-remove rows s t i row kept lt read cells free =
       cells = rw (cells, free) (cells-remove rows s.free (length s.cells) kept.cells i row.line lt (ap (λ (r : Row). r.line) e));
     }
 
-pub lines-less : (rows : List Row) (s t : SlabState) (i : ℕ) → IsKept rows s → i < length rows → t.cells ≡ s.cells → lines_of (remove rows i) t.cells ≡ with_line (lines_of rows s.cells) (block_at rows i) None
+pub lines-less : (rows : List Row) (s t : SlabState) (i : ℕ) → AreRowsOf rows s → i < length rows → t.cells ≡ s.cells → lines_of (remove rows i) t.cells ≡ with_line (lines_of rows s.cells) (block_at rows i) None
 lines-less rows s t i kept lt cells = rw cells (lines-remove s.cells rows i kept.rising lt)
 
 -- what the rows tell
-pub is_directory : (rows : List Row) (s : SlabState) → IsKept rows s → IsDirectory rows (lines_of rows s.cells)
+pub is_directory : (rows : List Row) (s : SlabState) → AreRowsOf rows s → IsDirectory rows (lines_of rows s.cells)
 is_directory rows s kept = record {
   blocks = keys-lines s.cells rows kept.rising;
   ascending = kept.rising;

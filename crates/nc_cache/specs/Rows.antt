@@ -62,7 +62,7 @@ pub record IsRow (row : Row) : Type 0 where
   pub holders : row.holders ≡ mask (holders (held_in row.holders row.dirty))
 
 -- the rows rise, and each cell is the line of one row, or free
-pub record IsKept (rows : List Row) (slab : SlabState) : Type 0 where
+pub record AreRowsOf (rows : List Row) (slab : SlabState) : Type 0 where
   pub rising : IsRising rows
   pub each : All IsRow rows
   pub cells : IsPermutation (list_map (λ row. row.line) rows ++ slab.free) (range_with_len 0 (length slab.cells))

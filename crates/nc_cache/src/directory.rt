@@ -6,7 +6,7 @@ ghost use Rattle.std.specs.FinMap as map;
 ghost use Rattle.nc_cache.specs.Cache.{with_line};
 ghost use Rattle.nc_cache.specs.Facts.{IsHeld};
 ghost use Rattle.nc_cache.specs.Directory.{IsRising, IsDirectory, block_at, dirty_holder};
-ghost use Rattle.nc_cache.specs.Rows.{mask, harts_in, held_in, row_for, lines_of, IsAt, IsGap, IsKept};
+ghost use Rattle.nc_cache.specs.Rows.{mask, harts_in, held_in, row_for, lines_of, IsAt, IsGap, AreRowsOf};
 
 use crate::line::{Held, Line};
 use crate::slab::Slab;
@@ -82,10 +82,10 @@ fn held_of(row: &Row) -> Held
 
 /// Gives the block of a row another line.
 fn change_row(rows: &mut Vec<Row>, slab: &mut Slab, at: usize, line: &Line)
-    requires kept { IsKept rows.old.items slab.old }
+    requires kept { AreRowsOf rows.old.items slab.old }
     requires within { at < length rows.old.items }
     requires held { IsHeld 4 line.now.held }
-    ensures kept { IsKept rows.new.items slab.new }
+    ensures kept { AreRowsOf rows.new.items slab.new }
     ensures lines { lines_of rows.new.items slab.new.cells ≡ with_line (lines_of rows.old.items slab.old.cells) (block_at rows.old.items at) (Some line.now) }
     ensures len { vec_len rows.new ≡ vec_len rows.old }
     ensures capacity { vec_capacity rows.new ≡ vec_capacity rows.old }
@@ -98,12 +98,12 @@ fn change_row(rows: &mut Vec<Row>, slab: &mut Slab, at: usize, line: &Line)
 
 /// Adds the row of a block, by its number, where it belongs.
 fn add_row(rows: &mut Vec<Row>, slab: &mut Slab, at: usize, number: u32, line: &Line)
-    requires kept { IsKept rows.old.items slab.old }
+    requires kept { AreRowsOf rows.old.items slab.old }
     requires gap { IsGap rows.old.items number at }
     requires held { IsHeld 4 line.now.held }
     requires rows { vec_len rows.old < vec_capacity rows.old }
     requires room { 1 ≤ slab.old.room }
-    ensures kept { IsKept rows.new.items slab.new }
+    ensures kept { AreRowsOf rows.new.items slab.new }
     ensures lines { lines_of rows.new.items slab.new.cells ≡ with_line (lines_of rows.old.items slab.old.cells) number (Some line.now) }
     ensures len { vec_len rows.new ≡ vec_len rows.old + 1 }
     ensures capacity { vec_capacity rows.old ≤ vec_capacity rows.new }
@@ -120,9 +120,9 @@ fn add_row(rows: &mut Vec<Row>, slab: &mut Slab, at: usize, number: u32, line: &
 
 /// Removes a row, and frees its line.
 fn remove_row(rows: &mut Vec<Row>, slab: &mut Slab, at: usize)
-    requires kept { IsKept rows.old.items slab.old }
+    requires kept { AreRowsOf rows.old.items slab.old }
     requires within { at < length rows.old.items }
-    ensures kept { IsKept rows.new.items slab.new }
+    ensures kept { AreRowsOf rows.new.items slab.new }
     ensures lines { lines_of rows.new.items slab.new.cells ≡ with_line (lines_of rows.old.items slab.old.cells) (block_at rows.old.items at) None }
     ensures len { vec_len rows.new + 1 ≡ vec_len rows.old }
     ensures capacity { vec_capacity rows.new ≡ vec_capacity rows.old }
@@ -148,11 +148,11 @@ impl Model for Directory {
 
     ghost coded = { directory_code line.the_row.coded };
 
-    ghost use Rattle.nc_cache.specs.Rows.{lines_of, IsKept};
+    ghost use Rattle.nc_cache.specs.Rows.{lines_of, AreRowsOf};
 
     ghost view = { λ d. record { lines = lines_of d.rows.items d.slab.cells; spare = min (vec_capacity d.rows - vec_len d.rows) d.slab.room } };
 
-    ghost invariant = { λ d. IsKept d.rows.items d.slab };
+    ghost invariant = { λ d. AreRowsOf d.rows.items d.slab };
 }
 
 impl Directory {

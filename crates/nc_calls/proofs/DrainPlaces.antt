@@ -15,7 +15,7 @@ use Rattle.nc_hart.specs.HartState.{HartState}
 use Rattle.nc_pdma.specs.Channel.{ChannelState, channel_write}
 use Rattle.nc_rules.specs.Machine.{MachineState, no_hart, hart_of, queue_of, channel_of, grantee_of, with_channel, with_grantee}
 use Rattle.nc_rules.specs.View.{middle, seen}
-use Rattle.nc_rules.specs.Calls.{granted_to, is_claimed, stored, operated, performed, leaving, without_entry, left_with, drain_next}
+use Rattle.nc_rules.specs.Calls.{grantee_after, is_claimed, stored, operated, performed, leaving, without_entry, left_with, drain_next}
 use Rattle.nc_rules.specs.Sound.{IsMachine}
 use Rattle.nc_calls.specs.MachineLaws.{SameShape, SameDevices}
 use Rattle.nc_calls.specs.PlaceLaws.{QueueLoses, ChannelIs, DrainsAt, DevicesAfter, Drains}
@@ -74,7 +74,7 @@ devices_performed m h (Store span bytes kind) p = devices_stored m h span bytes 
 devices_performed m h (Cbo block op) p = devices_operated m h op block.0
 devices_performed m h (Reg chan off width value) p =
     λ s e. rw e (channel_is m chan.0 (channel_write (channel_of m chan.0) off width value)
-    (granted_to (grantee_of m chan.0) (is_claimed (channel_of m chan.0)) (is_claimed (channel_write (channel_of m chan.0) off width value)) h) p.sound p.there.channel)
+    (grantee_after (grantee_of m chan.0) (is_claimed (channel_of m chan.0)) (is_claimed (channel_write (channel_of m chan.0) off width value)) h) p.sound p.there.channel)
 devices_performed m h (Mail buf to) p = record { box = box_here m buf buf (Some to) p.there.box refl; others = λ k ne. box_away m buf k (Some to) ne; channels = refl; grantees = refl }
 devices_performed m h (Lend label first count) p = devices_same m
 devices_performed m h (Mark pred succ) p = devices_same m

@@ -19,7 +19,7 @@ use Rattle.nc_queue.proofs.FenceLaws.{drained-some}
 use Rattle.nc_pdma.specs.Channel.{ChannelState, IsChannel, channel_write}
 use Rattle.nc_pdma.proofs.Sound.{write_sound}
 use Rattle.nc_rules.specs.Machine.{MachineState, hart_of, queue_of, channel_of, grantee_of, with_hart}
-use Rattle.nc_rules.specs.Calls.{granted_to, is_claimed, register_stored, stored, operated, performed, leaving, without_entry, left_with, drain_next}
+use Rattle.nc_rules.specs.Calls.{grantee_after, is_claimed, register_stored, stored, operated, performed, leaving, without_entry, left_with, drain_next}
 use Rattle.nc_rules.specs.Sound.{IsBlockIn, EntryIsThere, IsMachine}
 use Rattle.nc_calls.specs.MachineLaws.{SameShape}
 use Rattle.nc_calls.proofs.SoundParts.{queue_remove, there_at, there_same}
@@ -27,13 +27,13 @@ use Rattle.nc_calls.proofs.SoundWith.{shape_same, shape_then, shape_hart, sound_
 use Rattle.nc_calls.proofs.SoundIssue.{block_in}
 
 -- the grant of a channel after an access, by its claim bit before and after
-granted_is : (old : Option HartNo) (was is : Bool) (h : ℕ) → is_some old ≡ was → is_some (granted_to old was is h) ≡ is
+granted_is : (old : Option HartNo) (was is : Bool) (h : ℕ) → is_some old ≡ was → is_some (grantee_after old was is h) ≡ is
 granted_is old true false h same = refl
 granted_is old false false h same = refl
 granted_is old true true h same = same
 granted_is old false true h same = refl
 
-granted_hart : (old : Option HartNo) (was is : Bool) (h : ℕ) (g : HartNo) → granted_to old was is h ≡ Some g → (old ≡ Some g) ⊎ (g.0 ≡ h)
+granted_hart : (old : Option HartNo) (was is : Bool) (h : ℕ) (g : HartNo) → grantee_after old was is h ≡ Some g → (old ≡ Some g) ⊎ (g.0 ≡ h)
 granted_hart old true false h g e = absurd cc
 granted_hart old false false h g e = absurd cc
 granted_hart old true true h g e = inl e
@@ -43,7 +43,7 @@ sound_register : (m : MachineState) (h c : ℕ) (s : ChannelState) → IsMachine
 sound_register m h c s is lt chan sound =
     let old = is.granted c chan in
     let was = is_claimed (channel_of m c) in
-    sound_grant m c s (granted_to (grantee_of m c) was (is_claimed s) h) is chan sound (granted_is (grantee_of m c) was (is_claimed s) h old.claimed)
+    sound_grant m c s (grantee_after (grantee_of m c) was (is_claimed s) h) is chan sound (granted_is (grantee_of m c) was (is_claimed s) h old.claimed)
     (λ g e. elim (granted_hart (grantee_of m c) was (is_claimed s) h g e) [ inl p ↦ old.hart g p | inr p ↦ omega (arith, p, lt) ])
 
 -- a store

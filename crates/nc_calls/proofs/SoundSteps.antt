@@ -13,7 +13,7 @@ use Rattle.nc_pdma_regs.specs.Laws as claims
 use Rattle.nc_pdma.specs.declared.channel.ChanStep.{ChanStep}
 use Rattle.nc_pdma.specs.declared.channel.ChanStep.TheVariants.{Idle, Moved, Error}
 use Rattle.nc_pdma.specs.Channel.{ChannelState, IsChannel}
-use Rattle.nc_pdma.specs.Steps.{read_next, write_told, write_next, ram_after}
+use Rattle.nc_pdma.specs.Steps.{read_next, write_step, write_next, ram_after}
 use Rattle.nc_pdma.proofs.Sound.{read_sound, written_sound}
 use Rattle.nc_pdma.proofs.Transactions.{each_write}
 use Rattle.nc_rules.specs.Machine.{MachineState, channel_of, grantee_of, with_cache, with_ram, with_box}
@@ -79,7 +79,7 @@ pub record WrittenIn (c : ChannelState) (size at len : ℕ) (bytes : List ℕ) :
   pub long : length bytes ≡ len
   pub inside : at + length bytes ≤ size
 
-pub written_in : (c : ChannelState) (size : ℕ) (t : ChanStep) (at len : ℕ) (bytes : List ℕ) (done : Bool) → IsChannel c → write_told c size ≡ Moved (record { at = at; len = len }) bytes done → WrittenIn c size at len bytes
+pub written_in : (c : ChannelState) (size : ℕ) (t : ChanStep) (at len : ℕ) (bytes : List ℕ) (done : Bool) → IsChannel c → write_step c size ≡ Moved (record { at = at; len = len }) bytes done → WrittenIn c size at len bytes
 written_in c size t at len bytes done sound told =
     let w = each_write c size (record { at = at; len = len }) bytes done sound told in
     let long : length bytes ≡ len = ap length w.bytes_are ∙ omega (arith, length-take len c.fifo, w.in_fifo) in

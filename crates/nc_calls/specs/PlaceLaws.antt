@@ -21,7 +21,7 @@ use Rattle.nc_pdma.specs.declared.channel.ChanStep.{ChanStep}
 use Rattle.nc_pdma.specs.declared.channel.ChanStep.TheVariants.{Moved}
 use Rattle.nc_rules.specs.Machine.{MachineState, hart_of, queue_of, channel_of, grantee_of, box_of}
 use Rattle.nc_rules.specs.View.{middle, view, bytes_seen}
-use Rattle.nc_rules.specs.Calls.{granted_to, is_claimed}
+use Rattle.nc_rules.specs.Calls.{grantee_after, is_claimed}
 use Rattle.nc_rules.specs.Sound.{EntryIsThere}
 use Rattle.nc_calls.specs.MachineLaws.{SameDevices}
 
@@ -208,7 +208,7 @@ abbrev pub DevicesAfter : MachineState → MachineState → ℕ → Entry → Ty
 DevicesAfter m n h (Store span bytes kind) = SameDevices m n
 DevicesAfter m n h (Cbo block op) = SameDevices m n
 DevicesAfter m n h (Reg chan off width value) =
-    (s : ChannelState) → s ≡ channel_write (channel_of m chan.0) off width value → ChannelIs m n chan.0 s (granted_to (grantee_of m chan.0) (is_claimed (channel_of m chan.0)) (is_claimed s) h)
+    (s : ChannelState) → s ≡ channel_write (channel_of m chan.0) off width value → ChannelIs m n chan.0 s (grantee_after (grantee_of m chan.0) (is_claimed (channel_of m chan.0)) (is_claimed s) h)
 DevicesAfter m n h (Mail buf to) = BoxIs m n buf (Some to)
 DevicesAfter m n h (Lend label first count) = SameDevices m n
 DevicesAfter m n h (Mark pred succ) = SameDevices m n

@@ -1,7 +1,7 @@
 pub mod Told
 pub mod Comings
 pub mod ZeroSteps
-pub mod EventMarks
+pub mod EventTrace
 pub mod IssueBytes
 pub mod EventBytes
 pub mod EventComes

@@ -20,7 +20,7 @@ use Rattle.nc_rules.specs.declared.records.Record.TheVariants as records
 use Rattle.nc_rules.specs.declared.steps.Next.TheVariants.{Poll}
 use Rattle.nc_rules.specs.Driver.{next_of}
 use Rattle.nc_rules.specs.Events.{enabled}
-use Rattle.nc_rules.specs.Flat.{run_marks, flat_after}
+use Rattle.nc_rules.specs.Flat.{run_trace, flat_after}
 use Rattle.nc_rules.specs.Next.{event_records}
 use Rattle.nc_rules.specs.Run as run
 use Rattle.nc_rules.specs.Start.{hart_spec}
@@ -68,5 +68,5 @@ TellsCopied sc es h n _ = Unit {0}
 -- so does each answer before the first touch
 abbrev pub IsEachCopied : Scenario → List Event → Type 0
 IsEachCopied sc es =
-    (before behind : List Event) (e : Event) (h : HartNo) (n : ℕ) (a : Answer) → es ≡ before ++ e ∷ behind → Untouched (run_marks (start sc) (before ++ e ∷ []))
+    (before behind : List Event) (e : Event) (h : HartNo) (n : ℕ) (a : Answer) → es ≡ before ++ e ∷ behind → Untouched (run_trace (start sc) (before ++ e ∷ []))
     → In (records.Ans h n a) (event_records (run.after (start sc) before) e) → TellsCopied sc (before ++ e ∷ []) h n a

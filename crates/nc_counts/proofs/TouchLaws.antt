@@ -6,14 +6,14 @@ use Rattle.std.proofs.lemmas.Bool.{false≢true, cond-true, lt-ltb}
 use Rattle.std.proofs.lemmas.List.Folds.{list_any-append}
 use Rattle.nc_env.specs.declared.CboOp.{CboOp}
 use Rattle.nc_env.specs.declared.CboOp.TheVariants as cbos
-use Rattle.nc_model.specs.Flat.{Mark, Did, Touched, Untouched}
+use Rattle.nc_model.specs.Flat.{TraceItem, Did, Touched, Untouched}
 use Rattle.nc_model.proofs.LatestLaws.{Untouched-append}
 use Rattle.nc_model.specs.declared.owners.Grant.{Grant}
 use Rattle.nc_scen.specs.declared.events.Event.{Event}
 use Rattle.nc_scen.specs.declared.scenario.Scenario.{Scenario}
 use Rattle.nc_rules.specs.declared.records.Record.{Record}
 use Rattle.nc_rules.specs.declared.records.Record.TheVariants as records
-use Rattle.nc_rules.specs.Flat.{cbo_marks, marks_of, all_marks, event_marks, run_marks}
+use Rattle.nc_rules.specs.Flat.{cbo_trace, record_trace, records_trace, event_trace, run_trace}
 use Rattle.nc_rules.specs.Lines.{status, status_at, at_end}
 use Rattle.nc_rules.specs.Next.{next, event_records}
 use Rattle.nc_rules.specs.Run as run
@@ -25,14 +25,14 @@ use Rattle.nc_counts.proofs.Tells.{count-cons}
 
 -- ---- records and marks
 
-cbo_is : (s : ℕ) (op : CboOp) (at : ℕ) → Untouched (cbo_marks s op at)
+cbo_is : (s : ℕ) (op : CboOp) (at : ℕ) → Untouched (cbo_trace s op at)
 cbo_is s cbos.Zero at = record {}
 cbo_is s cbos.Clean at = record {}
 cbo_is s cbos.Flush at = record {}
 cbo_is s cbos.Inval at = record {}
 
 -- a record that is no touch makes no mark of one
-record_is : (s : ℕ) (grants : List Grant) (r : Record) → is_touch r ≡ false → Untouched (marks_of s grants r)
+record_is : (s : ℕ) (grants : List Grant) (r : Record) → is_touch r ≡ false → Untouched (record_trace s grants r)
 record_is s grants (records.Touched t) absent = absurd (false≢true (sym absent))
 record_is s grants (records.Event e) absent = record {}
 record_is s grants (records.Ld h at bytes) absent = record {}
@@ -61,17 +61,17 @@ record_is s grants (records.Told h k a) absent = record {}
 record_is s grants (records.Back h k) absent = record {}
 record_is s grants (records.Ans h op a) absent = record {}
 
-untouched_rest : (ms ns : List Mark) → Untouched (ms ++ ns) → Untouched ns
+untouched_rest : (ms ns : List TraceItem) → Untouched (ms ++ ns) → Untouched ns
 untouched_rest [] ns u = u
 untouched_rest (Did d ∷ ms) ns u = untouched_rest ms ns u
 untouched_rest (Touched ∷ ms) ns u = absurd u
 
-untouched_front : (ms ns : List Mark) → Untouched (ms ++ ns) → Untouched ms
+untouched_front : (ms ns : List TraceItem) → Untouched (ms ++ ns) → Untouched ms
 untouched_front [] ns u = record {}
 untouched_front (Did d ∷ ms) ns u = untouched_front ms ns u
 untouched_front (Touched ∷ ms) ns u = absurd u
 
-touch_is : (s : ℕ) (grants : List Grant) (r : Record) → is_touch r ≡ true → Untouched (marks_of s grants r) → ⊥
+touch_is : (s : ℕ) (grants : List Grant) (r : Record) → is_touch r ≡ true → Untouched (record_trace s grants r) → ⊥
 touch_is s grants (records.Touched t) present u = u
 touch_is s grants (records.Event e) present u = false≢true present
 touch_is s grants (records.Ld h at bytes) present u = false≢true present
@@ -103,7 +103,7 @@ touch_is s grants (records.Ans h op a) present u = false≢true present
 -- ---- a run
 
 -- marks and records tell of a touch alike
-record Alike (ms : List Mark) (rs : List Record) : Type 0 where
+record Alike (ms : List TraceItem) (rs : List Record) : Type 0 where
   none : list_any is_touch rs ≡ false → Untouched ms
   some : list_any is_touch rs ≡ true → Untouched ms → ⊥
 
@@ -122,7 +122,7 @@ some_of : (a b c : Bool) (P : Type 0) → c ≡ (a || b) → c ≡ true → (a �
 some_of true b c P e present f g = f refl
 some_of false b c P e present f g = g (sym e ∙ present)
 
-both : (ms ns : List Mark) (rs ss : List Record) → Alike ms rs → Alike ns ss → Alike (ms ++ ns) (rs ++ ss)
+both : (ms ns : List TraceItem) (rs ss : List Record) → Alike ms rs → Alike ns ss → Alike (ms ++ ns) (rs ++ ss)
 both ms ns rs ss a b =
     let any = list_any-append is_touch rs ss in
     record {
@@ -134,24 +134,24 @@ or_false : (t : Bool) → (t || false) ≡ t
 or_false true = refl
 or_false false = refl
 
-one_is : (s : ℕ) (grants : List Grant) (r : Record) → Alike (marks_of s grants r) (r ∷ [])
+one_is : (s : ℕ) (grants : List Grant) (r : Record) → Alike (record_trace s grants r) (r ∷ [])
 one_is s grants r = record {
   none = λ absent. record_is s grants r (sym (or_false (is_touch r)) ∙ absent);
   some = λ present. touch_is s grants r (sym (or_false (is_touch r)) ∙ present);
 }
 
-all_are : (s : ℕ) (grants : List Grant) (rs : List Record) → Alike (all_marks s grants rs) rs
+all_are : (s : ℕ) (grants : List Grant) (rs : List Record) → Alike (records_trace s grants rs) rs
 all_are s grants [] = nothing
-all_are s grants (r ∷ rs) = both (marks_of s grants r) (all_marks s grants rs) (r ∷ []) rs (one_is s grants r) (all_are s grants rs)
+all_are s grants (r ∷ rs) = both (record_trace s grants r) (records_trace s grants rs) (r ∷ []) rs (one_is s grants r) (all_are s grants rs)
 
-event_is : (w : WorldState) (e : Event) → Alike (event_marks w e) (event_records w e)
-unfolding event_marks
+event_is : (w : WorldState) (e : Event) → Alike (event_trace w e) (event_records w e)
+unfolding event_trace
 event_is w e = all_are w.machine.size w.grants (event_records w e)
 
-run_is : (w : WorldState) (es : List Event) → Alike (run_marks w es) (run.records w es)
-unfolding run_marks run.records
+run_is : (w : WorldState) (es : List Event) → Alike (run_trace w es) (run.records w es)
+unfolding run_trace run.records
 run_is w [] = nothing
-run_is w (e ∷ es) = both (event_marks w e) (run_marks (next w e) es) (event_records w e) (run.records (next w e) es) (event_is w e) (run_is (next w e) es)
+run_is w (e ∷ es) = both (event_trace w e) (run_trace (next w e) es) (event_records w e) (run.records (next w e) es) (event_is w e) (run_is (next w e) es)
 
 -- ---- the count, and the status
 
@@ -184,7 +184,7 @@ a_touch : (n : ℕ) (ended : Bool) → 1 ≤ n → status_of n ended ≡ 1
 a_touch n ended le = cond-true (nat_lt 0 n) 1 (if ended then 0 else 7) (lt-ltb 0 n le)
 
 -- by whether a record is a touch
-tells_by : (ms : List Mark) (rs : List Record) (n : ℕ) (ended t : Bool) → list_any is_touch rs ≡ t → Alike ms rs → n ≡ up_to_end (count_by is_touch rs)
+tells_by : (ms : List TraceItem) (rs : List Record) (n : ℕ) (ended t : Bool) → list_any is_touch rs ≡ t → Alike ms rs → n ≡ up_to_end (count_by is_touch rs)
     → ((status_of n ended ≡ 1) ↔ (list_any is_touch rs ≡ true)) × (status_of n ended ≡ 1 → Untouched ms → ⊥) × (status_of n ended ≢ 1 → Untouched ms)
 tells_by ms rs n ended true any alike e =
     let one : status_of n ended ≡ 1 = a_touch n ended (omega (arith, e, some_counted rs any)) in
@@ -196,5 +196,5 @@ tells_by ms rs n ended false any alike e =
 pub status_always : EachStatusTells
 unfolding status
 status_always sc es =
-    let all = tells_by (run_marks (start sc) es) (run.records (start sc) es) (run.after (start sc) es).touches (at_end (run.after (start sc) es)) (list_any is_touch (run.records (start sc) es)) refl (run_is (start sc) es) (counts_always sc es).touches in
+    let all = tells_by (run_trace (start sc) es) (run.records (start sc) es) (run.after (start sc) es).touches (at_end (run.after (start sc) es)) (list_any is_touch (run.records (start sc) es)) refl (run_is (start sc) es) (counts_always sc es).touches in
     record { line = all.0; touched = all.1; untouched = all.2 }

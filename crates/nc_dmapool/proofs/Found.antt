@@ -8,7 +8,7 @@ use Rattle.nc_plan.proofs.PlanLaws.{in_map, in_flat_map, in_range, range_of_in}
 use Rattle.nc_dmapool.specs.declared.spots.Spot.{Spot}
 use Rattle.nc_dmapool.specs.Layouts.{Layout, Cuts, stride, each, offset_of, place_count, places}
 use Rattle.nc_dmapool.specs.Pieces.{all_places, lowest_free, lowest_used}
-use Rattle.nc_dmapool.specs.Marks.{Marks, IsKept, IsSpot, HasNone, IsLowest, FindsUsed, used_set, shown, no_page, page_at, mark_at}
+use Rattle.nc_dmapool.specs.Marks.{Marks, ArePages, IsSpot, HasNone, IsLowest, FindsUsed, used_set, shown, no_page, page_at, mark_at}
 use Rattle.nc_dmapool.proofs.Among.{of_map, of_flat_map, in_at, at_in, in_filter, of_filter, lowest_some, lowest_no, items_in, in_items}
 use Rattle.nc_dmapool.proofs.Powers.{cuts}
 use Rattle.nc_dmapool.proofs.Cutting.{off_of_pair}
@@ -48,7 +48,7 @@ number_place l is page n x lt e =
       is = omega (arith, e);
     }
 
-pub spot_place : (l : Layout) (ps : List Marks) (i n x : ℕ) → IsKept l ps → IsSpot l ps i n x → In x (all_places l (map (λ (p : Marks). p.at) ps))
+pub spot_place : (l : Layout) (ps : List Marks) (i n x : ℕ) → ArePages l ps → IsSpot l ps i n x → In x (all_places l (map (λ (p : Marks). p.at) ps))
 spot_place l ps i n x is s =
     let p : Marks = page_at ps i in
     in_flat_map (places l) p.at x (map (λ (p : Marks). p.at) ps) (in_map (λ (p : Marks). p.at) p ps (in_at ps i no_page s.page))
@@ -59,7 +59,7 @@ pub record IsThere (l : Layout) (ps : List Marks) (x : ℕ) : Type 0 where
   pub number : ℕ
   pub spot : IsSpot l ps page number x
 
-pub place_spot : (l : Layout) (ps : List Marks) (x : ℕ) → IsKept l ps → In x (all_places l (map (λ (p : Marks). p.at) ps)) → IsThere l ps x
+pub place_spot : (l : Layout) (ps : List Marks) (x : ℕ) → ArePages l ps → In x (all_places l (map (λ (p : Marks). p.at) ps)) → IsThere l ps x
 place_spot l ps x is k =
     let a = of_flat_map (places l) x (map (λ (p : Marks). p.at) ps) k in
     let b = of_map (λ (p : Marks). p.at) a.0 ps a.1 in
@@ -87,7 +87,7 @@ to_not : (b : Bool) → b ≡ false → not b ≡ true
 to_not true e = absurd cc
 to_not false e = refl
 
-pub free_spot : (l : Layout) (ps : List Marks) (i n x : ℕ) → IsKept l ps → IsSpot l ps i n x → mark_at ps i n ≡ false → fin.contains (used_set l ps) x ≡ false
+pub free_spot : (l : Layout) (ps : List Marks) (i n x : ℕ) → ArePages l ps → IsSpot l ps i n x → mark_at ps i n ≡ false → fin.contains (used_set l ps) x ≡ false
 free_spot l ps i n x is s m =
     elim (bool_cases (fin.contains (used_set l ps) x)) [
       | inl used ↦ (
@@ -105,7 +105,7 @@ unused_spot l ps i n x s off =
       | inr is ↦ is
     ]
 
-pub free_found : (l : Layout) (ps : List Marks) (s : Spot) → IsKept l ps → IsLowest l false ps (length ps) s → lowest_free (shown l ps) ≡ Some s.at
+pub free_found : (l : Layout) (ps : List Marks) (s : Spot) → ArePages l ps → IsLowest l false ps (length ps) s → lowest_free (shown l ps) ≡ Some s.at
 free_found l ps s is f =
     let all = all_places l (map (λ (p : Marks). p.at) ps) in
     let test = λ (x : ℕ). not (fin.contains (used_set l ps) x) in
@@ -117,7 +117,7 @@ free_found l ps s is f =
     let m = unused_spot l ps t.page t.number y t.spot (not_true (fin.contains (used_set l ps) y) a.1) in
     omega (arith, f.lowest t.page t.number t.spot.page t.spot.there m, t.spot.is))
 
-pub free_none : (l : Layout) (ps : List Marks) → IsKept l ps → HasNone false ps (length ps) → lowest_free (shown l ps) ≡ None
+pub free_none : (l : Layout) (ps : List Marks) → ArePages l ps → HasNone false ps (length ps) → lowest_free (shown l ps) ≡ None
 free_none l ps is f =
     let all = all_places l (map (λ (p : Marks). p.at) ps) in
     let test = λ (x : ℕ). not (fin.contains (used_set l ps) x) in

@@ -9,7 +9,7 @@ use Rattle.nc_num.specs.declared.places.Span.{Span}
 use Rattle.nc_coherent.specs.Pages.{PageMap, lowest_span, with_pages}
 use Rattle.nc_dmapool.specs.Layouts.{Layout, Cuts, stride, each, offset_of, place_count}
 use Rattle.nc_dmapool.specs.Pieces.{Pieces, HasTaken, IsTaken, given, given_at, given_on, lowest_free, with_piece, with_page, page_span}
-use Rattle.nc_dmapool.specs.Marks.{Marks, IsPage, IsKept, IsSpot, AreTaken, used_set, shown, fresh_page, no_page, page_at, mark_at}
+use Rattle.nc_dmapool.specs.Marks.{Marks, IsPage, ArePages, IsSpot, AreTaken, used_set, shown, fresh_page, no_page, page_at, mark_at}
 use Rattle.nc_dmapool.proofs.Powers.{cuts}
 use Rattle.nc_dmapool.proofs.Offsets.{count_some, offset_within}
 use Rattle.nc_dmapool.proofs.Shown.{IsUsed, used_is, is_used, bool_cases, sets_same, of_insert, in_insert}
@@ -34,7 +34,7 @@ one_more ps q = length-append ps (q ∷ [])
 old_or_new : (ps : List Marks) (q : Marks) (i : ℕ) → i < length (ps ++ q ∷ []) → (i < length ps) ⊎ (i ≡ length ps)
 old_or_new ps q i lt = elim (cases_lt i (length ps)) [ inl old ↦ inl old | inr ge ↦ inr (omega (arith, one_more ps q, lt)) ]
 
-page_push : (l : Layout) (ps : List Marks) (q : Marks) → IsKept l ps → IsPage l q → (i : ℕ) → i < length (ps ++ q ∷ []) → IsPage l (page_at (ps ++ q ∷ []) i)
+page_push : (l : Layout) (ps : List Marks) (q : Marks) → ArePages l ps → IsPage l q → (i : ℕ) → i < length (ps ++ q ∷ []) → IsPage l (page_at (ps ++ q ∷ []) i)
 page_push l ps q is page i lt =
     elim (old_or_new ps q i lt) [
       | inl old ↦ subst (IsPage l) (sym (old_page ps q i old)) (is.each i old)
@@ -56,7 +56,7 @@ apart_push ps q apart off i j lt lt' e =
       ]
     ]
 
-pub kept_push : (l : Layout) (ps : List Marks) (q : Marks) → IsKept l ps → IsPage l q → ((i : ℕ) → i < length ps → (page_at ps i).at ≢ q.at) → IsKept l (ps ++ q ∷ [])
+pub kept_push : (l : Layout) (ps : List Marks) (q : Marks) → ArePages l ps → IsPage l q → ((i : ℕ) → i < length ps → (page_at ps i).at ≢ q.at) → ArePages l (ps ++ q ∷ [])
 kept_push l ps q is page off = record { layout = is.layout; each = page_push l ps q is page; apart = apart_push ps q is.apart off }
 
 pub fresh_is_page : (l : Layout) (at : ℕ) → at % 4096 ≡ 0 → at + 4096 ≤ 1048576 → IsPage l (fresh_page l at)
@@ -154,7 +154,7 @@ given_none p map e = ap (given_at p map) e
 
 -- the pages taken stand by number in both
 
-pub taken_pages : (l : Layout) (ps : List Marks) (map' : PageMap) → HasTaken map' (shown l ps) → IsKept l ps → AreTaken map' ps
+pub taken_pages : (l : Layout) (ps : List Marks) (map' : PageMap) → HasTaken map' (shown l ps) → ArePages l ps → AreTaken map' ps
 taken_pages l ps map' has is =
     record {
       taken = λ i lt. subst (IsTaken map') (get_or-map (λ (p : Marks). p.at) ps i no_page 0 lt) (has.taken i (omega (arith, length-map ps (λ (p : Marks). p.at), lt)));
@@ -194,14 +194,14 @@ taken_same m p q e has =
 
 -- no piece in use starts at a page that is none of those taken
 
-on_none : (l : Layout) (ps : List Marks) (at : ℕ) → IsKept l ps → at % 4096 ≡ 0 → ((i : ℕ) → i < length ps → (page_at ps i).at ≢ at) → IsUsed l ps at → ⊥
+on_none : (l : Layout) (ps : List Marks) (at : ℕ) → ArePages l ps → at % 4096 ≡ 0 → ((i : ℕ) → i < length ps → (page_at ps i).at ≢ at) → IsUsed l ps at → ⊥
 on_none l ps at is whole off u =
     let page = is.each u.page u.spot.page in
     let n : u.number < place_count l = omega (arith, u.spot.there, page.marks) in
     let below : offset_of l u.number < 4096 = offset_within l (cuts l is.layout) u.number n in
     off u.page u.spot.page (omega (arith, u.spot.is, below, page.whole, whole))
 
-pub page_unused : (l : Layout) (ps : List Marks) (m : PageMap) (at : ℕ) → IsKept l ps → at % 4096 ≡ 0 → AreTaken m ps → IsPageOf m true at → fin.contains (used_set l ps) at ≡ false
+pub page_unused : (l : Layout) (ps : List Marks) (m : PageMap) (at : ℕ) → ArePages l ps → at % 4096 ≡ 0 → AreTaken m ps → IsPageOf m true at → fin.contains (used_set l ps) at ≡ false
 page_unused l ps m at is whole are page =
     elim (bool_cases (fin.contains (used_set l ps) at)) [
       | inl used ↦ absurd (on_none l ps at is whole (push_apart ps m at are page) (used_is l ps at used))

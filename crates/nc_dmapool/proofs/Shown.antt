@@ -13,7 +13,7 @@ use Rattle.nc_plan.specs.Plans.{In}
 use Rattle.nc_plan.proofs.PlanLaws.{in_flat_map, in_range, range_of_in}
 use Rattle.nc_dmapool.specs.Layouts.{Layout, offset_of}
 use Rattle.nc_dmapool.specs.Pieces.{with_piece, without_piece, empty_pool}
-use Rattle.nc_dmapool.specs.Marks.{Marks, IsKept, IsSpot, used_of, used_set, shown, with_mark, no_page, page_at, mark_at}
+use Rattle.nc_dmapool.specs.Marks.{Marks, ArePages, IsSpot, used_of, used_set, shown, with_mark, no_page, page_at, mark_at}
 use Rattle.nc_dmapool.proofs.Among.{of_flat_map, in_at, at_in, set_in, in_set}
 use Rattle.nc_dmapool.proofs.SameSpot.{same_spot}
 
@@ -157,7 +157,7 @@ marked_there ps i n b j m lt ne =
       | inr off ↦ ap (λ (p : Marks). get_or p.marks m true) (other_page ps i n b j off)
     ]
 
-pub kept_mark : (l : Layout) (ps : List Marks) (i n : ℕ) (b : Bool) → i < length ps → IsKept l ps → IsKept l (with_mark ps i n b)
+pub kept_mark : (l : Layout) (ps : List Marks) (i n : ℕ) (b : Bool) → i < length ps → ArePages l ps → ArePages l (with_mark ps i n b)
 kept_mark l ps i n b lt is =
     record {
       layout = is.layout;
@@ -221,7 +221,7 @@ used_more l ps i n x s =
           )
     ])
 
-pub used_less : (l : Layout) (ps : List Marks) (i n x : ℕ) → IsKept l ps → IsSpot l ps i n x → used_set l (with_mark ps i n false) ≡ fin.remove (used_set l ps) x
+pub used_less : (l : Layout) (ps : List Marks) (i n x : ℕ) → ArePages l ps → IsSpot l ps i n x → used_set l (with_mark ps i n false) ≡ fin.remove (used_set l ps) x
 used_less l ps i n x is s =
     sets_same (used_set l (with_mark ps i n false)) (fin.remove (used_set l ps) x)
     (λ y e. let u = used_is l (with_mark ps i n false) y e in
@@ -254,7 +254,7 @@ ats_mark ps i n b = ats_set ps i (record (page_at ps i) { marks = set (page_at p
 pub shown_more : (l : Layout) (ps : List Marks) (i n x : ℕ) → IsSpot l ps i n x → shown l (with_mark ps i n true) ≡ with_piece (shown l ps) x
 shown_more l ps i n x s = λ k. record { layout = l; pages = ats_mark ps i n true k; used = used_more l ps i n x s k }
 
-pub shown_less : (l : Layout) (ps : List Marks) (i n x : ℕ) → IsKept l ps → IsSpot l ps i n x → shown l (with_mark ps i n false) ≡ without_piece (shown l ps) x
+pub shown_less : (l : Layout) (ps : List Marks) (i n x : ℕ) → ArePages l ps → IsSpot l ps i n x → shown l (with_mark ps i n false) ≡ without_piece (shown l ps) x
 shown_less l ps i n x is s = λ k. record { layout = l; pages = ats_mark ps i n false k; used = used_less l ps i n x is s k }
 
 pub shown_none : (l : Layout) → shown l [] ≡ empty_pool l

@@ -70,7 +70,7 @@ pub record IsPage (l : Layout) (p : Marks) : Type 0 where
   pub marks : length p.marks ≡ place_count l
 
 -- what holds of the pages of a pool
-pub record IsKept (l : Layout) (ps : List Marks) : Type 0 where
+pub record ArePages (l : Layout) (ps : List Marks) : Type 0 where
   pub layout : IsLayout l
   pub each : (i : ℕ) → i < length ps → IsPage l (page_at ps i)
   pub apart : (i j : ℕ) → i < length ps → j < length ps → (page_at ps i).at ≡ (page_at ps j).at → i ≡ j

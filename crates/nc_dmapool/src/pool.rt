@@ -51,11 +51,11 @@ impl Model for DmaPool {
 
     ghost coded = { pieces_code };
 
-    ghost use Rattle.nc_dmapool.specs.Marks.{shown, IsKept};
+    ghost use Rattle.nc_dmapool.specs.Marks.{shown, ArePages};
 
     ghost view = { λ p. shown p.layout p.pages.items };
 
-    ghost invariant = { λ p. IsKept p.layout p.pages.items };
+    ghost invariant = { λ p. ArePages p.layout p.pages.items };
 }
 
 impl DmaPool {

@@ -2,7 +2,7 @@
 
 ghost use Rattle.std.specs.Prelude.{◌≡◌, ℕ, ◌+◌, ◌<◌, ◌≤◌, ◌⊎◌, true, length, List, slice_index_or, MatchOption};
 ghost use Rattle.nc_dmapool.specs.Layouts.{IsLayout, offset_of, place_count};
-ghost use Rattle.nc_dmapool.specs.Marks.{IsFirstMark, HasNoMark, IsPage, IsKept, IsSpot, Finds, FindsUsed, Lowers, is_on, page_at, with_mark};
+ghost use Rattle.nc_dmapool.specs.Marks.{IsFirstMark, HasNoMark, IsPage, ArePages, IsSpot, Finds, FindsUsed, Lowers, is_on, page_at, with_mark};
 
 use crate::layout::{Layout, PAGE};
 use crate::page::Page;
@@ -18,7 +18,7 @@ pub struct Spot {
 
 /// The lowest place that is in use, or not, as asked.
 pub fn lowest(layout: &Layout, pages: &[Page], used: bool) -> Option<Spot>
-    requires { IsKept layout.now pages.now }
+    requires { ArePages layout.now pages.now }
     ensures { Finds layout.now used pages.now (length pages.now) result }
 {
     let mut best = None;
@@ -61,7 +61,7 @@ fn first(page: &Page, used: bool) -> Option<usize>
 
 /// The spot at which a piece in use starts at a place of RAM, None where none does.
 pub fn used_at(layout: &Layout, pages: &[Page], at: u32) -> Option<Spot>
-    requires { IsKept layout.now pages.now }
+    requires { ArePages layout.now pages.now }
     ensures { FindsUsed layout.now pages.now at result }
 {
     let i = page_of(pages, at)?;

@@ -9,7 +9,7 @@ ghost use Rattle.nc_checks.specs.Safe.{IsSafe, IsShort};
 ghost use Rattle.nc_driver.specs.Kept.{state, IsReady, IsDue, IsFit, ArePlaced};
 ghost use Rattle.nc_driver.specs.Rests.{is_nil};
 
-use crate::coming::{next_rest, next_step};
+use crate::next_action::{next_rest, next_step};
 use nc_checks::{DriverConfig, has_start};
 use nc_num::{HartNo, NoMemory};
 use nc_rules::{Lot, Next, Phase, Refusal, Seen, Step};

@@ -14,8 +14,8 @@ ghost use Rattle.nc_moves.specs.MovesView.{moves_view};
 ghost use Rattle.nc_driver.specs.Kept.{state, IsReady, IsDue, IsFit, ArePlaced, AreNamed, IsSound};
 ghost use Rattle.nc_driver.specs.Rests.{made_first, made_last};
 
-use crate::coming::{busy, first_turn, is_more, kept, last_turn};
 use crate::course::Course;
+use crate::next_action::{busy, first_turn, is_more, kept, last_turn};
 use nc_lots::turn;
 use nc_moves::Moves;
 use nc_num::{Label, NoMemory};

@@ -6,10 +6,10 @@
 //! The world stands above: it asks what comes next, has the machine do it, and makes the moves.
 #![tactic(auto)]
 
-mod coming;
 mod course;
 mod driver;
 mod going;
+mod next_action;
 mod starting;
 
 pub use driver::Driver;

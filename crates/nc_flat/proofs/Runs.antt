@@ -9,7 +9,7 @@ use Rattle.nc_num.specs.Memory.{byte}
 use Rattle.nc_num.specs.declared.names.MapId.{MapId}
 use Rattle.nc_queue.specs.Rules.{gives}
 use Rattle.nc_hart.specs.HartState.{HartState}
-use Rattle.nc_model.specs.Flat.{Mark, Did, Touched, Latest, Untouched, flat, deeds}
+use Rattle.nc_model.specs.Flat.{TraceItem, Did, Touched, Latest, Untouched, flat, deeds}
 use Rattle.nc_model.specs.Kept.{is_kept}
 use Rattle.nc_model.proofs.FlatLaws.{in_order}
 use Rattle.nc_model.proofs.LatestLaws.{Latest-append, deeds-append}
@@ -20,7 +20,7 @@ use Rattle.nc_scen.specs.Events.{IsThere}
 use Rattle.nc_scen.specs.declared.events.Event.{Event}
 use Rattle.nc_scen.specs.declared.scenario.Scenario.{Scenario}
 use Rattle.nc_rules.specs.Events.{enabled}
-use Rattle.nc_rules.specs.Flat.{event_marks, run_marks, is_given, flat_after, AreThere, IsLatest, IsKept, IsKeptAfter}
+use Rattle.nc_rules.specs.Flat.{event_trace, run_trace, is_given, flat_after, AreThere, IsLatest, IsKept, IsKeptAfter}
 use Rattle.nc_rules.specs.Machine.{MachineState, no_hart}
 use Rattle.nc_rules.specs.Next.{next, event_records}
 use Rattle.nc_rules.specs.Run.{after}
@@ -39,10 +39,10 @@ use Rattle.nc_flatness.proofs.worlds.Worlds.{worlds_stay}
 -- ---- one event
 
 -- one that may not happen has no marks, and changes nothing
-off_marks : (w : WorldState) (e : Event) (t : Bool) → enabled w e ≡ t → t ≡ false → event_marks w e ≡ []
-unfolding event_marks event_records
-off_marks w e true on off = absurd (false≢true (sym off))
-off_marks w e false on off = rw on refl
+off_trace : (w : WorldState) (e : Event) (t : Bool) → enabled w e ≡ t → t ≡ false → event_trace w e ≡ []
+unfolding event_trace event_records
+off_trace w e true on off = absurd (false≢true (sym off))
+off_trace w e false on off = rw on refl
 
 off_next : (w : WorldState) (e : Event) → enabled w e ≡ false → next w e ≡ w
 unfolding next
@@ -50,8 +50,8 @@ off_next w e off = rw off refl
 
 off_goes : (sc : Scenario) (f : List ℕ) (w : WorldState) (e : Event) → enabled w e ≡ false → Flatness sc f w → Goes sc f w e
 off_goes sc f w e off flat =
-    inr (subst (λ (v : WorldState). GoesTo sc f (event_marks w e) v) (sym (off_next w e off))
-    (subst (λ (ms : List Mark). GoesTo sc f ms w) (sym (off_marks w e (enabled w e) refl off)) (record { untouched = tt; latest = tt; bytes = flat.bytes })))
+    inr (subst (λ (v : WorldState). GoesTo sc f (event_trace w e) v) (sym (off_next w e off))
+    (subst (λ (ms : List TraceItem). GoesTo sc f ms w) (sym (off_trace w e (enabled w e) refl off)) (record { untouched = tt; latest = tt; bytes = flat.bytes })))
 
 event_if : (sc : Scenario) (f : List ℕ) (w : WorldState) (e : Event) (t : Bool) → EachGoes → enabled w e ≡ t → IsAccepted sc → Flatness sc f w → IsThere (length sc.harts) sc.block_size sc.ram e → Goes sc f w e
 event_if sc f w e true law may a flat there = law sc f w e (record { accepted = a; flat = flat; there = there; may = may })
@@ -60,48 +60,48 @@ event_if sc f w e false law may a flat there = off_goes sc f w e may flat
 pub event_goes : (sc : Scenario) (f : List ℕ) (w : WorldState) (e : Event) → EachGoes → IsAccepted sc → Flatness sc f w → IsThere (length sc.harts) sc.block_size sc.ram e → Goes sc f w e
 event_goes sc f w e law a flat there = event_if sc f w e (enabled w e) law refl a flat there
 
-flat_next : (sc : Scenario) (f : List ℕ) (w : WorldState) (e : Event) → Flatness sc f w → IsThere (length sc.harts) sc.block_size sc.ram e → GoesTo sc f (event_marks w e) (next w e) → Flatness sc (flat f (deeds (event_marks w e))) (next w e)
+flat_next : (sc : Scenario) (f : List ℕ) (w : WorldState) (e : Event) → Flatness sc f w → IsThere (length sc.harts) sc.block_size sc.ram e → GoesTo sc f (event_trace w e) (next w e) → Flatness sc (flat f (deeds (event_trace w e))) (next w e)
 flat_next sc f w e flat there goes = record { world = worlds_stay sc w e flat.world there; bytes = goes.bytes }
 
 -- ---- all of them
 
-touched_latest : (f : List ℕ) (ms ns : List Mark) → IsTouch ms → Latest f (ms ++ ns)
-touched_latest f ms ns touch = subst (λ (k : List Mark). Latest f (k ++ ns)) (sym touch.first) tt
+touched_latest : (f : List ℕ) (ms ns : List TraceItem) → IsTouch ms → Latest f (ms ++ ns)
+touched_latest f ms ns touch = subst (λ (k : List TraceItem). Latest f (k ++ ns)) (sym touch.first) tt
 
-touched_not : (ms ns : List Mark) → IsTouch ms → Untouched (ms ++ ns) → ⊥
-touched_not ms ns touch none = subst (λ (k : List Mark). Untouched (k ++ ns)) touch.first none
+touched_not : (ms ns : List TraceItem) → IsTouch ms → Untouched (ms ++ ns) → ⊥
+touched_not ms ns touch none = subst (λ (k : List TraceItem). Untouched (k ++ ns)) touch.first none
 
-untouched_rest : (ms ns : List Mark) → Untouched ms → Untouched (ms ++ ns) → Untouched ns
+untouched_rest : (ms ns : List TraceItem) → Untouched ms → Untouched (ms ++ ns) → Untouched ns
 untouched_rest [] ns u v = v
 untouched_rest (Did d ∷ ms) ns u v = untouched_rest ms ns u v
 untouched_rest (Touched ∷ ms) ns u v = absurd u
 
-pub latest_run : (sc : Scenario) (f : List ℕ) (w : WorldState) (es : List Event) → EachGoes → IsAccepted sc → Flatness sc f w → AreThere sc es → Latest f (run_marks w es)
-unfolding run_marks
+pub latest_run : (sc : Scenario) (f : List ℕ) (w : WorldState) (es : List Event) → EachGoes → IsAccepted sc → Flatness sc f w → AreThere sc es → Latest f (run_trace w es)
+unfolding run_trace
 latest_run sc f w [] law a now there = tt
 latest_run sc f w (e ∷ es) law a now there =
     let here = All-head (IsThere (length sc.harts) sc.block_size sc.ram) e es there in
     elim (event_goes sc f w e law a now here) [
-      | inl touch ↦ touched_latest f (event_marks w e) (run_marks (next w e) es) touch
+      | inl touch ↦ touched_latest f (event_trace w e) (run_trace (next w e) es) touch
       | inr goes ↦
-          Latest-append f (event_marks w e) (run_marks (next w e) es) goes.latest
-          (λ _. latest_run sc (flat f (deeds (event_marks w e))) (next w e) es law a (flat_next sc f w e now here goes) (All-tail (IsThere (length sc.harts) sc.block_size sc.ram) e es there))
+          Latest-append f (event_trace w e) (run_trace (next w e) es) goes.latest
+          (λ _. latest_run sc (flat f (deeds (event_trace w e))) (next w e) es law a (flat_next sc f w e now here goes) (All-tail (IsThere (length sc.harts) sc.block_size sc.ram) e es there))
     ]
 
-flat_on : (f : List ℕ) (ms ns : List Mark) → flat f (deeds (ms ++ ns)) ≡ flat (flat f (deeds ms)) (deeds ns)
+flat_on : (f : List ℕ) (ms ns : List TraceItem) → flat f (deeds (ms ++ ns)) ≡ flat (flat f (deeds ms)) (deeds ns)
 flat_on f ms ns = ap (flat f) (deeds-append ms ns) ∙ in_order f (deeds ms) (deeds ns)
 
-pub flat_run : (sc : Scenario) (f : List ℕ) (w : WorldState) (es : List Event) → EachGoes → IsAccepted sc → Flatness sc f w → AreThere sc es → Untouched (run_marks w es) → Flatness sc (flat f (deeds (run_marks w es))) (after w es)
-unfolding run_marks after
+pub flat_run : (sc : Scenario) (f : List ℕ) (w : WorldState) (es : List Event) → EachGoes → IsAccepted sc → Flatness sc f w → AreThere sc es → Untouched (run_trace w es) → Flatness sc (flat f (deeds (run_trace w es))) (after w es)
+unfolding run_trace after
 flat_run sc f w [] law a flat there none = flat
 flat_run sc f w (e ∷ es) law a now there none =
     let here = All-head (IsThere (length sc.harts) sc.block_size sc.ram) e es there in
     elim (event_goes sc f w e law a now here) [
-      | inl touch ↦ absurd (touched_not (event_marks w e) (run_marks (next w e) es) touch none)
+      | inl touch ↦ absurd (touched_not (event_trace w e) (run_trace (next w e) es) touch none)
       | inr goes ↦
-          subst (λ (k : List ℕ). Flatness sc k (after (next w e) es)) (sym (flat_on f (event_marks w e) (run_marks (next w e) es)))
-          (flat_run sc (flat f (deeds (event_marks w e))) (next w e) es law a (flat_next sc f w e now here goes) (All-tail (IsThere (length sc.harts) sc.block_size sc.ram) e es there)
-          (untouched_rest (event_marks w e) (run_marks (next w e) es) goes.untouched none))
+          subst (λ (k : List ℕ). Flatness sc k (after (next w e) es)) (sym (flat_on f (event_trace w e) (run_trace (next w e) es)))
+          (flat_run sc (flat f (deeds (event_trace w e))) (next w e) es law a (flat_next sc f w e now here goes) (All-tail (IsThere (length sc.harts) sc.block_size sc.ram) e es there)
+          (untouched_rest (event_trace w e) (run_trace (next w e) es) goes.untouched none))
     ]
 
 -- ---- where no queue has a byte
@@ -152,7 +152,7 @@ kept_by a (Returning n) v m x kept none row = absurd (false≢true kept)
 pub latest_of : EachGoes → (sc : Scenario) → IsAccepted sc → (es : List Event) → AreThere sc es → IsLatest sc es
 latest_of law sc a es there = latest_run sc (memory sc) (start sc) es law a (start_flat sc a) there
 
-pub flat_of : EachGoes → (sc : Scenario) (es : List Event) → IsAccepted sc → AreThere sc es → Untouched (run_marks (start sc) es) → Flatness sc (flat (memory sc) (deeds (run_marks (start sc) es))) (after (start sc) es)
+pub flat_of : EachGoes → (sc : Scenario) (es : List Event) → IsAccepted sc → AreThere sc es → Untouched (run_trace (start sc) es) → Flatness sc (flat (memory sc) (deeds (run_trace (start sc) es))) (after (start sc) es)
 flat_of law sc es a there none = flat_run sc (memory sc) (start sc) es law a (start_flat sc a) there none
 
 kept_after : EachGoes → (sc : Scenario) → IsAccepted sc → (es : List Event) → AreThere sc es → IsKeptAfter sc es

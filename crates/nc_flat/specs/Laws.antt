@@ -7,7 +7,7 @@ use Rattle.nc_scen.specs.Events.{IsThere}
 use Rattle.nc_scen.specs.Regions.{pool_of}
 use Rattle.nc_scen.specs.declared.events.Event.{Event}
 use Rattle.nc_scen.specs.declared.scenario.Scenario.{Scenario}
-use Rattle.nc_rules.specs.Flat.{run_marks, AreThere, IsLatest, IsKept}
+use Rattle.nc_rules.specs.Flat.{run_trace, AreThere, IsLatest, IsKept}
 use Rattle.nc_rules.specs.Run.{after}
 use Rattle.nc_rules.specs.Start.{memory}
 use Rattle.nc_rules.specs.EventTouches.{owner_of}
@@ -34,13 +34,13 @@ EachEventIsFlat =
 -- so they stand after every run without a touch
 abbrev pub EachRunIsFlat : Type 0
 EachRunIsFlat =
-    (sc : Scenario) (es : List Event) → IsAccepted sc → AreThere sc es → Untouched (run_marks (start sc) es)
-    → Flatness sc (flat (memory sc) (deeds (run_marks (start sc) es))) (after (start sc) es)
+    (sc : Scenario) (es : List Event) → IsAccepted sc → AreThere sc es → Untouched (run_trace (start sc) es)
+    → Flatness sc (flat (memory sc) (deeds (run_trace (start sc) es))) (after (start sc) es)
 
 -- after every run without a touch no cache has a copy of a place of the coherent pool, but while the area that has it is
 -- being allocated
 abbrev pub EachPoolIsUncached : Type 0
 EachPoolIsUncached =
-    (sc : Scenario) (es : List Event) → IsAccepted sc → AreThere sc es → Untouched (run_marks (start sc) es)
+    (sc : Scenario) (es : List Event) → IsAccepted sc → AreThere sc es → Untouched (run_trace (start sc) es)
     → (x : ℕ) → covers (pool_of sc) x ≡ true
     → NotHeld (after (start sc) es).machine x ⊎ MayBeHeld (book_of (after (start sc) es)) (owner_of (after (start sc) es) x)

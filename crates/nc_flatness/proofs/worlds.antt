@@ -1,4 +1,4 @@
-pub mod Marks
+pub mod Trace
 pub mod FlatBytes
 pub mod Outcomes
 pub mod Worlds

@@ -7,14 +7,14 @@ use Rattle.nc_plan.specs.declared.ops.HartOp.{HartOp}
 use Rattle.nc_plan.specs.declared.ops.HartOp.TheVariants as hart_ops
 use Rattle.nc_plan.specs.declared.ops.IoTarget.{IoTarget}
 use Rattle.nc_plan.specs.declared.ops.IoTarget.TheVariants as io
-use Rattle.nc_model.specs.Flat.{Mark, Touched, Latest, Untouched, flat, deeds}
+use Rattle.nc_model.specs.Flat.{TraceItem, Touched, Latest, Untouched, flat, deeds}
 use Rattle.nc_scen.specs.Accepted.{IsAccepted}
 use Rattle.nc_scen.specs.Events.{IsThere}
 use Rattle.nc_scen.specs.declared.events.Event.{Event}
 use Rattle.nc_scen.specs.declared.events.Event.TheVariants as events
 use Rattle.nc_scen.specs.declared.scenario.Scenario.{Scenario}
 use Rattle.nc_rules.specs.Events.{enabled}
-use Rattle.nc_rules.specs.Flat.{event_marks}
+use Rattle.nc_rules.specs.Flat.{event_trace}
 use Rattle.nc_rules.specs.Next.{next}
 use Rattle.nc_rules.specs.Start.{memory}
 use Rattle.nc_ops.specs.declared.ops.Op.{Op}
@@ -28,17 +28,17 @@ use Rattle.nc_flatness.specs.Flatness.{IsWorldOf, BytesStand, Flatness}
 use Rattle.nc_flatness.specs.Lending.{is_lending}
 
 -- a touch comes before all else
-pub record IsTouch (ms : List Mark) : Type 0 where
-  pub rest : List Mark
+pub record IsTouch (ms : List TraceItem) : Type 0 where
+  pub rest : List TraceItem
   pub first : ms ≡ Touched ∷ rest
 
 -- no touch: the reads show flat memory, and its bytes, with the writes made, stand in the world behind them
-pub record GoesTo (sc : Scenario) (f : List ℕ) (ms : List Mark) (w : WorldState) : Type 0 where
+pub record GoesTo (sc : Scenario) (f : List ℕ) (ms : List TraceItem) (w : WorldState) : Type 0 where
   pub untouched : Untouched ms
   pub latest : Latest f ms
   pub bytes : BytesStand sc (flat f (deeds ms)) w
 
-abbrev pub EventGoes : Scenario → List ℕ → List Mark → WorldState → Type 0
+abbrev pub EventGoes : Scenario → List ℕ → List TraceItem → WorldState → Type 0
 EventGoes sc f ms w = IsTouch ms ⊎ GoesTo sc f ms w
 
 -- an event that may happen, in a world with flat memory f of an accepted scenario
@@ -50,7 +50,7 @@ pub record IsNow (sc : Scenario) (f : List ℕ) (w : WorldState) (e : Event) : T
 
 -- it begins with a touch, or flat memory's bytes stand behind it
 abbrev pub Goes : Scenario → List ℕ → WorldState → Event → Type 0
-Goes sc f w e = EventGoes sc f (event_marks w e) (next w e)
+Goes sc f w e = EventGoes sc f (event_trace w e) (next w e)
 
 -- ---- the laws
 

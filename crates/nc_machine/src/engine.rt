@@ -4,8 +4,8 @@ ghost use Rattle.std.specs.Prelude.{◌≡◌, ◌<◌, None, false, length, sli
 ghost use Rattle.nc_pdma_regs.specs.Control.{number_of};
 ghost use Rattle.nc_pdma_regs.specs.Laws.{claimed};
 ghost use Rattle.nc_pdma.specs.Channel.{IsChannel, new_channel, channel_write};
-ghost use Rattle.nc_pdma.specs.Steps.{read_told, read_next, write_told, write_next, ram_after};
-ghost use Rattle.nc_rules.specs.Calls.{granted_to, is_claimed};
+ghost use Rattle.nc_pdma.specs.Steps.{read_step, read_next, write_step, write_next, ram_after};
+ghost use Rattle.nc_rules.specs.Calls.{grantee_after, is_claimed};
 
 use nc_mem::Ram;
 use nc_num::{ChanNo, HartNo};
@@ -45,8 +45,8 @@ fn write(channels: &mut Vec<Channel>, c: ChanNo, off: u16, width: u8, value: u64
 }
 
 /// The hart to which a channel is granted after an access of hart h, by the claim bit before and after.
-fn granted_to(old: Option<HartNo>, was: bool, is: bool, h: HartNo) -> Option<HartNo>
-    ensures { result ≡ granted_to old was is h.0 }
+fn grantee_after(old: Option<HartNo>, was: bool, is: bool, h: HartNo) -> Option<HartNo>
+    ensures { result ≡ grantee_after old was is h.0 }
 {
     match (was, is) {
         (_, false) => None,
@@ -69,14 +69,14 @@ pub(crate) fn store(
     requires channel { c.0 < length channels.old.items }
     requires grant { c.0 < length grantees.old }
     ensures channels { channels.new.items ≡ slice_set channels.old.items c.0 (channel_write (slice_index_or channels.old.items c.0 new_channel) off width value) }
-    ensures grantees { grantees.new ≡ slice_set grantees.old c.0 (granted_to (slice_index_or grantees.old c.0 None) (is_claimed (slice_index_or channels.old.items c.0 new_channel))
+    ensures grantees { grantees.new ≡ slice_set grantees.old c.0 (grantee_after (slice_index_or grantees.old c.0 None) (is_claimed (slice_index_or channels.old.items c.0 new_channel))
         (is_claimed (channel_write (slice_index_or channels.old.items c.0 new_channel) off width value)) h.0) }
 {
     let chan = usize::from(c.0);
     let was = is_claimed(&channels[chan]);
     write(channels, c, off, width, value);
     let is = is_claimed(&channels[chan]);
-    grantees[chan] = granted_to(grantees[chan], was, is, h);
+    grantees[chan] = grantee_after(grantees[chan], was, is, h);
 }
 
 /// The claim of channel c, whose claim bit is clear: a write to Control of its own value with the bit set.
@@ -96,8 +96,8 @@ pub(crate) fn claim(channels: &mut Vec<Channel>, c: ChanNo)
 /// A read of channel c.
 pub(crate) fn read_step(channels: &mut Vec<Channel>, c: ChanNo, ram: &Ram) -> ChanStep
     requires { c.0 < length channels.old.items }
-    ensures told { result ≡ read_told (slice_index_or channels.old.items c.0 new_channel) ram.now }
-    ensures state { channels.new.items ≡ slice_set channels.old.items c.0 (read_next (slice_index_or channels.old.items c.0 new_channel) (read_told (slice_index_or channels.old.items c.0 new_channel) ram.now)) }
+    ensures step { result ≡ read_step (slice_index_or channels.old.items c.0 new_channel) ram.now }
+    ensures state { channels.new.items ≡ slice_set channels.old.items c.0 (read_next (slice_index_or channels.old.items c.0 new_channel) (read_step (slice_index_or channels.old.items c.0 new_channel) ram.now)) }
 {
     let channel = &mut channels[usize::from(c.0)];
     channel.read_step(ram)
@@ -106,9 +106,9 @@ pub(crate) fn read_step(channels: &mut Vec<Channel>, c: ChanNo, ram: &Ram) -> Ch
 /// A write of channel c.
 pub(crate) fn write_step(channels: &mut Vec<Channel>, c: ChanNo, ram: &mut Ram) -> ChanStep
     requires { c.0 < length channels.old.items }
-    ensures told { result ≡ write_told (slice_index_or channels.old.items c.0 new_channel) (length ram.old) }
-    ensures state { channels.new.items ≡ slice_set channels.old.items c.0 (write_next (slice_index_or channels.old.items c.0 new_channel) (write_told (slice_index_or channels.old.items c.0 new_channel) (length ram.old))) }
-    ensures memory { ram.new ≡ ram_after ram.old (write_told (slice_index_or channels.old.items c.0 new_channel) (length ram.old)) }
+    ensures step { result ≡ write_step (slice_index_or channels.old.items c.0 new_channel) (length ram.old) }
+    ensures state { channels.new.items ≡ slice_set channels.old.items c.0 (write_next (slice_index_or channels.old.items c.0 new_channel) (write_step (slice_index_or channels.old.items c.0 new_channel) (length ram.old))) }
+    ensures memory { ram.new ≡ ram_after ram.old (write_step (slice_index_or channels.old.items c.0 new_channel) (length ram.old)) }
     ensures size { length ram.new ≡ length ram.old }
 {
     let channel = &mut channels[usize::from(c.0)];

@@ -196,7 +196,7 @@ impl Machine {
     pub fn chan_read(&mut self, c: ChanNo) -> ChanStep
         requires { c.0 < 4 }
         ensures state { self.new.machine ≡ chan_read_next self.old.machine c.0 }
-        ensures told { result ≡ chan_read_step self.old.machine c.0 }
+        ensures step { result ≡ chan_read_step self.old.machine c.0 }
         ensures spare { self.old.spare ≤ self.new.spare }
     {
         engine::read_step(&mut self.channels, c, &self.ram)
@@ -207,7 +207,7 @@ impl Machine {
     pub fn chan_write(&mut self, c: ChanNo) -> ChanStep
         requires { c.0 < 4 }
         ensures state { self.new.machine ≡ chan_write_next self.old.machine c.0 }
-        ensures told { result ≡ chan_write_step self.old.machine c.0 }
+        ensures step { result ≡ chan_write_step self.old.machine c.0 }
         ensures spare { self.old.spare ≤ self.new.spare }
     {
         engine::write_step(&mut self.channels, c, &mut self.ram)

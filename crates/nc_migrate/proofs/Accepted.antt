@@ -15,7 +15,7 @@ use Rattle.nc_values.specs.Json.{items_len}
 use Rattle.nc_values.specs.Outcomes.{◌>>=◌, placed, shaped, each, check_each}
 use Rattle.nc_values.specs.Paths.{under, at_position}
 use Rattle.nc_values.specs.Values.{number_of, text_of, list_of, truth_of, mode_of, mode_named, fences_of, fences_named, register_of, word_of, is_word, limited, most, below, sized, number_to, number_under, sized_of, is_size, is_ram, got, field, number_at, number_to_at, list_at}
-use Rattle.nc_ops.specs.declared.arguments.Room.{Room}
+use Rattle.nc_ops.specs.declared.arguments.Counts.{Counts}
 use Rattle.nc_ops.specs.Operations.{op_of}
 use Rattle.nc_scen.specs.declared.keys.Keys.TheVariants as keys
 use Rattle.nc_scen.specs.declared.format.Format.{Format}
@@ -81,7 +81,7 @@ key_plain d k key p e = subst (PlainAt d) (sym ((bytes_decides k key).0 e)) p
 
 -- ---- a hart
 
-hart_plain : (room : Room) (path : List ℕ) (d : Data) (h : HartSpec) → IsRead d → hart_of room path d ≡ Ok h → IsPlain d
+hart_plain : (room : Counts) (path : List ℕ) (d : Data) (h : HartSpec) → IsRead d → hart_of room path d ≡ Ok h → IsPlain d
 unfolding hart_of settings_of PlainAt
 hart_plain room path d h is e =
     ok_then (IsPlain d) (settings_of path d) _ h e (λ s es e.

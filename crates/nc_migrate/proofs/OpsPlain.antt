@@ -8,7 +8,7 @@ use Rattle.serde_json.specs.Data.{unsigned, negative, float, Data, null, boolean
 use Rattle.nc_values.specs.declared.wrong.Wrong.{Wrong}
 use Rattle.nc_values.specs.Outcomes.{◌>>=◌, shaped, check_each}
 use Rattle.nc_values.specs.Values.{number_of, text_of, list_of, cbo_of, cbo_named}
-use Rattle.nc_ops.specs.declared.arguments.Room.{Room}
+use Rattle.nc_ops.specs.declared.arguments.Counts.{Counts}
 use Rattle.nc_ops.specs.declared.ops.Op.{Op}
 use Rattle.nc_ops.specs.declared.texts.BusText.{BusText}
 use Rattle.nc_ops.specs.declared.texts.SpotText.{SpotText}
@@ -77,17 +77,17 @@ checks_plain (item d ds) i x is e =
 
 -- ---- operations
 
-ld_of_plain : (room : Room) (a b c : Data) (o : Op) → AreRead (item a (item b (item c no_items))) → ld_of room a b c ≡ Ok o → ArePlain (item a (item b (item c no_items)))
+ld_of_plain : (room : Counts) (a b c : Data) (o : Op) → AreRead (item a (item b (item c no_items))) → ld_of room a b c ≡ Ok o → ArePlain (item a (item b (item c no_items)))
 unfolding ld_of ArePlain AreRead
 ld_of_plain room a b c o is h =
     ok_then (ArePlain (item a (item b (item c no_items)))) (spot_of a) _ o h (λ v0 e0 h. ok_then (ArePlain (item a (item b (item c no_items)))) (number_of b) _ o h (λ v1 e1 h. ok_then (ArePlain (item a (item b (item c no_items)))) (number_of c) _ o h (λ v2 e2 h. (spot_plain a v0 e0, (number_plain b v1 is.1.0 e1, (number_plain c v2 is.1.1.0 e2, tt))))))
 
-st_of_plain : (room : Room) (a b c : Data) (o : Op) → AreRead (item a (item b (item c no_items))) → st_of room a b c ≡ Ok o → ArePlain (item a (item b (item c no_items)))
+st_of_plain : (room : Counts) (a b c : Data) (o : Op) → AreRead (item a (item b (item c no_items))) → st_of room a b c ≡ Ok o → ArePlain (item a (item b (item c no_items)))
 unfolding st_of ArePlain AreRead
 st_of_plain room a b c o is h =
     ok_then (ArePlain (item a (item b (item c no_items)))) (spot_of a) _ o h (λ v0 e0 h. ok_then (ArePlain (item a (item b (item c no_items)))) (number_of b) _ o h (λ v1 e1 h. ok_then (ArePlain (item a (item b (item c no_items)))) (hex_of c) _ o h (λ v2 e2 h. (spot_plain a v0 e0, (number_plain b v1 is.1.0 e1, (hex_plain c v2 e2, tt))))))
 
-cbo_op_plain : (room : Room) (a b c : Data) (o : Op) → AreRead (item a (item b (item c no_items))) → cbo_op room a b c ≡ Ok o → ArePlain (item a (item b (item c no_items)))
+cbo_op_plain : (room : Counts) (a b c : Data) (o : Op) → AreRead (item a (item b (item c no_items))) → cbo_op room a b c ≡ Ok o → ArePlain (item a (item b (item c no_items)))
 unfolding cbo_op ArePlain AreRead
 cbo_op_plain room a b c o is h =
     ok_then (ArePlain (item a (item b (item c no_items)))) (cbo_of a) _ o h (λ v0 e0 h. ok_then (ArePlain (item a (item b (item c no_items)))) (number_of b) _ o h (λ v1 e1 h. ok_then (ArePlain (item a (item b (item c no_items)))) (number_of c) _ o h (λ v2 e2 h. (cbo_plain a v0 e0, (number_plain b v1 is.1.0 e1, (number_plain c v2 is.1.1.0 e2, tt))))))
@@ -97,7 +97,7 @@ unfolding fence_of ArePlain AreRead
 fence_of_plain a b o is h =
     ok_then (ArePlain (item a (item b no_items))) (number_of a) _ o h (λ v0 e0 h. ok_then (ArePlain (item a (item b no_items))) (number_of b) _ o h (λ v1 e1 h. (number_plain a v0 is.0 e0, (number_plain b v1 is.1.0 e1, tt))))
 
-map_of_plain : (room : Room) (a b c d x y : Data) (o : Op) → AreRead (item a (item b (item c (item d (item x (item y no_items)))))) → map_of room a b c d x y ≡ Ok o → ArePlain (item a (item b (item c (item d (item x (item y no_items))))))
+map_of_plain : (room : Counts) (a b c d x y : Data) (o : Op) → AreRead (item a (item b (item c (item d (item x (item y no_items)))))) → map_of room a b c d x y ≡ Ok o → ArePlain (item a (item b (item c (item d (item x (item y no_items))))))
 unfolding map_of ArePlain AreRead
 map_of_plain room a b c d x y o is h =
     ok_then (ArePlain (item a (item b (item c (item d (item x (item y no_items))))))) (number_of a) _ o h (λ v0 e0 h. ok_then (ArePlain (item a (item b (item c (item d (item x (item y no_items))))))) (number_of b) _ o h (λ v1 e1 h. ok_then (ArePlain (item a (item b (item c (item d (item x (item y no_items))))))) (number_of c) _ o h (λ v2 e2 h. ok_then (ArePlain (item a (item b (item c (item d (item x (item y no_items))))))) (number_of d) _ o h (λ v3 e3 h. ok_then (ArePlain (item a (item b (item c (item d (item x (item y no_items))))))) (number_of x) _ o h (λ v4 e4 h. ok_then (ArePlain (item a (item b (item c (item d (item x (item y no_items))))))) (number_of y) _ o h (λ v5 e5 h. (number_plain a v0 is.0 e0, (number_plain b v1 is.1.0 e1, (number_plain c v2 is.1.1.0 e2, (number_plain d v3 is.1.1.1.0 e3, (number_plain x v4 is.1.1.1.1.0 e4, (number_plain y v5 is.1.1.1.1.1.0 e5, tt))))))))))))
@@ -112,7 +112,7 @@ unfolding calloc_of ArePlain AreRead
 calloc_of_plain a b c o is h =
     ok_then (ArePlain (item a (item b (item c no_items)))) (number_of a) _ o h (λ v0 e0 h. ok_then (ArePlain (item a (item b (item c no_items)))) (number_of b) _ o h (λ v1 e1 h. ok_then (ArePlain (item a (item b (item c no_items)))) (number_of c) _ o h (λ v2 e2 h. (number_plain a v0 is.0 e0, (number_plain b v1 is.1.0 e1, (number_plain c v2 is.1.1.0 e2, tt))))))
 
-hand_of_plain : (room : Room) (a b : Data) (o : Op) → AreRead (item a (item b no_items)) → hand_of room a b ≡ Ok o → ArePlain (item a (item b no_items))
+hand_of_plain : (room : Counts) (a b : Data) (o : Op) → AreRead (item a (item b no_items)) → hand_of room a b ≡ Ok o → ArePlain (item a (item b no_items))
 unfolding hand_of ArePlain AreRead
 hand_of_plain room a b o is h =
     ok_then (ArePlain (item a (item b no_items))) (number_of a) _ o h (λ v0 e0 h. ok_then (ArePlain (item a (item b no_items))) (number_of b) _ o h (λ v1 e1 h. (number_plain a v0 is.0 e0, (number_plain b v1 is.1.0 e1, tt))))
@@ -132,12 +132,12 @@ unfolding regw_of ArePlain AreRead
 regw_of_plain a b c d o is h =
     ok_then (ArePlain (item a (item b (item c (item d no_items))))) (number_of a) _ o h (λ v0 e0 h. ok_then (ArePlain (item a (item b (item c (item d no_items))))) (number_of b) _ o h (λ v1 e1 h. ok_then (ArePlain (item a (item b (item c (item d no_items))))) (number_of c) _ o h (λ v2 e2 h. ok_then (ArePlain (item a (item b (item c (item d no_items))))) (number_of d) _ o h (λ v3 e3 h. (number_plain a v0 is.0 e0, (number_plain b v1 is.1.0 e1, (number_plain c v2 is.1.1.0 e2, (number_plain d v3 is.1.1.1.0 e3, tt))))))))
 
-copy_of_plain : (room : Room) (a b c d x y z : Data) (o : Op) → AreRead (item a (item b (item c (item d (item x (item y (item z no_items))))))) → copy_of room a b c d x y z ≡ Ok o → ArePlain (item a (item b (item c (item d (item x (item y (item z no_items)))))))
+copy_of_plain : (room : Counts) (a b c d x y z : Data) (o : Op) → AreRead (item a (item b (item c (item d (item x (item y (item z no_items))))))) → copy_of room a b c d x y z ≡ Ok o → ArePlain (item a (item b (item c (item d (item x (item y (item z no_items)))))))
 unfolding copy_of ArePlain AreRead
 copy_of_plain room a b c d x y z o is h =
     ok_then (ArePlain (item a (item b (item c (item d (item x (item y (item z no_items)))))))) (number_of a) _ o h (λ v0 e0 h. ok_then (ArePlain (item a (item b (item c (item d (item x (item y (item z no_items)))))))) (number_of b) _ o h (λ v1 e1 h. ok_then (ArePlain (item a (item b (item c (item d (item x (item y (item z no_items)))))))) (number_of c) _ o h (λ v2 e2 h. ok_then (ArePlain (item a (item b (item c (item d (item x (item y (item z no_items)))))))) (number_of d) _ o h (λ v3 e3 h. ok_then (ArePlain (item a (item b (item c (item d (item x (item y (item z no_items)))))))) (number_of x) _ o h (λ v4 e4 h. ok_then (ArePlain (item a (item b (item c (item d (item x (item y (item z no_items)))))))) (number_of y) _ o h (λ v5 e5 h. ok_then (ArePlain (item a (item b (item c (item d (item x (item y (item z no_items)))))))) (number_of z) _ o h (λ v6 e6 h. (number_plain a v0 is.0 e0, (number_plain b v1 is.1.0 e1, (number_plain c v2 is.1.1.0 e2, (number_plain d v3 is.1.1.1.0 e3, (number_plain x v4 is.1.1.1.1.0 e4, (number_plain y v5 is.1.1.1.1.1.0 e5, (number_plain z v6 is.1.1.1.1.1.1.0 e6, tt))))))))))))))
 
-map_sg_of_plain : (room : Room) (a b c d : Data) (o : Op) → AreRead (item a (item b (item c (item d no_items)))) → map_sg_of room a b c d ≡ Ok o → ArePlain (item a (item b (item c (item d no_items))))
+map_sg_of_plain : (room : Counts) (a b c d : Data) (o : Op) → AreRead (item a (item b (item c (item d no_items)))) → map_sg_of room a b c d ≡ Ok o → ArePlain (item a (item b (item c (item d no_items))))
 unfolding map_sg_of ArePlain AreRead
 map_sg_of_plain room a b c d o is e =
     ok_then (ArePlain (item a (item b (item c (item d no_items))))) (number_of a) _ o e (λ v0 e0 e.
@@ -167,7 +167,7 @@ label_plain name a o is e =
     either_way (ArePlain (item a no_items)) (bytes_eq name (codes "ctake")) _ _ o e (λ e. made_plain a _ _ o is e) (λ e.
     either_way (ArePlain (item a no_items)) (bytes_eq name (codes "cfree")) _ _ o e (λ e. made_plain a _ _ o is e) (λ e. absurd cc))))))
 
-op_1_plain : (room : Room) (name : List ℕ) (a : Data) (o : Op) → AreRead (item a no_items) → op_1 room name a ≡ Ok o → ArePlain (item a no_items)
+op_1_plain : (room : Counts) (name : List ℕ) (a : Data) (o : Op) → AreRead (item a no_items) → op_1 room name a ≡ Ok o → ArePlain (item a no_items)
 op_1_plain room name a o is e =
     either_way (ArePlain (item a no_items)) (bytes_eq name (codes "take")) _ _ o e (λ e. made_plain a _ _ o is e) (λ e.
     either_way (ArePlain (item a no_items)) (bytes_eq name (codes "claim")) _ _ o e (λ e. made_plain a _ _ o is e) (λ e.
@@ -175,14 +175,14 @@ op_1_plain room name a o is e =
     either_way (ArePlain (item a no_items)) (bytes_eq name (codes "run")) _ _ o e (λ e. made_plain a _ _ o is e) (λ e.
     either_way (ArePlain (item a no_items)) (bytes_eq name (codes "poll")) _ _ o e (λ e. made_plain a _ _ o is e) (λ e. label_plain name a o is e)))))
 
-op_2_plain : (room : Room) (name : List ℕ) (a b : Data) (o : Op) → AreRead (item a (item b no_items)) → op_2 room name a b ≡ Ok o → ArePlain (item a (item b no_items))
+op_2_plain : (room : Counts) (name : List ℕ) (a b : Data) (o : Op) → AreRead (item a (item b no_items)) → op_2 room name a b ≡ Ok o → ArePlain (item a (item b no_items))
 op_2_plain room name a b o is e =
     let P : Type 0 = ArePlain (item a (item b no_items)) in
     either_way P (bytes_eq name (codes "fence")) _ _ o e (λ e. fence_of_plain a b o is e) (λ e.
     either_way P (bytes_eq name (codes "unmap_sg")) _ _ o e (λ e. unmap_sg_of_plain a b o is e) (λ e.
     either_way P (bytes_eq name (codes "hand")) _ _ o e (λ e. hand_of_plain room a b o is e) (λ e. absurd cc)))
 
-op_3_plain : (room : Room) (name : List ℕ) (a b c : Data) (o : Op) → AreRead (item a (item b (item c no_items))) → op_3 room name a b c ≡ Ok o → ArePlain (item a (item b (item c no_items)))
+op_3_plain : (room : Counts) (name : List ℕ) (a b c : Data) (o : Op) → AreRead (item a (item b (item c no_items))) → op_3 room name a b c ≡ Ok o → ArePlain (item a (item b (item c no_items)))
 op_3_plain room name a b c o is e =
     let P : Type 0 = ArePlain (item a (item b (item c no_items))) in
     either_way P (bytes_eq name (codes "ld")) _ _ o e (λ e. ld_of_plain room a b c o is e) (λ e.
@@ -191,13 +191,13 @@ op_3_plain room name a b c o is e =
     either_way P (bytes_eq name (codes "calloc")) _ _ o e (λ e. calloc_of_plain a b c o is e) (λ e.
     either_way P (bytes_eq name (codes "regr")) _ _ o e (λ e. regr_of_plain a b c o is e) (λ e. absurd cc)))))
 
-op_4_plain : (room : Room) (name : List ℕ) (a b c d : Data) (o : Op) → AreRead (item a (item b (item c (item d no_items)))) → op_4 room name a b c d ≡ Ok o → ArePlain (item a (item b (item c (item d no_items))))
+op_4_plain : (room : Counts) (name : List ℕ) (a b c d : Data) (o : Op) → AreRead (item a (item b (item c (item d no_items)))) → op_4 room name a b c d ≡ Ok o → ArePlain (item a (item b (item c (item d no_items))))
 op_4_plain room name a b c d o is e =
     let P : Type 0 = ArePlain (item a (item b (item c (item d no_items)))) in
     either_way P (bytes_eq name (codes "map_sg")) _ _ o e (λ e. map_sg_of_plain room a b c d o is e) (λ e.
     either_way P (bytes_eq name (codes "regw")) _ _ o e (λ e. regw_of_plain a b c d o is e) (λ e. absurd cc))
 
-named_plain : (room : Room) (name : List ℕ) (ds : Items) (o : Op) → AreRead ds → op_named room name ds ≡ Ok o → ArePlain ds
+named_plain : (room : Counts) (name : List ℕ) (ds : Items) (o : Op) → AreRead ds → op_named room name ds ≡ Ok o → ArePlain ds
 named_plain room name no_items o is e = absurd cc
 named_plain room name (item a no_items) o is e = op_1_plain room name a o is e
 named_plain room name (item a (item b no_items)) o is e = op_2_plain room name a b o is e
@@ -211,7 +211,7 @@ named_plain room name (item a (item b (item c (item d (item x (item y (item z no
     either_way (ArePlain (item a (item b (item c (item d (item x (item y (item z no_items)))))))) (bytes_eq name (codes "copy")) _ _ o e (λ e. copy_of_plain room a b c d x y z o is e) (λ e. absurd cc)
 named_plain room name (item a (item b (item c (item d (item x (item y (item z (item w ds)))))))) o is e = absurd cc
 
-items_plain : (room : Room) (ds : Items) (o : Op) → AreRead ds → op_items room ds ≡ Ok o → ArePlain ds
+items_plain : (room : Counts) (ds : Items) (o : Op) → AreRead ds → op_items room ds ≡ Ok o → ArePlain ds
 unfolding ArePlain
 items_plain room no_items o is e = absurd cc
 items_plain room (item name ds) o is e =
@@ -220,6 +220,6 @@ items_plain room (item name ds) o is e =
     (text_plain name a.0 a.1, named_plain room a.0 ds o r.1 a.2)
 
 -- an operation that was read is plain
-pub op_plain : (room : Room) (d : Data) (o : Op) → IsRead d → op_of room d ≡ Ok o → IsPlain d
+pub op_plain : (room : Counts) (d : Data) (o : Op) → IsRead d → op_of room d ≡ Ok o → IsPlain d
 unfolding op_of
 op_plain room d o is e = let a = ok_first (list_of d) (op_items room) o e in list_plain d a.0 is a.1 (λ are. items_plain room a.0 o are a.2)

@@ -44,34 +44,34 @@ Shows m [] = Unit {0}
 Shows m (p ∷ ps) = (byte m p.0.0 ≡ p.1) × Shows m ps
 
 -- what a run's records say of accesses and touches, in order
-pub data Mark : Type 0 where
-  Did : (deed : Deed) → Mark
-  Touched : Mark
+pub data TraceItem : Type 0 where
+  Did : (deed : Deed) → TraceItem
+  Touched : TraceItem
 
 -- each read before the first touch shows flat memory as it is then
-abbrev pub Latest : List ℕ → List Mark → Type 0
+abbrev pub Latest : List ℕ → List TraceItem → Type 0
 Latest m [] = Unit {0}
 Latest m (Did (Read bytes) ∷ ms) = Shows m bytes × Latest m ms
 Latest m (Did (Write bytes) ∷ ms) = Latest (written m bytes) ms
 Latest m (Touched ∷ ms) = Unit {0}
 
 -- no touch among them
-abbrev pub Untouched : List Mark → Type 0
+abbrev pub Untouched : List TraceItem → Type 0
 Untouched [] = Unit {0}
 Untouched (Did d ∷ ms) = Untouched ms
 Untouched (Touched ∷ ms) = ⊥
 
 -- the accesses, and those before the first touch
-abbrev pub deeds : List Mark → List Deed
+abbrev pub deeds : List TraceItem → List Deed
 deeds [] = []
 deeds (Did d ∷ ms) = d ∷ deeds ms
 deeds (Touched ∷ ms) = deeds ms
 
-abbrev pub deeds_before_touch : List Mark → List Deed
+abbrev pub deeds_before_touch : List TraceItem → List Deed
 deeds_before_touch [] = []
 deeds_before_touch (Did d ∷ ms) = d ∷ deeds_before_touch ms
 deeds_before_touch (Touched ∷ ms) = []
 
 -- by number: a read before the first touch that is access number n shows flat memory after the first n accesses
-abbrev pub ShowsFlat : List ℕ → List Mark → Type 0
+abbrev pub ShowsFlat : List ℕ → List TraceItem → Type 0
 ShowsFlat m ms = (n : ℕ) (bytes : List (Place × ℕ)) → slice_get (deeds_before_touch ms) n ≡ Some (Read bytes) → Shows (flat m (take n (deeds ms))) bytes

@@ -9,7 +9,7 @@ use Rattle.nc_num.specs.declared.names.MapId.{MapId}
 use Rattle.nc_num.specs.declared.names.MemType.{MemType}
 use Rattle.nc_num.specs.declared.places.Place.{Place}
 use Rattle.nc_num.specs.declared.places.Span.{Span}
-use Rattle.nc_model.specs.Flat.{named, written, flat, Shows, Mark, Touched, Untouched, Latest, ShowsFlat, deeds}
+use Rattle.nc_model.specs.Flat.{named, written, flat, Shows, TraceItem, Touched, Untouched, Latest, ShowsFlat, deeds}
 use Rattle.nc_model.specs.Grants.{IsGrants, CanAdd, without}
 use Rattle.nc_model.specs.Owners.{owner_at, covered}
 use Rattle.nc_model.specs.Rights.{hart_may, synced_may, is_device, device_may, has_device, grant_of, buffer_place, serves, served_by, resolve, stands_for}
@@ -116,12 +116,12 @@ EachSpliced = (m : List ℕ) (at : ℕ) (bytes : List ℕ) → at + length bytes
 
 -- the two readings of "each read shows flat memory"
 abbrev pub LatestByNumber : Type 0
-LatestByNumber = (m : List ℕ) (ms : List Mark) → Latest m ms ↔ ShowsFlat m ms
+LatestByNumber = (m : List ℕ) (ms : List TraceItem) → Latest m ms ↔ ShowsFlat m ms
 
 -- marks without a touch, and marks behind them: the latter start from the flat memory that the former leave
 abbrev pub LatestInTwo : Type 0
-LatestInTwo = (m : List ℕ) (ms ns : List Mark) → Untouched ms → Latest m (ms ++ ns) ↔ (Latest m ms × Latest (flat m (deeds ms)) ns)
+LatestInTwo = (m : List ℕ) (ms ns : List TraceItem) → Untouched ms → Latest m (ms ++ ns) ↔ (Latest m ms × Latest (flat m (deeds ms)) ns)
 
 -- nothing is said of what stands behind a touch
 abbrev pub EndsAtTouch : Type 0
-EndsAtTouch = (m : List ℕ) (ms ns : List Mark) → Latest m (ms ++ Touched ∷ ns) ↔ Latest m ms
+EndsAtTouch = (m : List ℕ) (ms ns : List TraceItem) → Latest m (ms ++ Touched ∷ ns) ↔ Latest m ms

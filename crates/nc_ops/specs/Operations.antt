@@ -16,7 +16,7 @@ use Rattle.nc_ops.specs.declared.texts.BusText.{BusText}
 use Rattle.nc_ops.specs.declared.texts.BusText.TheVariants as bus_texts
 use Rattle.nc_ops.specs.declared.texts.SpotText.{SpotText}
 use Rattle.nc_ops.specs.declared.texts.SpotText.TheVariants as spot_texts
-use Rattle.nc_ops.specs.declared.arguments.Room.{Room}
+use Rattle.nc_ops.specs.declared.arguments.Counts.{Counts}
 use Rattle.nc_values.specs.declared.wrong.Wrong.{Wrong}
 use Rattle.nc_values.specs.declared.wrong.Wrong.TheVariants.{Shape, Limit}
 use Rattle.nc_values.specs.Json.{items_len}
@@ -83,32 +83,32 @@ few_entries buffers items = if nat_le (items_len items) 16 then each (λ i d. en
 
 -- ---- operations of several arguments
 
-unfoldable pub ld_of : Room → Data → Data → Data → Result Op Wrong
-ld_of room spot off len = do
+unfoldable pub ld_of : Counts → Data → Data → Data → Result Op Wrong
+ld_of counts spot off len = do
   spot ← spot_of spot
   off ← number_of off
   len ← number_of len
-  spot ← spot_there room.buffers spot
+  spot ← spot_there counts.buffers spot
   off ← wide off
   len ← most 4096 len
   Ok (Ld spot off len)
 
-unfoldable pub st_of : Room → Data → Data → Data → Result Op Wrong
-st_of room spot off bytes = do
+unfoldable pub st_of : Counts → Data → Data → Data → Result Op Wrong
+st_of counts spot off bytes = do
   spot ← spot_of spot
   off ← number_of off
   bytes ← hex_of bytes
-  spot ← spot_there room.buffers spot
+  spot ← spot_there counts.buffers spot
   off ← wide off
   bytes ← few_bytes bytes
   Ok (St spot off bytes)
 
-unfoldable pub cbo_op : Room → Data → Data → Data → Result Op Wrong
-cbo_op room op buf off = do
+unfoldable pub cbo_op : Counts → Data → Data → Data → Result Op Wrong
+cbo_op counts op buf off = do
   op ← cbo_of op
   buf ← number_of buf
   off ← number_of off
-  buf ← below room.buffers buf
+  buf ← below counts.buffers buf
   off ← wide off
   Ok (Cbo op buf off)
 
@@ -120,8 +120,8 @@ fence_of pred succ = do
   succ ← most 15 succ
   Ok (Fence pred succ)
 
-unfoldable pub map_of : Room → Data → Data → Data → Data → Data → Data → Result Op Wrong
-map_of room label buf off len dir chan = do
+unfoldable pub map_of : Counts → Data → Data → Data → Data → Data → Data → Result Op Wrong
+map_of counts label buf off len dir chan = do
   label ← number_of label
   buf ← number_of buf
   off ← number_of off
@@ -129,22 +129,22 @@ map_of room label buf off len dir chan = do
   dir ← number_of dir
   chan ← number_of chan
   label ← label_in label
-  buf ← below room.buffers buf
+  buf ← below counts.buffers buf
   off ← wide off
   len ← wide len
   dir ← dir_in dir
   chan ← chan_in chan
   Ok (Map label buf off len dir chan)
 
-unfoldable pub map_sg_of : Room → Data → Data → Data → Data → Result Op Wrong
-map_sg_of room label entries dir chan = do
+unfoldable pub map_sg_of : Counts → Data → Data → Data → Data → Result Op Wrong
+map_sg_of counts label entries dir chan = do
   label ← number_of label
   items ← list_of entries
   known ← check_each (λ i d. entry_numbers d) 0 items
   dir ← number_of dir
   chan ← number_of chan
   label ← label_in label
-  entries ← few_entries room.buffers items
+  entries ← few_entries counts.buffers items
   dir ← dir_in dir
   chan ← chan_in chan
   Ok (MapSg label entries dir chan)
@@ -167,12 +167,12 @@ calloc_of label pages chan = do
   chan ← chan_in chan
   Ok (Calloc label pages chan)
 
-unfoldable pub hand_of : Room → Data → Data → Result Op Wrong
-hand_of room buf to = do
+unfoldable pub hand_of : Counts → Data → Data → Result Op Wrong
+hand_of counts buf to = do
   buf ← number_of buf
   to ← number_of to
-  buf ← below room.buffers buf
-  to ← hart_in room.harts to
+  buf ← below counts.buffers buf
+  to ← hart_in counts.harts to
   Ok (Hand buf to)
 
 unfoldable pub regs_of : Data → Data → Data → Data → Data → Result Op Wrong
@@ -209,8 +209,8 @@ regw_of chan off width value = do
   width ← most 8 width
   Ok (Regw chan off width value)
 
-unfoldable pub copy_of : Room → Data → Data → Data → Data → Data → Data → Data → Result Op Wrong
-copy_of room chan src src_off dst dst_off len cfg = do
+unfoldable pub copy_of : Counts → Data → Data → Data → Data → Data → Data → Data → Result Op Wrong
+copy_of counts chan src src_off dst dst_off len cfg = do
   chan ← number_of chan
   src ← number_of src
   src_off ← number_of src_off
@@ -219,9 +219,9 @@ copy_of room chan src src_off dst dst_off len cfg = do
   len ← number_of len
   cfg ← number_of cfg
   chan ← chan_in chan
-  src ← below room.buffers src
+  src ← below counts.buffers src
   src_off ← wide src_off
-  dst ← below room.buffers dst
+  dst ← below counts.buffers dst
   dst_off ← wide dst_off
   len ← wide len
   cfg ← once cfg
@@ -240,57 +240,57 @@ label_op name a =
     else (if bytes_eq name (codes "cfree") then (number_of a >>= label_in >>= λ l. Ok (Cfree l)) else Err Shape)))))
 
 -- on one buffer or channel, or on a label
-abbrev pub op_1 : Room → List ℕ → Data → Result Op Wrong
-op_1 room name a =
-    if bytes_eq name (codes "take") then (number_of a >>= below room.buffers >>= λ b. Ok (Take b))
+abbrev pub op_1 : Counts → List ℕ → Data → Result Op Wrong
+op_1 counts name a =
+    if bytes_eq name (codes "take") then (number_of a >>= below counts.buffers >>= λ b. Ok (Take b))
     else (if bytes_eq name (codes "claim") then (number_of a >>= chan_in >>= λ c. Ok (Claim c))
     else (if bytes_eq name (codes "free") then (number_of a >>= chan_in >>= λ c. Ok (Free c))
     else (if bytes_eq name (codes "run") then (number_of a >>= chan_in >>= λ c. Ok (Run c))
     else (if bytes_eq name (codes "poll") then (number_of a >>= chan_in >>= λ c. Ok (Poll c)) else label_op name a))))
 
-abbrev pub op_2 : Room → List ℕ → Data → Data → Result Op Wrong
-op_2 room name a b =
+abbrev pub op_2 : Counts → List ℕ → Data → Data → Result Op Wrong
+op_2 counts name a b =
     if bytes_eq name (codes "fence") then fence_of a b
     else (if bytes_eq name (codes "unmap_sg") then unmap_sg_of a b
-    else (if bytes_eq name (codes "hand") then hand_of room a b else Err Shape))
+    else (if bytes_eq name (codes "hand") then hand_of counts a b else Err Shape))
 
-abbrev pub op_3 : Room → List ℕ → Data → Data → Data → Result Op Wrong
-op_3 room name a b c =
-    if bytes_eq name (codes "ld") then ld_of room a b c
-    else (if bytes_eq name (codes "st") then st_of room a b c
-    else (if bytes_eq name (codes "cbo") then cbo_op room a b c
+abbrev pub op_3 : Counts → List ℕ → Data → Data → Data → Result Op Wrong
+op_3 counts name a b c =
+    if bytes_eq name (codes "ld") then ld_of counts a b c
+    else (if bytes_eq name (codes "st") then st_of counts a b c
+    else (if bytes_eq name (codes "cbo") then cbo_op counts a b c
     else (if bytes_eq name (codes "calloc") then calloc_of a b c
     else (if bytes_eq name (codes "regr") then regr_of a b c else Err Shape))))
 
-abbrev pub op_4 : Room → List ℕ → Data → Data → Data → Data → Result Op Wrong
-op_4 room name a b c d =
-    if bytes_eq name (codes "map_sg") then map_sg_of room a b c d
+abbrev pub op_4 : Counts → List ℕ → Data → Data → Data → Data → Result Op Wrong
+op_4 counts name a b c d =
+    if bytes_eq name (codes "map_sg") then map_sg_of counts a b c d
     else (if bytes_eq name (codes "regw") then regw_of a b c d else Err Shape)
 
 abbrev pub op_5 : List ℕ → Data → Data → Data → Data → Data → Result Op Wrong
 op_5 name a b c d e = if bytes_eq name (codes "regs") then regs_of a b c d e else Err Shape
 
-abbrev pub op_6 : Room → List ℕ → Data → Data → Data → Data → Data → Data → Result Op Wrong
-op_6 room name a b c d e f = if bytes_eq name (codes "map") then map_of room a b c d e f else Err Shape
+abbrev pub op_6 : Counts → List ℕ → Data → Data → Data → Data → Data → Data → Result Op Wrong
+op_6 counts name a b c d e f = if bytes_eq name (codes "map") then map_of counts a b c d e f else Err Shape
 
-abbrev pub op_7 : Room → List ℕ → Data → Data → Data → Data → Data → Data → Data → Result Op Wrong
-op_7 room name a b c d e f g = if bytes_eq name (codes "copy") then copy_of room a b c d e f g else Err Shape
+abbrev pub op_7 : Counts → List ℕ → Data → Data → Data → Data → Data → Data → Data → Result Op Wrong
+op_7 counts name a b c d e f g = if bytes_eq name (codes "copy") then copy_of counts a b c d e f g else Err Shape
 
 -- by what stands behind the name
-abbrev pub op_named : Room → List ℕ → Items → Result Op Wrong
-op_named room name (item a no_items) = op_1 room name a
-op_named room name (item a (item b no_items)) = op_2 room name a b
-op_named room name (item a (item b (item c no_items))) = op_3 room name a b c
-op_named room name (item a (item b (item c (item d no_items)))) = op_4 room name a b c d
-op_named room name (item a (item b (item c (item d (item e no_items))))) = op_5 name a b c d e
-op_named room name (item a (item b (item c (item d (item e (item f no_items)))))) = op_6 room name a b c d e f
-op_named room name (item a (item b (item c (item d (item e (item f (item g no_items))))))) = op_7 room name a b c d e f g
-op_named room name _ = Err Shape
+abbrev pub op_named : Counts → List ℕ → Items → Result Op Wrong
+op_named counts name (item a no_items) = op_1 counts name a
+op_named counts name (item a (item b no_items)) = op_2 counts name a b
+op_named counts name (item a (item b (item c no_items))) = op_3 counts name a b c
+op_named counts name (item a (item b (item c (item d no_items)))) = op_4 counts name a b c d
+op_named counts name (item a (item b (item c (item d (item e no_items))))) = op_5 name a b c d e
+op_named counts name (item a (item b (item c (item d (item e (item f no_items)))))) = op_6 counts name a b c d e f
+op_named counts name (item a (item b (item c (item d (item e (item f (item g no_items))))))) = op_7 counts name a b c d e f g
+op_named counts name _ = Err Shape
 
-abbrev pub op_items : Room → Items → Result Op Wrong
-op_items room (item name arguments) = text_of name >>= λ name. op_named room name arguments
-op_items room no_items = Err Shape
+abbrev pub op_items : Counts → Items → Result Op Wrong
+op_items counts (item name arguments) = text_of name >>= λ name. op_named counts name arguments
+op_items counts no_items = Err Shape
 
 -- the operation that a value is, in a scenario with so many harts and buffers
-unfoldable pub op_of : Room → Data → Result Op Wrong
-op_of room d = list_of d >>= op_items room
+unfoldable pub op_of : Counts → Data → Result Op Wrong
+op_of counts d = list_of d >>= op_items counts

@@ -15,7 +15,7 @@ use std::alloc::Global;
 
 /// How many harts and buffers a scenario has.
 #[derive(Clone, Copy, Debug, PartialEq, Eq)]
-pub struct Room {
+pub struct Counts {
     /// The harts, 1 to 4.
     pub harts: u8,
     /// The buffers, 0 to 64.

@@ -11,6 +11,6 @@ mod operations;
 mod ops;
 mod texts;
 
-pub use arguments::Room;
+pub use arguments::Counts;
 pub use operations::read_op;
 pub use ops::{BusArg, HexBytes, Op, Ops, SgEntries, SgEntry, Spot};

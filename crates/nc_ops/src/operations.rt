@@ -7,7 +7,7 @@ ghost use Rattle.nc_values.specs.Outcomes.{GivesOp};
 ghost use Rattle.nc_ops.specs.Operations.{ld_of, st_of, cbo_op, fence_of, map_of, map_sg_of, unmap_sg_of, calloc_of, hand_of, regs_of, regr_of, regw_of, copy_of, label_op, op_1, op_2, op_3, op_4, op_5, op_6, op_7, op_named, op_of};
 
 use crate::arguments::{
-    Room, bus_text, bus_there, check_entries, few_bytes, few_entries, hex_bytes, spot_text,
+    Counts, bus_text, bus_there, check_entries, few_bytes, few_entries, hex_bytes, spot_text,
     spot_there,
 };
 use crate::ops::Op;
@@ -18,14 +18,14 @@ use serde_json::Value;
 use std::alloc::Global;
 
 #[tactic(auto, unfolding(crate::specs::Operations::ld_of))]
-fn read_ld(room: Room, spot: &Value, off: &Value, len: &Value) -> Result<Op, Wrong>
-    ensures value { result ≡ ld_of room (view spot.now) (view off.now) (view len.now) }
-    ensures fits { IfOk result (FitsOp room.harts room.buffers) }
+fn read_ld(counts: Counts, spot: &Value, off: &Value, len: &Value) -> Result<Op, Wrong>
+    ensures value { result ≡ ld_of counts (view spot.now) (view off.now) (view len.now) }
+    ensures fits { IfOk result (FitsOp counts.harts counts.buffers) }
 {
     let spot = spot_text(spot)?;
     let off = number(off)?;
     let len = number(len)?;
-    let spot = spot_there(spot, room.buffers)?;
+    let spot = spot_there(spot, counts.buffers)?;
     let off = wide(off)?;
     let len = most(len, 4096)? as u32;
     Ok(Op::Ld { spot, off, len })
@@ -34,32 +34,32 @@ fn read_ld(room: Room, spot: &Value, off: &Value, len: &Value) -> Result<Op, Wro
 #[tactic(auto, unfolding(crate::specs::Operations::st_of))]
 fn read_st(
     alloc: Global,
-    room: Room,
+    counts: Counts,
     spot: &Value,
     off: &Value,
     bytes: &Value,
 ) -> Result<Op, OpFault>
-    ensures gives { GivesOp (λ o. o) result (st_of room (view spot.now) (view off.now) (view bytes.now)) }
-    ensures fits { IfOk result (FitsOp room.harts room.buffers) }
+    ensures gives { GivesOp (λ o. o) result (st_of counts (view spot.now) (view off.now) (view bytes.now)) }
+    ensures fits { IfOk result (FitsOp counts.harts counts.buffers) }
 {
     let spot = spot_text(spot)?;
     let off = number(off)?;
     let bytes = hex_bytes(alloc, bytes)?;
-    let spot = spot_there(spot, room.buffers)?;
+    let spot = spot_there(spot, counts.buffers)?;
     let off = wide(off)?;
     let bytes = few_bytes(bytes)?;
     Ok(Op::St { spot, off, bytes })
 }
 
 #[tactic(auto, unfolding(crate::specs::Operations::cbo_op))]
-fn read_cbo(room: Room, op: &Value, buf: &Value, off: &Value) -> Result<Op, Wrong>
-    ensures value { result ≡ cbo_op room (view op.now) (view buf.now) (view off.now) }
-    ensures fits { IfOk result (FitsOp room.harts room.buffers) }
+fn read_cbo(counts: Counts, op: &Value, buf: &Value, off: &Value) -> Result<Op, Wrong>
+    ensures value { result ≡ cbo_op counts (view op.now) (view buf.now) (view off.now) }
+    ensures fits { IfOk result (FitsOp counts.harts counts.buffers) }
 {
     let op = cbo_kind(op)?;
     let buf = number(buf)?;
     let off = number(off)?;
-    let buf = below(buf, room.buffers)?;
+    let buf = below(buf, counts.buffers)?;
     let off = wide(off)?;
     Ok(Op::Cbo { op, buf, off })
 }
@@ -78,7 +78,7 @@ fn read_fence(pred: &Value, succ: &Value) -> Result<Op, Wrong>
 
 #[tactic(auto, unfolding(crate::specs::Operations::map_of))]
 fn read_map(
-    room: Room,
+    counts: Counts,
     label_value: &Value,
     buf: &Value,
     off: &Value,
@@ -86,8 +86,8 @@ fn read_map(
     dir_value: &Value,
     chan_value: &Value,
 ) -> Result<Op, Wrong>
-    ensures value { result ≡ map_of room (view label_value.now) (view buf.now) (view off.now) (view len.now) (view dir_value.now) (view chan_value.now) }
-    ensures fits { IfOk result (FitsOp room.harts room.buffers) }
+    ensures value { result ≡ map_of counts (view label_value.now) (view buf.now) (view off.now) (view len.now) (view dir_value.now) (view chan_value.now) }
+    ensures fits { IfOk result (FitsOp counts.harts counts.buffers) }
 {
     let map_label = number(label_value)?;
     let buf = number(buf)?;
@@ -96,7 +96,7 @@ fn read_map(
     let map_dir = number(dir_value)?;
     let map_chan = number(chan_value)?;
     let label = label(map_label)?;
-    let buf = below(buf, room.buffers)?;
+    let buf = below(buf, counts.buffers)?;
     let off = wide(off)?;
     let len = wide(len)?;
     let dir = dir(map_dir)?;
@@ -114,14 +114,14 @@ fn read_map(
 #[tactic(auto, unfolding(crate::specs::Operations::map_sg_of))]
 fn read_map_sg(
     alloc: Global,
-    room: Room,
+    counts: Counts,
     label_value: &Value,
     list_value: &Value,
     dir_value: &Value,
     chan_value: &Value,
 ) -> Result<Op, OpFault>
-    ensures gives { GivesOp (λ o. o) result (map_sg_of room (view label_value.now) (view list_value.now) (view dir_value.now) (view chan_value.now)) }
-    ensures fits { IfOk result (FitsOp room.harts room.buffers) }
+    ensures gives { GivesOp (λ o. o) result (map_sg_of counts (view label_value.now) (view list_value.now) (view dir_value.now) (view chan_value.now)) }
+    ensures fits { IfOk result (FitsOp counts.harts counts.buffers) }
 {
     let map_label = number(label_value)?;
     let items = list(list_value)?;
@@ -129,7 +129,7 @@ fn read_map_sg(
     let map_dir = number(dir_value)?;
     let map_chan = number(chan_value)?;
     let label = label(map_label)?;
-    let entries = few_entries(alloc, items, room.buffers)?;
+    let entries = few_entries(alloc, items, counts.buffers)?;
     let dir = dir(map_dir)?;
     let chan = chan(map_chan)?;
     Ok(Op::MapSg {
@@ -167,14 +167,14 @@ fn read_calloc(label_value: &Value, pages: &Value, chan_value: &Value) -> Result
 }
 
 #[tactic(auto, unfolding(crate::specs::Operations::hand_of))]
-fn read_hand(room: Room, buf: &Value, to: &Value) -> Result<Op, Wrong>
-    ensures value { result ≡ hand_of room (view buf.now) (view to.now) }
-    ensures fits { IfOk result (FitsOp room.harts room.buffers) }
+fn read_hand(counts: Counts, buf: &Value, to: &Value) -> Result<Op, Wrong>
+    ensures value { result ≡ hand_of counts (view buf.now) (view to.now) }
+    ensures fits { IfOk result (FitsOp counts.harts counts.buffers) }
 {
     let buf = number(buf)?;
     let to = number(to)?;
-    let buf = below(buf, room.buffers)?;
-    let to = hart(to, room.harts)?;
+    let buf = below(buf, counts.buffers)?;
+    let to = hart(to, counts.harts)?;
     Ok(Op::Hand { buf, to })
 }
 
@@ -243,7 +243,7 @@ fn read_regw(chan_value: &Value, off: &Value, width: &Value, value: &Value) -> R
 
 #[tactic(auto, unfolding(crate::specs::Operations::copy_of))]
 fn read_copy(
-    room: Room,
+    counts: Counts,
     chan_value: &Value,
     src: &Value,
     src_off: &Value,
@@ -252,8 +252,8 @@ fn read_copy(
     len: &Value,
     cfg: &Value,
 ) -> Result<Op, Wrong>
-    ensures value { result ≡ copy_of room (view chan_value.now) (view src.now) (view src_off.now) (view dst.now) (view dst_off.now) (view len.now) (view cfg.now) }
-    ensures fits { IfOk result (FitsOp room.harts room.buffers) }
+    ensures value { result ≡ copy_of counts (view chan_value.now) (view src.now) (view src_off.now) (view dst.now) (view dst_off.now) (view len.now) (view cfg.now) }
+    ensures fits { IfOk result (FitsOp counts.harts counts.buffers) }
 {
     let copy_chan = number(chan_value)?;
     let src = number(src)?;
@@ -263,9 +263,9 @@ fn read_copy(
     let len = number(len)?;
     let cfg = number(cfg)?;
     let chan = chan(copy_chan)?;
-    let src = below(src, room.buffers)?;
+    let src = below(src, counts.buffers)?;
     let src_off = wide(src_off)?;
-    let dst = below(dst, room.buffers)?;
+    let dst = below(dst, counts.buffers)?;
     let dst_off = wide(dst_off)?;
     let len = wide(len)?;
     let cfg = once(cfg)?;
@@ -296,12 +296,12 @@ fn read_on_label(name: &str, value: &Value) -> Result<Op, Wrong>
     }
 }
 
-fn read_1(room: Room, name: &str, a: &Value) -> Result<Op, Wrong>
-    ensures value { result ≡ op_1 room name.now (view a.now) }
-    ensures fits { IfOk result (FitsOp room.harts room.buffers) }
+fn read_1(counts: Counts, name: &str, a: &Value) -> Result<Op, Wrong>
+    ensures value { result ≡ op_1 counts name.now (view a.now) }
+    ensures fits { IfOk result (FitsOp counts.harts counts.buffers) }
 {
     match name {
-        "take" => Ok(Op::Take(below(number(a)?, room.buffers)?)),
+        "take" => Ok(Op::Take(below(number(a)?, counts.buffers)?)),
         "claim" => Ok(Op::Claim(chan(number(a)?)?)),
         "free" => Ok(Op::Free(chan(number(a)?)?)),
         "run" => Ok(Op::Run(chan(number(a)?)?)),
@@ -310,33 +310,33 @@ fn read_1(room: Room, name: &str, a: &Value) -> Result<Op, Wrong>
     }
 }
 
-fn read_2(room: Room, name: &str, a: &Value, b: &Value) -> Result<Op, Wrong>
-    ensures value { result ≡ op_2 room name.now (view a.now) (view b.now) }
-    ensures fits { IfOk result (FitsOp room.harts room.buffers) }
+fn read_2(counts: Counts, name: &str, a: &Value, b: &Value) -> Result<Op, Wrong>
+    ensures value { result ≡ op_2 counts name.now (view a.now) (view b.now) }
+    ensures fits { IfOk result (FitsOp counts.harts counts.buffers) }
 {
     match name {
         "fence" => read_fence(a, b),
         "unmap_sg" => read_unmap_sg(a, b),
-        "hand" => read_hand(room, a, b),
+        "hand" => read_hand(counts, a, b),
         _ => Err(Wrong::Shape),
     }
 }
 
 fn read_3(
     alloc: Global,
-    room: Room,
+    counts: Counts,
     name: &str,
     a: &Value,
     b: &Value,
     c: &Value,
 ) -> Result<Op, OpFault>
-    ensures gives { GivesOp (λ o. o) result (op_3 room name.now (view a.now) (view b.now) (view c.now)) }
-    ensures fits { IfOk result (FitsOp room.harts room.buffers) }
+    ensures gives { GivesOp (λ o. o) result (op_3 counts name.now (view a.now) (view b.now) (view c.now)) }
+    ensures fits { IfOk result (FitsOp counts.harts counts.buffers) }
 {
     match name {
-        "ld" => Ok(read_ld(room, a, b, c)?),
-        "st" => read_st(alloc, room, a, b, c),
-        "cbo" => Ok(read_cbo(room, a, b, c)?),
+        "ld" => Ok(read_ld(counts, a, b, c)?),
+        "st" => read_st(alloc, counts, a, b, c),
+        "cbo" => Ok(read_cbo(counts, a, b, c)?),
         "calloc" => Ok(read_calloc(a, b, c)?),
         "regr" => Ok(read_regr(a, b, c)?),
         _ => Err(OpFault::Wrong(Wrong::Shape)),
@@ -345,18 +345,18 @@ fn read_3(
 
 fn read_4(
     alloc: Global,
-    room: Room,
+    counts: Counts,
     name: &str,
     a: &Value,
     b: &Value,
     c: &Value,
     d: &Value,
 ) -> Result<Op, OpFault>
-    ensures gives { GivesOp (λ o. o) result (op_4 room name.now (view a.now) (view b.now) (view c.now) (view d.now)) }
-    ensures fits { IfOk result (FitsOp room.harts room.buffers) }
+    ensures gives { GivesOp (λ o. o) result (op_4 counts name.now (view a.now) (view b.now) (view c.now) (view d.now)) }
+    ensures fits { IfOk result (FitsOp counts.harts counts.buffers) }
 {
     match name {
-        "map_sg" => read_map_sg(alloc, room, a, b, c, d),
+        "map_sg" => read_map_sg(alloc, counts, a, b, c, d),
         "regw" => Ok(read_regw(a, b, c, d)?),
         _ => Err(OpFault::Wrong(Wrong::Shape)),
     }
@@ -373,7 +373,7 @@ fn read_5(name: &str, a: &Value, b: &Value, c: &Value, d: &Value, e: &Value) -> 
 }
 
 fn read_6(
-    room: Room,
+    counts: Counts,
     name: &str,
     a: &Value,
     b: &Value,
@@ -382,17 +382,17 @@ fn read_6(
     e: &Value,
     f: &Value,
 ) -> Result<Op, Wrong>
-    ensures value { result ≡ op_6 room name.now (view a.now) (view b.now) (view c.now) (view d.now) (view e.now) (view f.now) }
-    ensures fits { IfOk result (FitsOp room.harts room.buffers) }
+    ensures value { result ≡ op_6 counts name.now (view a.now) (view b.now) (view c.now) (view d.now) (view e.now) (view f.now) }
+    ensures fits { IfOk result (FitsOp counts.harts counts.buffers) }
 {
     match name {
-        "map" => read_map(room, a, b, c, d, e, f),
+        "map" => read_map(counts, a, b, c, d, e, f),
         _ => Err(Wrong::Shape),
     }
 }
 
 fn read_7(
-    room: Room,
+    counts: Counts,
     name: &str,
     a: &Value,
     b: &Value,
@@ -402,40 +402,40 @@ fn read_7(
     f: &Value,
     g: &Value,
 ) -> Result<Op, Wrong>
-    ensures value { result ≡ op_7 room name.now (view a.now) (view b.now) (view c.now) (view d.now) (view e.now) (view f.now) (view g.now) }
-    ensures fits { IfOk result (FitsOp room.harts room.buffers) }
+    ensures value { result ≡ op_7 counts name.now (view a.now) (view b.now) (view c.now) (view d.now) (view e.now) (view f.now) (view g.now) }
+    ensures fits { IfOk result (FitsOp counts.harts counts.buffers) }
 {
     match name {
-        "copy" => read_copy(room, a, b, c, d, e, f, g),
+        "copy" => read_copy(counts, a, b, c, d, e, f, g),
         _ => Err(Wrong::Shape),
     }
 }
 
 /// An operation by its name and its arguments.
-fn read_named(alloc: Global, room: Room, name: &str, arguments: &[Value]) -> Result<Op, OpFault>
-    ensures gives { GivesOp (λ o. o) result (op_named room name.now (items_view arguments.now)) }
-    ensures fits { IfOk result (FitsOp room.harts room.buffers) }
+fn read_named(alloc: Global, counts: Counts, name: &str, arguments: &[Value]) -> Result<Op, OpFault>
+    ensures gives { GivesOp (λ o. o) result (op_named counts name.now (items_view arguments.now)) }
+    ensures fits { IfOk result (FitsOp counts.harts counts.buffers) }
 {
     match arguments {
-        [a] => Ok(read_1(room, name, a)?),
-        [a, b] => Ok(read_2(room, name, a, b)?),
-        [a, b, c] => read_3(alloc, room, name, a, b, c),
-        [a, b, c, d] => read_4(alloc, room, name, a, b, c, d),
+        [a] => Ok(read_1(counts, name, a)?),
+        [a, b] => Ok(read_2(counts, name, a, b)?),
+        [a, b, c] => read_3(alloc, counts, name, a, b, c),
+        [a, b, c, d] => read_4(alloc, counts, name, a, b, c, d),
         [a, b, c, d, e] => Ok(read_5(name, a, b, c, d, e)?),
-        [a, b, c, d, e, f] => Ok(read_6(room, name, a, b, c, d, e, f)?),
-        [a, b, c, d, e, f, g] => Ok(read_7(room, name, a, b, c, d, e, f, g)?),
+        [a, b, c, d, e, f] => Ok(read_6(counts, name, a, b, c, d, e, f)?),
+        [a, b, c, d, e, f, g] => Ok(read_7(counts, name, a, b, c, d, e, f, g)?),
         _ => Err(OpFault::Wrong(Wrong::Shape)),
     }
 }
 
 /// The operation that a value is, in a scenario with so many harts and buffers.
 #[tactic(auto, unfolding(crate::specs::Operations::op_of))]
-pub fn read_op(alloc: Global, room: Room, value: &Value) -> Result<Op, OpFault>
-    ensures gives { GivesOp (λ o. o) result (op_of room (view value.now)) }
-    ensures fits { IfOk result (FitsOp room.harts room.buffers) }
+pub fn read_op(alloc: Global, counts: Counts, value: &Value) -> Result<Op, OpFault>
+    ensures gives { GivesOp (λ o. o) result (op_of counts (view value.now)) }
+    ensures fits { IfOk result (FitsOp counts.harts counts.buffers) }
 {
     match list(value)?.as_slice() {
-        [name, arguments @ ..] => read_named(alloc, room, text(name)?, arguments),
+        [name, arguments @ ..] => read_named(alloc, counts, text(name)?, arguments),
         [] => Err(OpFault::Wrong(Wrong::Shape)),
     }
 }

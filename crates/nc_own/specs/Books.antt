@@ -12,7 +12,7 @@ use Rattle.nc_own.specs.Tiles.{places, Tile, Joined}
 use Rattle.nc_own.specs.declared.intervals.Interval.{Interval}
 
 -- the owner of each place of RAM, the grants in order of adding, and for how many more changes there is room
-pub record Shown : Type 0 where
+pub record BookView : Type 0 where
   pub owners : List Owner
   pub grants : List Grant
   pub spare : ℕ

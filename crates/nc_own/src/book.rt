@@ -37,9 +37,9 @@ pub struct Book {
 impl Model for Book {
     ghost use Rattle.std.specs.Prelude.{◌-◌, vec_len, vec_capacity};
     ghost use Rattle.nc_own.specs.Tiles.{made};
-    ghost use Rattle.nc_own.specs.Books.{Shown, IsBook, owners_of};
+    ghost use Rattle.nc_own.specs.Books.{BookView, IsBook, owners_of};
 
-    ghost Value = { Shown };
+    ghost Value = { BookView };
 
     ghost view = { λ b. record { owners = owners_of b.ram (made b.intervals.items); grants = b.grants.items; spare = b.room } };
 

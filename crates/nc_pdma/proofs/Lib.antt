@@ -1,4 +1,4 @@
 pub mod Sound
 pub mod Claim
 pub mod Transactions
-pub mod Told
+pub mod StepLaws

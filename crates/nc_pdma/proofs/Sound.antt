@@ -19,7 +19,7 @@ use Rattle.nc_pdma_regs.proofs.Claims.{stays_claimed}
 use Rattle.nc_pdma.specs.declared.channel.ChanStep.TheVariants.{Idle}
 use Rattle.nc_pdma.specs.Bus.{place_of}
 use Rattle.nc_pdma.specs.Channel.{ChannelState, IsChannel, channel_failed, channel_write, fifo_after, new_channel, to_read}
-use Rattle.nc_pdma.specs.Steps.{may_read, may_write, read_at, read_len, read_next, read_told, write_at, write_len, write_next, write_told}
+use Rattle.nc_pdma.specs.Steps.{may_read, may_write, read_at, read_len, read_next, read_step, write_at, write_len, write_next, write_step}
 use Rattle.nc_pdma.specs.Laws.{ChannelsStaySound}
 
 -- a write to Control, part by part: s says whether it starts a transfer, run and b1 whether one runs and bit 1 is written
@@ -168,8 +168,8 @@ read_by : (c : ChannelState) (ram : List ℕ) (o : Option ℕ) (b : Bool) → Is
 read_by c ram o true h is = read_place c ram o h (may_read_runs c is)
 read_by c ram o false h is = h
 
-pub read_sound : (c : ChannelState) (ram : List ℕ) → IsChannel c → IsChannel (read_next c (read_told c ram))
-unfolding read_told
+pub read_sound : (c : ChannelState) (ram : List ℕ) → IsChannel c → IsChannel (read_next c (read_step c ram))
+unfolding read_step
 read_sound c ram h = read_by c ram (place_of (length ram) c.regs.exec.source (read_len c)) (may_read c) h refl
 
 -- writes
@@ -220,8 +220,8 @@ written_by : (c : ChannelState) (o : Option ℕ) (b : Bool) → IsChannel c → 
 written_by c o true h = write_place c o h
 written_by c o false h = h
 
-pub written_sound : (c : ChannelState) (size : ℕ) → IsChannel c → IsChannel (write_next c (write_told c size))
-unfolding write_told
+pub written_sound : (c : ChannelState) (size : ℕ) → IsChannel c → IsChannel (write_next c (write_step c size))
+unfolding write_step
 written_sound c size h = written_by c (place_of size c.regs.exec.destination (write_len c)) (may_write c) h
 
 pub new_sound : IsChannel new_channel

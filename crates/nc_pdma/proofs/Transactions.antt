@@ -10,7 +10,7 @@ use Rattle.nc_pdma.specs.declared.channel.ChanStep.{ChanStep}
 use Rattle.nc_pdma.specs.declared.channel.ChanStep.TheVariants.{Idle, Moved}
 use Rattle.nc_pdma.specs.Bus.{in_ram, place_of, ram_base}
 use Rattle.nc_pdma.specs.Channel.{ChannelState, IsChannel, to_read}
-use Rattle.nc_pdma.specs.Steps.{may_read, may_write, read_at, read_len, read_told, to_multiple, write_at, write_len, write_told}
+use Rattle.nc_pdma.specs.Steps.{may_read, may_write, read_at, read_len, read_step, to_multiple, write_at, write_len, write_step}
 use Rattle.nc_pdma.specs.Laws.{IsTransaction, IsReadOf, IsWriteOf, EachReadTakesTheNextBytes, EachWriteGivesTheFirstBytes}
 
 -- a place on the bus
@@ -90,8 +90,8 @@ read_by : (c : ChannelState) (ram : List ℕ) (b : Bool) → may_read c ≡ b
 read_by c ram true may = read_at_is c ram (place_of (length ram) c.regs.exec.source (read_len c)) (may_read_is c may) refl
 read_by c ram false may = tt
 
-of_read : (c : ChannelState) (ram : List ℕ) → OfRead c ram (read_told c ram)
-unfolding read_told
+of_read : (c : ChannelState) (ram : List ℕ) → OfRead c ram (read_step c ram)
+unfolding read_step
 of_read c ram = read_by c ram (may_read c) refl
 
 pub each_read : EachReadTakesTheNextBytes
@@ -131,8 +131,8 @@ write_by : (c : ChannelState) (size : ℕ) (b : Bool) → IsChannel c → may_wr
 write_by c size true h may = write_at_is c size (place_of size c.regs.exec.destination (write_len c)) h (may_write_is c may) refl
 write_by c size false h may = tt
 
-of_write : (c : ChannelState) (size : ℕ) → IsChannel c → OfWrite c size (write_told c size)
-unfolding write_told
+of_write : (c : ChannelState) (size : ℕ) → IsChannel c → OfWrite c size (write_step c size)
+unfolding write_step
 of_write c size h = write_by c size (may_write c) h refl
 
 pub each_write : EachWriteGivesTheFirstBytes

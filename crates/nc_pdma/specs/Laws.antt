@@ -7,13 +7,13 @@ use Rattle.nc_pdma_regs.specs.Laws.{claimed, claim_value}
 use Rattle.nc_pdma.specs.declared.channel.ChanStep.TheVariants.{Moved}
 use Rattle.nc_pdma.specs.Bus.{ram_base}
 use Rattle.nc_pdma.specs.Channel.{ChannelState, IsChannel, new_channel, channel_write, to_read}
-use Rattle.nc_pdma.specs.Steps.{read_told, read_next, write_told, write_next}
+use Rattle.nc_pdma.specs.Steps.{read_step, read_next, write_step, write_next}
 
 pub record ChannelsStaySound : Type 0 where
   pub at_first : IsChannel new_channel
   pub write : (c : ChannelState) (off width v : ℕ) → IsChannel c → IsChannel (channel_write c off width v)
-  pub read : (c : ChannelState) (ram : List ℕ) → IsChannel c → IsChannel (read_next c (read_told c ram))
-  pub written : (c : ChannelState) (size : ℕ) → IsChannel c → IsChannel (write_next c (write_told c size))
+  pub read : (c : ChannelState) (ram : List ℕ) → IsChannel c → IsChannel (read_next c (read_step c ram))
+  pub written : (c : ChannelState) (size : ℕ) → IsChannel c → IsChannel (write_next c (write_step c size))
 
 abbrev pub ClaimByControl : Type 0
 ClaimByControl =
@@ -38,7 +38,7 @@ pub record IsReadOf (c : ChannelState) (ram : List ℕ) (s : Span) (bytes : List
 
 abbrev pub EachReadTakesTheNextBytes : Type 0
 EachReadTakesTheNextBytes =
-    (c : ChannelState) (ram : List ℕ) (s : Span) (bytes : List ℕ) (done : Bool) → IsChannel c → read_told c ram ≡ Moved s bytes done → IsReadOf c ram s bytes done
+    (c : ChannelState) (ram : List ℕ) (s : Span) (bytes : List ℕ) (done : Bool) → IsChannel c → read_step c ram ≡ Moved s bytes done → IsReadOf c ram s bytes done
 
 pub record IsWriteOf (c : ChannelState) (size : ℕ) (s : Span) (bytes : List ℕ) (done : Bool) : Type 0 where
   pub runs : c.regs.control.run ≡ true
@@ -49,4 +49,4 @@ pub record IsWriteOf (c : ChannelState) (size : ℕ) (s : Span) (bytes : List �
 
 abbrev pub EachWriteGivesTheFirstBytes : Type 0
 EachWriteGivesTheFirstBytes =
-    (c : ChannelState) (size : ℕ) (s : Span) (bytes : List ℕ) (done : Bool) → IsChannel c → write_told c size ≡ Moved s bytes done → IsWriteOf c size s bytes done
+    (c : ChannelState) (size : ℕ) (s : Span) (bytes : List ℕ) (done : Bool) → IsChannel c → write_step c size ≡ Moved s bytes done → IsWriteOf c size s bytes done

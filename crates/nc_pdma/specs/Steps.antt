@@ -25,8 +25,8 @@ abbrev pub read_at : ChannelState → List ℕ → Option ℕ → ChanStep
 read_at c ram (Some at) = Moved (record { at = at; len = read_len c }) (memory.span ram at (read_len c)) false
 read_at c ram None = Error c.regs.exec.source (read_len c)
 
-unfoldable pub read_told : ChannelState → List ℕ → ChanStep
-read_told c ram = if may_read c then read_at c ram (place_of (length ram) c.regs.exec.source (read_len c)) else Idle
+unfoldable pub read_step : ChannelState → List ℕ → ChanStep
+read_step c ram = if may_read c then read_at c ram (place_of (length ram) c.regs.exec.source (read_len c)) else Idle
 
 -- the channel after a read that told so
 abbrev pub read_next : ChannelState → ChanStep → ChannelState
@@ -46,8 +46,8 @@ abbrev pub write_at : ChannelState → Option ℕ → ChanStep
 write_at c (Some at) = Moved (record { at = at; len = write_len c }) (take (write_len c) c.fifo) (c.regs.exec.bytes - write_len c == 0)
 write_at c None = Error c.regs.exec.destination (write_len c)
 
-unfoldable pub write_told : ChannelState → ℕ → ChanStep
-write_told c size = if may_write c then write_at c (place_of size c.regs.exec.destination (write_len c)) else Idle
+unfoldable pub write_step : ChannelState → ℕ → ChanStep
+write_step c size = if may_write c then write_at c (place_of size c.regs.exec.destination (write_len c)) else Idle
 
 -- the channel, and memory, after a write that told so
 abbrev pub write_next : ChannelState → ChanStep → ChannelState

@@ -6,7 +6,7 @@ ghost use Rattle.nc_pdma_regs.specs.Registers.{read_of};
 ghost use Rattle.nc_pdma_regs.specs.Table.{known_at};
 ghost use Rattle.nc_pdma.specs.Channel.{IsChannel, channel_failed, channel_write, new_channel, to_read};
 ghost use Rattle.nc_pdma.specs.Bus.{place_of};
-ghost use Rattle.nc_pdma.specs.Steps.{may_read, may_write, ram_after, read_len, read_next, read_told, write_len, write_next, write_told};
+ghost use Rattle.nc_pdma.specs.Steps.{may_read, may_write, ram_after, read_len, read_next, read_step, write_len, write_next, write_step};
 
 use arrayvec::ArrayVec;
 use nc_mem::Ram;
@@ -140,8 +140,8 @@ impl Channel {
     /// It is disabled where no transfer runs, nothing is left to read, or the FIFO is full; with the order bit also
     /// where the FIFO has a byte.
     pub fn read_step(&mut self, ram: &Ram) -> ChanStep
-        ensures told { result ≡ read_told self.old ram.now }
-        ensures state { self.new ≡ read_next self.old (read_told self.old ram.now) }
+        ensures step { result ≡ read_step self.old ram.now }
+        ensures state { self.new ≡ read_next self.old (read_step self.old ram.now) }
     {
         if !self.may_read() {
             return ChanStep::Idle;
@@ -167,9 +167,9 @@ impl Channel {
     ///
     /// It is disabled where no transfer runs or the FIFO is empty.
     pub fn write_step(&mut self, ram: &mut Ram) -> ChanStep
-        ensures told { result ≡ write_told self.old (length ram.old) }
-        ensures state { self.new ≡ write_next self.old (write_told self.old (length ram.old)) }
-        ensures memory { ram.new ≡ ram_after ram.old (write_told self.old (length ram.old)) }
+        ensures step { result ≡ write_step self.old (length ram.old) }
+        ensures state { self.new ≡ write_next self.old (write_step self.old (length ram.old)) }
+        ensures memory { ram.new ≡ ram_after ram.old (write_step self.old (length ram.old)) }
         ensures size { length ram.new ≡ length ram.old }
     {
         if !self.may_write() {

@@ -11,7 +11,7 @@ pub record QueueState : Type 0 where
   pub entries : List Entry
 
 -- a ring of eight cells, of which those from a start on hold the entries
-pub record IsKept (cells : List Entry) (start len size : ℕ) : Type 0 where
+pub record IsRing (cells : List Entry) (start len size : ℕ) : Type 0 where
   pub start_in : start < 8
   pub few : len ≤ 8
   pub room : length cells ≡ 8

@@ -23,13 +23,13 @@ pub struct Queue {
 
 impl Model for Queue {
     ghost use Rattle.nc_queue.specs.Ring.{window};
-    ghost use Rattle.nc_queue.specs.QueueState.{QueueState, IsKept};
+    ghost use Rattle.nc_queue.specs.QueueState.{QueueState, IsRing};
 
     ghost Value = { QueueState };
 
     ghost view = { λ q. record { size = q.size; entries = window q.start q.len q.cells } };
 
-    ghost invariant = { λ q. IsKept q.cells q.start q.len q.size };
+    ghost invariant = { λ q. IsRing q.cells q.start q.len q.size };
 }
 
 impl Queue {

@@ -27,7 +27,7 @@ use Rattle.nc_pdma_regs.specs.Control.{number_of}
 use Rattle.nc_pdma_regs.specs.Registers.{read_of}
 use Rattle.nc_pdma_regs.specs.Laws as claims
 use Rattle.nc_pdma.specs.Channel.{ChannelState, channel_write}
-use Rattle.nc_pdma.specs.Steps.{read_told, read_next, write_told, write_next, ram_after}
+use Rattle.nc_pdma.specs.Steps.{read_step, read_next, write_step, write_next, ram_after}
 use Rattle.nc_pdma.specs.declared.channel.ChanStep.{ChanStep}
 use Rattle.nc_rules.specs.declared.answers.Issued.{Issued}
 use Rattle.nc_rules.specs.declared.answers.Issued.TheVariants.{Loaded, Queued, Passed, Value}
@@ -85,18 +85,17 @@ issue_answer m h (Mark pred succ) = Queued
 
 -- ---- a drain
 
--- the hart to which a channel is granted after an access of h, by the claim bit before and after
-abbrev pub granted_to : Option HartNo → Bool → Bool → ℕ → Option HartNo
-granted_to old was false h = None
-granted_to old true true h = old
-granted_to old false true h = Some (record { 0 = h })
+-- the hart to which a channel is granted behind an access of hart h: `was` and `is` tell whether the claim bit is set
+-- before and behind it
+abbrev pub grantee_after : Option HartNo → Bool → Bool → ℕ → Option HartNo
+grantee_after old was is h = if is then (if was then old else Some (record { 0 = h })) else None
 
 abbrev pub is_claimed : ChannelState → Bool
 is_claimed c = c.regs.control.claim
 
 -- a store to a register of a channel by hart h
 abbrev pub register_stored : MachineState → ℕ → ℕ → ChannelState → MachineState
-register_stored m h c s = with_grantee (with_channel m c s) c (granted_to (grantee_of m c) (is_claimed (channel_of m c)) (is_claimed s) h)
+register_stored m h c s = with_grantee (with_channel m c s) c (grantee_after (grantee_of m c) (is_claimed (channel_of m c)) (is_claimed s) h)
 
 -- a store of main memory goes to the caches, one of another type to memory
 abbrev pub stored : MachineState → ℕ → Span → List ℕ → MemType → MachineState
@@ -181,13 +180,13 @@ evict_answer m h b = evict_bus h b (line_at m.cache b)
 -- ---- channels
 
 abbrev pub chan_read_step : MachineState → ℕ → ChanStep
-chan_read_step m c = read_told (channel_of m c) m.cache.ram
+chan_read_step m c = read_step (channel_of m c) m.cache.ram
 
 unfoldable pub chan_read_next : MachineState → ℕ → MachineState
 chan_read_next m c = with_channel m c (read_next (channel_of m c) (chan_read_step m c))
 
 abbrev pub chan_write_step : MachineState → ℕ → ChanStep
-chan_write_step m c = write_told (channel_of m c) (length m.cache.ram)
+chan_write_step m c = write_step (channel_of m c) (length m.cache.ram)
 
 unfoldable pub chan_write_next : MachineState → ℕ → MachineState
 chan_write_next m c =

@@ -5,7 +5,7 @@ use Rattle.nc_num.specs.Memory.{byte}
 use Rattle.nc_env.specs.declared.CboOp.{CboOp}
 use Rattle.nc_env.specs.declared.CboOp.TheVariants as cbos
 use Rattle.nc_queue.specs.Rules.{gives}
-use Rattle.nc_model.specs.Flat.{named, named_from, channel_name, Mark, Did, Touched, Latest, Untouched, flat, deeds}
+use Rattle.nc_model.specs.Flat.{named, named_from, channel_name, TraceItem, Did, Touched, Latest, Untouched, flat, deeds}
 use Rattle.nc_model.specs.Kept.{Kept}
 use Rattle.nc_model.specs.declared.deeds.Deed.TheVariants.{Read, Write}
 use Rattle.nc_model.specs.declared.owners.Grant.{Grant}
@@ -24,35 +24,35 @@ use Rattle.nc_rules.specs.Next.{next, event_records}
 use Rattle.nc_rules.specs.Run.{after}
 
 -- a zero writes zeros over its block of s bytes; the other cache operations are no accesses
-abbrev pub cbo_marks : ℕ → CboOp → ℕ → List Mark
-cbo_marks s cbos.Zero at = Did (Write (named at (replicate s 0))) ∷ []
-cbo_marks s cbos.Clean at = []
-cbo_marks s cbos.Flush at = []
-cbo_marks s cbos.Inval at = []
+abbrev pub cbo_trace : ℕ → CboOp → ℕ → List TraceItem
+cbo_trace s cbos.Zero at = Did (Write (named at (replicate s 0))) ∷ []
+cbo_trace s cbos.Clean at = []
+cbo_trace s cbos.Flush at = []
+cbo_trace s cbos.Inval at = []
 
 -- what a record is, where blocks have s bytes and these are the grants: a script's load or a channel's read, a script's
 -- store or zero or a channel's write, or a touch. What a plan does, and what drains, are no accesses
-abbrev pub marks_of : ℕ → List Grant → Record → List Mark
-marks_of s grants (records.Touched t) = Touched ∷ []
-marks_of s grants (records.Ld h at bytes) = Did (Read (named at.0 bytes)) ∷ []
-marks_of s grants (records.St h at bytes) = Did (Write (named at.0 bytes)) ∷ []
-marks_of s grants (records.Cbo h op at) = cbo_marks s op at.0
-marks_of s grants (records.Cr chan at bytes) = Did (Read (named_from (channel_name grants chan) at.0 bytes)) ∷ []
-marks_of s grants (records.Cw chan at bytes) = Did (Write (named_from (channel_name grants chan) at.0 bytes)) ∷ []
-marks_of s grants _ = []
+abbrev pub record_trace : ℕ → List Grant → Record → List TraceItem
+record_trace s grants (records.Touched t) = Touched ∷ []
+record_trace s grants (records.Ld h at bytes) = Did (Read (named at.0 bytes)) ∷ []
+record_trace s grants (records.St h at bytes) = Did (Write (named at.0 bytes)) ∷ []
+record_trace s grants (records.Cbo h op at) = cbo_trace s op at.0
+record_trace s grants (records.Cr chan at bytes) = Did (Read (named_from (channel_name grants chan) at.0 bytes)) ∷ []
+record_trace s grants (records.Cw chan at bytes) = Did (Write (named_from (channel_name grants chan) at.0 bytes)) ∷ []
+record_trace s grants _ = []
 
-abbrev pub all_marks : ℕ → List Grant → List Record → List Mark
-all_marks s grants [] = []
-all_marks s grants (r ∷ rs) = marks_of s grants r ++ all_marks s grants rs
+abbrev pub records_trace : ℕ → List Grant → List Record → List TraceItem
+records_trace s grants [] = []
+records_trace s grants (r ∷ rs) = record_trace s grants r ++ records_trace s grants rs
 
 -- what an event does and touches
-unfoldable pub event_marks : WorldState → Event → List Mark
-event_marks w e = all_marks w.machine.size w.grants (event_records w e)
+unfoldable pub event_trace : WorldState → Event → List TraceItem
+event_trace w e = records_trace w.machine.size w.grants (event_records w e)
 
 -- and a run
-unfoldable pub run_marks : WorldState → List Event → List Mark
-run_marks w [] = []
-run_marks w (e ∷ es) = event_marks w e ++ run_marks (next w e) es
+unfoldable pub run_trace : WorldState → List Event → List TraceItem
+run_trace w [] = []
+run_trace w (e ∷ es) = event_trace w e ++ run_trace (next w e) es
 
 -- each event names what is there
 abbrev pub AreThere : Scenario → List Event → Type 0
@@ -60,7 +60,7 @@ AreThere sc es = All (IsThere (length sc.harts) sc.block_size sc.ram) es
 
 -- each load and each channel read before the first touch shows flat memory
 abbrev pub IsLatest : Scenario → List Event → Type 0
-IsLatest sc es = Latest (memory sc) (run_marks (start sc) es)
+IsLatest sc es = Latest (memory sc) (run_trace (start sc) es)
 
 -- some queue gives the byte
 abbrev pub is_given : MachineState → ℕ → Bool
@@ -68,13 +68,13 @@ is_given m x = list_any (λ h. is_some (gives m.size (queue_of m h) x)) (range_w
 
 -- flat memory after a run
 abbrev pub flat_after : Scenario → List Event → List ℕ
-flat_after sc es = flat (memory sc) (deeds (run_marks (start sc) es))
+flat_after sc es = flat (memory sc) (deeds (run_trace (start sc) es))
 
 -- where the run had no touch, the bytes of threads, and those that are passed or nobody's, are flat memory's after it, but
 -- for those that a queue still has and those of the bounce slots
 abbrev pub IsKeptAfter : Scenario → List Event → Type 0
 IsKeptAfter sc es =
-    Untouched (run_marks (start sc) es)
+    Untouched (run_trace (start sc) es)
     → Kept sc.ram (slots_of sc) (owner_of (after (start sc) es)) (is_given (after (start sc) es).machine) (view.middle (after (start sc) es).machine) (byte (flat_after sc es))
 
 -- the same after each front of the events, the whole of them too

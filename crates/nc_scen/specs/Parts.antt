@@ -6,7 +6,7 @@ use Rattle.nc_scen.specs.declared.format.Format.{Format}
 use Rattle.nc_scen.specs.declared.keys.Keys.{Keys}
 use Rattle.nc_scen.specs.declared.keys.Keys.TheVariants as keys
 use Rattle.nc_ops.specs.declared.ops.Op.{Op}
-use Rattle.nc_ops.specs.declared.arguments.Room.{Room}
+use Rattle.nc_ops.specs.declared.arguments.Counts.{Counts}
 use Rattle.nc_values.specs.declared.refused.Refused.{Refused}
 use Rattle.nc_values.specs.declared.refused.Refused.TheVariants.{Shape, Version}
 use Rattle.nc_scen.specs.declared.harts.Settings.{Settings}
@@ -93,22 +93,22 @@ abbrev pub hart_checked : ℕ → Data → Result ⊤ Refused
 hart_checked i d = settings_of (at_position (codes "harts") i) d >>= λ s. script_items (at_position (codes "harts") i) d >>= λ items. Ok tt
 
 -- an operation of a script
-abbrev pub op_at : Room → List ℕ → ℕ → Data → Result Op Refused
-op_at room path i d = placed (at_position path i) (op_of room d)
+abbrev pub op_at : Counts → List ℕ → ℕ → Data → Result Op Refused
+op_at counts path i d = placed (at_position path i) (op_of counts d)
 
-abbrev pub script_at : Room → List ℕ → Items → Result (List Op) Refused
-script_at room path items = each (op_at room (under path (codes "script"))) 0 items
+abbrev pub script_at : Counts → List ℕ → Items → Result (List Op) Refused
+script_at counts path items = each (op_at counts (under path (codes "script"))) 0 items
 
 -- a hart with its operations
-unfoldable pub hart_of : Room → List ℕ → Data → Result HartSpec Refused
-hart_of room path d = do
+unfoldable pub hart_of : Counts → List ℕ → Data → Result HartSpec Refused
+hart_of counts path d = do
   s ← settings_of path d
   items ← script_items path d
-  script ← script_at room path items
+  script ← script_at counts path items
   Ok (record { mode = s.mode; menvcfg = s.menvcfg; senvcfg = s.senvcfg; script = script })
 
-abbrev pub hart_at : Room → ℕ → Data → Result HartSpec Refused
-hart_at room i d = hart_of room (at_position (codes "harts") i) d
+abbrev pub hart_at : Counts → ℕ → Data → Result HartSpec Refused
+hart_at counts i d = hart_of counts (at_position (codes "harts") i) d
 
 -- ---- buffers
 

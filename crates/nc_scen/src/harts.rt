@@ -11,7 +11,7 @@ ghost use Rattle.nc_scen.specs.Parts.{settings_of, script_items, hart_checked, o
 use crate::keys::{Keys, check_keys};
 use crate::scenario::HartSpec;
 use nc_env::Mode;
-use nc_ops::{Op, Ops, Room, read_op};
+use nc_ops::{Counts, Op, Ops, read_op};
 use nc_values::{OpFault, Path, ScenFault, list_at, mode_at, register_at};
 use serde_json::Value;
 use std::alloc::Global;
@@ -79,15 +79,15 @@ pub fn check_harts(alloc: Global, items: &[Value]) -> Result<(), ScenFault>
 /// The operation of this number of a script.
 fn read_op_at(
     alloc: Global,
-    room: Room,
+    counts: Counts,
     script: &Path,
     value: &Value,
     i: usize,
 ) -> Result<Op, ScenFault>
-    ensures gives { Gives (λ o. o) result (op_at room script.now i (view value.now)) }
-    ensures fits { IfOk result (FitsOp room.harts room.buffers) }
+    ensures gives { Gives (λ o. o) result (op_at counts script.now i (view value.now)) }
+    ensures fits { IfOk result (FitsOp counts.harts counts.buffers) }
 {
-    match read_op(alloc, room, value) {
+    match read_op(alloc, counts, value) {
         Ok(op) => Ok(op),
         Err(OpFault::NoMemory) => Err(ScenFault::NoMemory),
         Err(OpFault::Wrong(w)) => Err(w.at(script.position(alloc, i)?)),
@@ -95,38 +95,53 @@ fn read_op_at(
 }
 
 /// The operations of a script.
-fn read_script(alloc: Global, room: Room, path: &Path, items: &[Value]) -> Result<Ops, ScenFault>
-    ensures gives { Gives (λ o. o) result (script_at room path.now (items_view items.now)) }
-    ensures fits { IfOk result (λ o. All (FitsOp room.harts room.buffers) o) }
+fn read_script(
+    alloc: Global,
+    counts: Counts,
+    path: &Path,
+    items: &[Value],
+) -> Result<Ops, ScenFault>
+    ensures gives { Gives (λ o. o) result (script_at counts path.now (items_view items.now)) }
+    ensures fits { IfOk result (λ o. All (FitsOp counts.harts counts.buffers) o) }
     ensures same { IfOk result (λ o. length o ≡ length items.now) }
 {
     let script = path.under(alloc, "script")?;
-    let ops = read_ops(alloc, room, &script, items)?;
+    let ops = read_ops(alloc, counts, &script, items)?;
     Ok(Ops::new(ops))
 }
 
 /// The operations of a script whose path this is.
-fn read_ops(alloc: Global, room: Room, script: &Path, items: &[Value]) -> Result<Vec<Op>, ScenFault>
-    ensures gives { Gives (λ v. v.items) result (each (op_at room script.now) 0 (items_view items.now)) }
-    ensures fits { IfOk result (λ v. All (FitsOp room.harts room.buffers) v.items) }
+fn read_ops(
+    alloc: Global,
+    counts: Counts,
+    script: &Path,
+    items: &[Value],
+) -> Result<Vec<Op>, ScenFault>
+    ensures gives { Gives (λ v. v.items) result (each (op_at counts script.now) 0 (items_view items.now)) }
+    ensures fits { IfOk result (λ v. All (FitsOp counts.harts counts.buffers) v.items) }
     ensures same { IfOk result (λ v. length v.items ≡ length items.now) }
 {
     let mut ops = Vec::new(alloc);
     for (i, value) in items.iter().enumerate() {
-        let op = read_op_at(alloc, room, script, value, i)?;
+        let op = read_op_at(alloc, counts, script, value, i)?;
         ops.push(op)?;
     }
     Ok(ops)
 }
 
 #[tactic(auto, unfolding(crate::specs::Parts::hart_of))]
-fn read_hart(alloc: Global, room: Room, value: &Value, path: &Path) -> Result<HartSpec, ScenFault>
-    ensures gives { Gives (λ h. h) result (hart_of room path.now (view value.now)) }
-    ensures fits { IfOk result (FitsHart room.harts room.buffers) }
+fn read_hart(
+    alloc: Global,
+    counts: Counts,
+    value: &Value,
+    path: &Path,
+) -> Result<HartSpec, ScenFault>
+    ensures gives { Gives (λ h. h) result (hart_of counts path.now (view value.now)) }
+    ensures fits { IfOk result (FitsHart counts.harts counts.buffers) }
 {
     let settings = read_settings(alloc, value, path)?;
     let items = script_items(alloc, value, path)?;
-    let script = read_script(alloc, room, path, items)?;
+    let script = read_script(alloc, counts, path, items)?;
     Ok(HartSpec {
         mode: settings.mode,
         menvcfg: settings.menvcfg,
@@ -136,23 +151,32 @@ fn read_hart(alloc: Global, room: Room, value: &Value, path: &Path) -> Result<Ha
 }
 
 /// The hart of this number, with its operations.
-fn read_hart_at(alloc: Global, room: Room, value: &Value, i: usize) -> Result<HartSpec, ScenFault>
-    ensures gives { Gives (λ h. h) result (hart_at room i (view value.now)) }
-    ensures fits { IfOk result (FitsHart room.harts room.buffers) }
+fn read_hart_at(
+    alloc: Global,
+    counts: Counts,
+    value: &Value,
+    i: usize,
+) -> Result<HartSpec, ScenFault>
+    ensures gives { Gives (λ h. h) result (hart_at counts i (view value.now)) }
+    ensures fits { IfOk result (FitsHart counts.harts counts.buffers) }
 {
     let path = Path::of(alloc, "harts")?.position(alloc, i)?;
-    read_hart(alloc, room, value, &path)
+    read_hart(alloc, counts, value, &path)
 }
 
 /// The harts with their operations.
-pub fn read_harts(alloc: Global, room: Room, items: &[Value]) -> Result<Vec<HartSpec>, ScenFault>
-    ensures gives { Gives (λ v. v.items) result (each (hart_at room) 0 (items_view items.now)) }
-    ensures fits { IfOk result (λ v. All (FitsHart room.harts room.buffers) v.items) }
+pub fn read_harts(
+    alloc: Global,
+    counts: Counts,
+    items: &[Value],
+) -> Result<Vec<HartSpec>, ScenFault>
+    ensures gives { Gives (λ v. v.items) result (each (hart_at counts) 0 (items_view items.now)) }
+    ensures fits { IfOk result (λ v. All (FitsHart counts.harts counts.buffers) v.items) }
     ensures same { IfOk result (λ v. length v.items ≡ length items.now) }
 {
     let mut harts = Vec::new(alloc);
     for (i, value) in items.iter().enumerate() {
-        let hart = read_hart_at(alloc, room, value, i)?;
+        let hart = read_hart_at(alloc, counts, value, i)?;
         harts.push(hart)?;
     }
     Ok(harts)

@@ -19,7 +19,7 @@ use crate::regions::{
 use crate::scenario::{BufferSpecs, HartSpecs, Scenario, Words};
 use crate::schedule::{MOST_EVENTS, check_schedule, read_schedule};
 use nc_num::Span;
-use nc_ops::Room;
+use nc_ops::Counts;
 use nc_values::{Path, Refused, ScenFault, Wrong, list_at, most, number, placed, truth, value_of};
 use serde_json::Value;
 use std::alloc::Global;
@@ -153,11 +153,11 @@ fn harts_of(alloc: Global, land: &Land, items: &[Value]) -> Result<HartSpecs, Sc
     ensures fits { IfOk result (λ h. All (FitsHart (length items.now) (length land.now.buffers)) h) }
     ensures same { IfOk result (λ h. length h ≡ length items.now) }
 {
-    let room = Room {
+    let counts = Counts {
         harts: items.len() as u8,
         buffers: land.buffers.as_slice().len() as u8,
     };
-    let harts = read_harts(alloc, room, items)?;
+    let harts = read_harts(alloc, counts, items)?;
     Ok(HartSpecs::new(harts))
 }
 

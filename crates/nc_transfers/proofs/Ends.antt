@@ -4,7 +4,7 @@ use Rattle.nc_num.specs.declared.places.Span.{Span}
 use Rattle.nc_pdma.specs.declared.channel.ChanStep.{ChanStep}
 use Rattle.nc_pdma.specs.declared.channel.ChanStep.TheVariants.{Idle, Moved, Error}
 use Rattle.nc_pdma.specs.Channel.{ChannelState, IsChannel}
-use Rattle.nc_pdma.specs.Steps.{read_told, write_told}
+use Rattle.nc_pdma.specs.Steps.{read_step, write_step}
 use Rattle.nc_transfers.specs.Transfers.{Ends, AreEnds, IsSet, IsMoving, IsStarted, IsCopying}
 use Rattle.nc_transfers.specs.Laws.{CopiesStayWithin}
 use Rattle.nc_transfers.proofs.ReadSteps.{copies_read}
@@ -48,29 +48,29 @@ idle_moves t s bytes done idle is = let no : Idle ≡ Moved s bytes done = sym i
 idle_fails : (t : ChanStep) (bus len : ℕ) → t ≡ Idle → t ≡ Error bus len → ⊥
 idle_fails t bus len idle is = let no : Idle ≡ Error bus len = sym idle ∙ is in cc
 
-reads : (e : Ends) (f : List ℕ) (c : ChannelState) (d : ℕ) (ram : List ℕ) (s : Span) (bytes : List ℕ) (done : Bool) → d < 6 → IsChannel c → IsCopying e f d c → read_told c ram ≡ Moved s bytes done
+reads : (e : Ends) (f : List ℕ) (c : ChannelState) (d : ℕ) (ram : List ℕ) (s : Span) (bytes : List ℕ) (done : Bool) → d < 6 → IsChannel c → IsCopying e f d c → read_step c ram ≡ Moved s bytes done
     → (e.reads_at ≤ s.at) × (s.at + s.len ≤ e.reads_at + e.len)
 reads e f c d ram s bytes done lt sound h is = elim (stage e f c d lt h) [
-  | inl rests ↦ absurd (idle_moves (read_told c ram) s bytes done (copies_read.idle c ram rests) is)
+  | inl rests ↦ absurd (idle_moves (read_step c ram) s bytes done (copies_read.idle c ram rests) is)
   | inr on ↦ let r = copies_read.takes e f on.0 c ram s bytes done sound on.1 is in (omega (arith, r.here), r.inside)
 ]
 
-writes : (e : Ends) (f : List ℕ) (c : ChannelState) (d size : ℕ) (s : Span) (bytes : List ℕ) (done : Bool) → d < 6 → IsChannel c → IsCopying e f d c → write_told c size ≡ Moved s bytes done
+writes : (e : Ends) (f : List ℕ) (c : ChannelState) (d size : ℕ) (s : Span) (bytes : List ℕ) (done : Bool) → d < 6 → IsChannel c → IsCopying e f d c → write_step c size ≡ Moved s bytes done
     → (e.writes_at ≤ s.at) × (s.at + s.len ≤ e.writes_at + e.len)
 writes e f c d size s bytes done lt sound h is = elim (stage e f c d lt h) [
-  | inl rests ↦ absurd (idle_moves (write_told c size) s bytes done (copies_write.idle c size rests) is)
+  | inl rests ↦ absurd (idle_moves (write_step c size) s bytes done (copies_write.idle c size rests) is)
   | inr on ↦ let r = copies_write.gives e f on.0 c size s bytes done sound on.1 is in (omega (arith, r.here), r.inside)
 ]
 
-reads_no_error : (e : Ends) (f : List ℕ) (c : ChannelState) (d : ℕ) (ram : List ℕ) (bus len : ℕ) → d < 6 → AreEnds (length ram) e → IsCopying e f d c → read_told c ram ≡ Error bus len → ⊥
+reads_no_error : (e : Ends) (f : List ℕ) (c : ChannelState) (d : ℕ) (ram : List ℕ) (bus len : ℕ) → d < 6 → AreEnds (length ram) e → IsCopying e f d c → read_step c ram ≡ Error bus len → ⊥
 reads_no_error e f c d ram bus len lt are h is = elim (stage e f c d lt h) [
-  | inl rests ↦ idle_fails (read_told c ram) bus len (copies_read.idle c ram rests) is
+  | inl rests ↦ idle_fails (read_step c ram) bus len (copies_read.idle c ram rests) is
   | inr on ↦ copies_read.no_error e f on.0 c ram bus len are on.1 is
 ]
 
-writes_no_error : (e : Ends) (f : List ℕ) (c : ChannelState) (d size bus len : ℕ) → d < 6 → AreEnds size e → IsCopying e f d c → write_told c size ≡ Error bus len → ⊥
+writes_no_error : (e : Ends) (f : List ℕ) (c : ChannelState) (d size bus len : ℕ) → d < 6 → AreEnds size e → IsCopying e f d c → write_step c size ≡ Error bus len → ⊥
 writes_no_error e f c d size bus len lt are h is = elim (stage e f c d lt h) [
-  | inl rests ↦ idle_fails (write_told c size) bus len (copies_write.idle c size rests) is
+  | inl rests ↦ idle_fails (write_step c size) bus len (copies_write.idle c size rests) is
   | inr on ↦ copies_write.no_error e f on.0 c size bus len are on.1 is
 ]
 

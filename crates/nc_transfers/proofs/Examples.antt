@@ -8,7 +8,7 @@ use Rattle.nc_pdma_regs.specs.Moves.{written_on}
 use Rattle.nc_pdma_regs.specs.Writes.{control_write}
 use Rattle.nc_pdma.specs.declared.channel.ChanStep.TheVariants.{Moved}
 use Rattle.nc_pdma.specs.Channel.{ChannelState, channel_write, new_channel}
-use Rattle.nc_pdma.specs.Steps.{read_told, read_next, write_told, write_next}
+use Rattle.nc_pdma.specs.Steps.{read_step, read_next, write_step, write_next}
 use Rattle.nc_transfers.specs.Transfers.{Ends, AreEnds, next_set}
 
 abbrev ends : Ends
@@ -29,17 +29,17 @@ ram = replicate 32 0x11 ++ replicate 32 0x22
 set_is : set.regs.next ≡ next_set ends 4
 set_is = refl
 
-read_is : read_told (channel_write set 0 4 3) ram ≡ Moved (record { at = 0; len = 32 }) (replicate 32 0x11) false
-unfolding read_told control_write read_size span
+read_is : read_step (channel_write set 0 4 3) ram ≡ Moved (record { at = 0; len = 32 }) (replicate 32 0x11) false
+unfolding read_step control_write read_size span
 read_is = refl
 
 abbrev read : ChannelState
-read = read_next (channel_write set 0 4 3) (read_told (channel_write set 0 4 3) ram)
+read = read_next (channel_write set 0 4 3) (read_step (channel_write set 0 4 3) ram)
 
-write_is : write_told read 64 ≡ Moved (record { at = 32; len = 32 }) (replicate 32 0x11) true
-unfolding read_told write_told control_write read_size write_size span
+write_is : write_step read 64 ≡ Moved (record { at = 32; len = 32 }) (replicate 32 0x11) true
+unfolding read_step write_step control_write read_size write_size span
 write_is = refl
 
-control_is : number_of (write_next read (write_told read 64)).regs.control ≡ 0x40000001
-unfolding read_told write_told control_write written_on read_size write_size number_of span
+control_is : number_of (write_next read (write_step read 64)).regs.control ≡ 0x40000001
+unfolding read_step write_step control_write written_on read_size write_size number_of span
 control_is = refl

@@ -11,14 +11,14 @@ use Rattle.nc_pdma.specs.declared.channel.ChanStep.{ChanStep}
 use Rattle.nc_pdma.specs.declared.channel.ChanStep.TheVariants.{Idle, Moved, Error}
 use Rattle.nc_pdma.specs.Bus.{in_ram, place_of, ram_base}
 use Rattle.nc_pdma.specs.Channel.{ChannelState, IsChannel, to_read}
-use Rattle.nc_pdma.specs.Steps.{may_read, read_at, read_len, read_next, read_told}
+use Rattle.nc_pdma.specs.Steps.{may_read, read_at, read_len, read_next, read_step}
 use Rattle.nc_pdma.specs.Laws.{IsReadOf}
 use Rattle.nc_pdma.proofs.Transactions.{each_read}
 use Rattle.nc_transfers.specs.Transfers.{Ends, AreEnds, IsMoving}
 use Rattle.nc_transfers.specs.Bytes.{ShowsSource}
 use Rattle.nc_transfers.specs.Laws.{IsSourceRead, CopiesRead}
 
-takes : (e : Ends) (f : List ℕ) (w : ℕ) (c : ChannelState) (ram : List ℕ) (s : Span) (bytes : List ℕ) (done : Bool) → IsChannel c → IsMoving e f w c → read_told c ram ≡ Moved s bytes done → IsSourceRead e w c s done
+takes : (e : Ends) (f : List ℕ) (w : ℕ) (c : ChannelState) (ram : List ℕ) (s : Span) (bytes : List ℕ) (done : Bool) → IsChannel c → IsMoving e f w c → read_step c ram ≡ Moved s bytes done → IsSourceRead e w c s done
 takes e f w c ram s bytes done h m is =
     let r = each_read c ram s bytes done h is in
     record {
@@ -41,8 +41,8 @@ never : (c : ChannelState) (ram : List ℕ) (at bus len : ℕ) (b : Bool) → (i
 never c ram at bus len true is = cc
 never c ram at bus len false is = cc
 
-no_error : (e : Ends) (f : List ℕ) (w : ℕ) (c : ChannelState) (ram : List ℕ) (bus len : ℕ) → AreEnds (length ram) e → IsMoving e f w c → read_told c ram ≡ Error bus len → ⊥
-unfolding read_told
+no_error : (e : Ends) (f : List ℕ) (w : ℕ) (c : ChannelState) (ram : List ℕ) (bus len : ℕ) → AreEnds (length ram) e → IsMoving e f w c → read_step c ram ≡ Error bus len → ⊥
+unfolding read_step
 no_error e f w c ram bus len are m is =
     let few : read_len c ≤ to_read c = omega arith in
     let high : c.regs.exec.source + read_len c ≤ ram_base + length ram = omega (arith, few, m.source, m.bytes, m.within, m.left, are.reads) in
@@ -63,8 +63,8 @@ read_byte e f w c ram s bytes done i m r shows low high =
     ∙ shows (s.at + k) (omega arith) (omega (arith, low, high))
     ∙ ap (byte f) place
 
-moves : (e : Ends) (f : List ℕ) (w : ℕ) (c : ChannelState) (ram : List ℕ) (s : Span) (bytes : List ℕ) (done : Bool) → IsChannel c → IsMoving e f w c → read_told c ram ≡ Moved s bytes done → ShowsSource e f ram s
-    → IsMoving e f w (read_next c (read_told c ram))
+moves : (e : Ends) (f : List ℕ) (w : ℕ) (c : ChannelState) (ram : List ℕ) (s : Span) (bytes : List ℕ) (done : Bool) → IsChannel c → IsMoving e f w c → read_step c ram ≡ Moved s bytes done → ShowsSource e f ram s
+    → IsMoving e f w (read_next c (read_step c ram))
 moves e f w c ram s bytes done h m is shows =
     let r = each_read c ram s bytes done h is in
     let long : length bytes ≡ s.len = ap length r.bytes_are ∙ length-span ram s.at s.len r.span.inside in
@@ -93,8 +93,8 @@ idle_by : (c : ChannelState) (ram : List ℕ) (o : Option ℕ) (b : Bool) → b 
 idle_by c ram o true is = absurd (cc)
 idle_by c ram o false is = refl
 
-pub idle : (c : ChannelState) (ram : List ℕ) → c.regs.control.run ≡ false → read_told c ram ≡ Idle
-unfolding read_told
+pub idle : (c : ChannelState) (ram : List ℕ) → c.regs.control.run ≡ false → read_step c ram ≡ Idle
+unfolding read_step
 idle c ram is = idle_by c ram (place_of (length ram) c.regs.exec.source (read_len c)) (may_read c) (rw is refl)
 
 pub copies_read : CopiesRead

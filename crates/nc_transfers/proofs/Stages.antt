@@ -9,7 +9,7 @@ use Rattle.nc_plan.specs.declared.ops.IoTarget.TheVariants.{Reg}
 use Rattle.nc_pdma.specs.declared.channel.ChanStep.{ChanStep}
 use Rattle.nc_pdma.specs.declared.channel.ChanStep.TheVariants.{Idle, Moved, Error}
 use Rattle.nc_pdma.specs.Channel.{ChannelState, IsChannel, channel_write}
-use Rattle.nc_pdma.specs.Steps.{read_told, read_next, write_told, write_next}
+use Rattle.nc_pdma.specs.Steps.{read_step, read_next, write_step, write_next}
 use Rattle.nc_transfers.specs.Transfers.{Ends, AreEnds, register_stores, IsSet, IsMoving, IsMoved, IsStarted, IsCopied, IsCopying}
 use Rattle.nc_transfers.specs.Bytes.{ShowsSource, SameEnds}
 use Rattle.nc_transfers.specs.Laws.{IsFlatAfter, CopiesGoOn}
@@ -36,26 +36,26 @@ store e f c (suc (suc (suc (suc (suc (suc d)))))) chan named off width v some is
 -- ---- a read
 
 -- the channel after a read, by what was told
-moving_read : (e : Ends) (f : List ℕ) (w : ℕ) (c : ChannelState) (ram : List ℕ) (t : ChanStep) → read_told c ram ≡ t → AreEnds (length ram) e → IsChannel c → ((s : Span) (bytes : List ℕ) (done : Bool) → read_told c ram ≡ Moved s bytes done → ShowsSource e f ram s) → IsMoving e f w c
-    → IsMoving e f w (read_next c (read_told c ram))
+moving_read : (e : Ends) (f : List ℕ) (w : ℕ) (c : ChannelState) (ram : List ℕ) (t : ChanStep) → read_step c ram ≡ t → AreEnds (length ram) e → IsChannel c → ((s : Span) (bytes : List ℕ) (done : Bool) → read_step c ram ≡ Moved s bytes done → ShowsSource e f ram s) → IsMoving e f w c
+    → IsMoving e f w (read_next c (read_step c ram))
 moving_read e f w c ram Idle is are sound shows h = subst (λ (t : ChanStep). IsMoving e f w (read_next c t)) (sym is) h
 moving_read e f w c ram (Moved s bytes done) is are sound shows h = copies_read.moves e f w c ram s bytes done sound h is (shows s bytes done is)
 moving_read e f w c ram (Error bus len) is are sound shows h = absurd (copies_read.no_error e f w c ram bus len are h is)
 
-read_idle : (c : ChannelState) (ram : List ℕ) → c.regs.control.run ≡ false → c ≡ read_next c (read_told c ram)
+read_idle : (c : ChannelState) (ram : List ℕ) → c.regs.control.run ≡ false → c ≡ read_next c (read_step c ram)
 read_idle c ram is = sym (ap (read_next c) (copies_read.idle c ram is))
 
-set_read : (e : Ends) (k : ℕ) (c : ChannelState) (ram : List ℕ) → IsSet e k c → IsSet e k (read_next c (read_told c ram))
+set_read : (e : Ends) (k : ℕ) (c : ChannelState) (ram : List ℕ) → IsSet e k c → IsSet e k (read_next c (read_step c ram))
 set_read e k c ram h = subst (λ (d : ChannelState). IsSet e k d) (read_idle c ram h.idle) h
 
-read : (e : Ends) (f : List ℕ) (c : ChannelState) (d : ℕ) (ram : List ℕ) → d < 6 → AreEnds (length ram) e → IsChannel c → ((s : Span) (bytes : List ℕ) (done : Bool) → read_told c ram ≡ Moved s bytes done → ShowsSource e f ram s) → IsCopying e f d c
-    → IsCopying e f d (read_next c (read_told c ram))
+read : (e : Ends) (f : List ℕ) (c : ChannelState) (d : ℕ) (ram : List ℕ) → d < 6 → AreEnds (length ram) e → IsChannel c → ((s : Span) (bytes : List ℕ) (done : Bool) → read_step c ram ≡ Moved s bytes done → ShowsSource e f ram s) → IsCopying e f d c
+    → IsCopying e f d (read_next c (read_step c ram))
 read e f c zero ram lt are sound shows h = set_read e 0 c ram h
 read e f c (suc zero) ram lt are sound shows h = set_read e 1 c ram h
 read e f c (suc (suc zero)) ram lt are sound shows h = set_read e 2 c ram h
 read e f c (suc (suc (suc zero))) ram lt are sound shows h = set_read e 3 c ram h
 read e f c (suc (suc (suc (suc zero)))) ram lt are sound shows h = set_read e 4 c ram h
-read e f c (suc (suc (suc (suc (suc zero))))) ram lt are sound shows (inl on) = inl (on.0, moving_read e f on.0 c ram (read_told c ram) refl are sound shows on.1)
+read e f c (suc (suc (suc (suc (suc zero))))) ram lt are sound shows (inl on) = inl (on.0, moving_read e f on.0 c ram (read_step c ram) refl are sound shows on.1)
 read e f c (suc (suc (suc (suc (suc zero))))) ram lt are sound shows (inr h) = inr (subst (λ (d : ChannelState). IsMoved e f d) (read_idle c ram h.idle) h)
 read e f c (suc (suc (suc (suc (suc (suc d)))))) ram lt are sound shows h = absurd (omega (arith, lt))
 
@@ -105,30 +105,30 @@ stays e f g c (suc (suc (suc (suc (suc (suc d)))))) same h = copied_stays e f g 
 
 -- ---- a write
 
-moving_write : (e : Ends) (f g : List ℕ) (w : ℕ) (c : ChannelState) (size : ℕ) (t : ChanStep) → write_told c size ≡ t → AreEnds size e → IsChannel c → IsFlatAfter e f g t → IsMoving e f w c → IsStarted e g (write_next c (write_told c size))
+moving_write : (e : Ends) (f g : List ℕ) (w : ℕ) (c : ChannelState) (size : ℕ) (t : ChanStep) → write_step c size ≡ t → AreEnds size e → IsChannel c → IsFlatAfter e f g t → IsMoving e f w c → IsStarted e g (write_next c (write_step c size))
 moving_write e f g w c size Idle is are sound after h = inl (w, subst (λ (t : ChanStep). IsMoving e g w (write_next c t)) (sym is) (moving_stays e f g w c after h))
 moving_write e f g w c size (Moved s bytes true) is are sound after h = inr (copies_write.ends e f g w c size s bytes are sound h is after)
 moving_write e f g w c size (Moved s bytes false) is are sound after h = inl (w + s.len, copies_write.moves e f g w c size s bytes are sound h is after)
 moving_write e f g w c size (Error bus len) is are sound after h = absurd (copies_write.no_error e f w c size bus len are h is)
 
-write_idle : (c : ChannelState) (size : ℕ) → c.regs.control.run ≡ false → c ≡ write_next c (write_told c size)
+write_idle : (c : ChannelState) (size : ℕ) → c.regs.control.run ≡ false → c ≡ write_next c (write_step c size)
 write_idle c size is = sym (ap (write_next c) (copies_write.idle c size is))
 
-set_write : (e : Ends) (k : ℕ) (c : ChannelState) (size : ℕ) → IsSet e k c → IsSet e k (write_next c (write_told c size))
+set_write : (e : Ends) (k : ℕ) (c : ChannelState) (size : ℕ) → IsSet e k c → IsSet e k (write_next c (write_step c size))
 set_write e k c size h = subst (λ (d : ChannelState). IsSet e k d) (write_idle c size h.idle) h
 
-moved_write : (e : Ends) (f g : List ℕ) (c : ChannelState) (size : ℕ) → IsFlatAfter e f g (write_told c size) → IsMoved e f c → IsMoved e g (write_next c (write_told c size))
+moved_write : (e : Ends) (f g : List ℕ) (c : ChannelState) (size : ℕ) → IsFlatAfter e f g (write_step c size) → IsMoved e f c → IsMoved e g (write_next c (write_step c size))
 moved_write e f g c size after h =
     let same : SameEnds e f g = subst (λ (t : ChanStep). IsFlatAfter e f g t) (copies_write.idle c size h.idle) after in
     subst (λ (d : ChannelState). IsMoved e g d) (write_idle c size h.idle) (moved_stays e f g c same h)
 
-write : (e : Ends) (f g : List ℕ) (c : ChannelState) (d size : ℕ) → d < 6 → AreEnds size e → IsChannel c → IsFlatAfter e f g (write_told c size) → IsCopying e f d c → IsCopying e g d (write_next c (write_told c size))
+write : (e : Ends) (f g : List ℕ) (c : ChannelState) (d size : ℕ) → d < 6 → AreEnds size e → IsChannel c → IsFlatAfter e f g (write_step c size) → IsCopying e f d c → IsCopying e g d (write_next c (write_step c size))
 write e f g c zero size lt are sound after h = set_write e 0 c size h
 write e f g c (suc zero) size lt are sound after h = set_write e 1 c size h
 write e f g c (suc (suc zero)) size lt are sound after h = set_write e 2 c size h
 write e f g c (suc (suc (suc zero))) size lt are sound after h = set_write e 3 c size h
 write e f g c (suc (suc (suc (suc zero)))) size lt are sound after h = set_write e 4 c size h
-write e f g c (suc (suc (suc (suc (suc zero))))) size lt are sound after (inl on) = moving_write e f g on.0 c size (write_told c size) refl are sound after on.1
+write e f g c (suc (suc (suc (suc (suc zero))))) size lt are sound after (inl on) = moving_write e f g on.0 c size (write_step c size) refl are sound after on.1
 write e f g c (suc (suc (suc (suc (suc zero))))) size lt are sound after (inr h) = inr (moved_write e f g c size after h)
 write e f g c (suc (suc (suc (suc (suc (suc d)))))) size lt are sound after h = absurd (omega (arith, lt))
 

@@ -13,7 +13,7 @@ use Rattle.nc_pdma.specs.declared.channel.ChanStep.{ChanStep}
 use Rattle.nc_pdma.specs.declared.channel.ChanStep.TheVariants.{Idle, Moved, Error}
 use Rattle.nc_pdma.specs.Bus.{place_of, ram_base}
 use Rattle.nc_pdma.specs.Channel.{ChannelState, IsChannel}
-use Rattle.nc_pdma.specs.Steps.{may_write, write_at, write_len, write_next, write_told}
+use Rattle.nc_pdma.specs.Steps.{may_write, write_at, write_len, write_next, write_step}
 use Rattle.nc_pdma.specs.Laws.{IsWriteOf}
 use Rattle.nc_pdma.proofs.Transactions.{each_write}
 use Rattle.nc_transfers.specs.Transfers.{Ends, AreEnds, IsMoving, IsMoved}
@@ -29,7 +29,7 @@ last_is left n is le = grind (arith, nat_tests)
 more_is : (left n : ℕ) → (left - n == 0) ≡ false → n < left
 more_is left n is = grind (arith, nat_tests)
 
-gives : (e : Ends) (f : List ℕ) (w : ℕ) (c : ChannelState) (size : ℕ) (s : Span) (bytes : List ℕ) (done : Bool) → IsChannel c → IsMoving e f w c → write_told c size ≡ Moved s bytes done → IsTargetWrite e w s bytes done
+gives : (e : Ends) (f : List ℕ) (w : ℕ) (c : ChannelState) (size : ℕ) (s : Span) (bytes : List ℕ) (done : Bool) → IsChannel c → IsMoving e f w c → write_step c size ≡ Moved s bytes done → IsTargetWrite e w s bytes done
 gives e f w c size s bytes done h m is =
     let r = each_write c size s bytes done h is in
     let fits : s.len ≤ e.len - w = omega (arith, r.in_fifo, m.within, m.left) in
@@ -49,8 +49,8 @@ never : (c : ChannelState) (at bus len : ℕ) (b : Bool) → (if b then write_at
 never c at bus len true is = cc
 never c at bus len false is = cc
 
-no_error : (e : Ends) (f : List ℕ) (w : ℕ) (c : ChannelState) (size bus len : ℕ) → AreEnds size e → IsMoving e f w c → write_told c size ≡ Error bus len → ⊥
-unfolding write_told
+no_error : (e : Ends) (f : List ℕ) (w : ℕ) (c : ChannelState) (size bus len : ℕ) → AreEnds size e → IsMoving e f w c → write_step c size ≡ Error bus len → ⊥
+unfolding write_step
 no_error e f w c size bus len are m is =
     let few : write_len c ≤ length c.fifo = omega arith in
     let high : c.regs.exec.destination + write_len c ≤ ram_base + size = omega (arith, few, m.destination, m.within, are.writes) in
@@ -95,8 +95,8 @@ more_on : (r : Registers) (n : ℕ) → (r.exec.bytes - n == 0) ≡ false → wr
 unfolding written_on
 more_on r n is = rw is refl
 
-moves : (e : Ends) (f g : List ℕ) (w : ℕ) (c : ChannelState) (size : ℕ) (s : Span) (bytes : List ℕ) → AreEnds size e → IsChannel c → IsMoving e f w c → write_told c size ≡ Moved s bytes false → GetsBytes e f g s bytes
-    → IsMoving e g (w + s.len) (write_next c (write_told c size))
+moves : (e : Ends) (f g : List ℕ) (w : ℕ) (c : ChannelState) (size : ℕ) (s : Span) (bytes : List ℕ) → AreEnds size e → IsChannel c → IsMoving e f w c → write_step c size ≡ Moved s bytes false → GetsBytes e f g s bytes
+    → IsMoving e g (w + s.len) (write_next c (write_step c size))
 moves e f g w c size s bytes are h m is gets =
     let r = each_write c size s bytes false h is in
     let more = (gives e f w c size s bytes false h m is).more refl in
@@ -129,8 +129,8 @@ done_on : (r : Registers) (n : ℕ) → (r.exec.bytes - n == 0) ≡ true → rep
 unfolding written_on
 done_on r n is once = rw is (finished_is r n once)
 
-ends : (e : Ends) (f g : List ℕ) (w : ℕ) (c : ChannelState) (size : ℕ) (s : Span) (bytes : List ℕ) → AreEnds size e → IsChannel c → IsMoving e f w c → write_told c size ≡ Moved s bytes true → GetsBytes e f g s bytes
-    → IsMoved e g (write_next c (write_told c size))
+ends : (e : Ends) (f g : List ℕ) (w : ℕ) (c : ChannelState) (size : ℕ) (s : Span) (bytes : List ℕ) → AreEnds size e → IsChannel c → IsMoving e f w c → write_step c size ≡ Moved s bytes true → GetsBytes e f g s bytes
+    → IsMoved e g (write_next c (write_step c size))
 ends e f g w c size s bytes are h m is gets =
     let r = each_write c size s bytes true h is in
     let last = (gives e f w c size s bytes true h m is).last refl in
@@ -152,8 +152,8 @@ idle_by : (c : ChannelState) (o : Option ℕ) (b : Bool) → b ≡ false → (if
 idle_by c o true is = absurd (cc)
 idle_by c o false is = refl
 
-pub idle : (c : ChannelState) (size : ℕ) → c.regs.control.run ≡ false → write_told c size ≡ Idle
-unfolding write_told
+pub idle : (c : ChannelState) (size : ℕ) → c.regs.control.run ≡ false → write_step c size ≡ Idle
+unfolding write_step
 idle c size is = idle_by c (place_of size c.regs.exec.destination (write_len c)) (may_write c) (rw is refl)
 
 pub copies_write : CopiesWrite

@@ -12,7 +12,7 @@ use Rattle.nc_pdma_regs.specs.Laws.{claimed}
 use Rattle.nc_pdma.specs.declared.channel.ChanStep.{ChanStep}
 use Rattle.nc_pdma.specs.declared.channel.ChanStep.TheVariants.{Idle, Moved, Error}
 use Rattle.nc_pdma.specs.Channel.{ChannelState, IsChannel, channel_write}
-use Rattle.nc_pdma.specs.Steps.{read_told, read_next, write_told, write_next}
+use Rattle.nc_pdma.specs.Steps.{read_step, read_next, write_step, write_next}
 use Rattle.nc_transfers.specs.Transfers.{Ends, AreEnds, register_stores, IsSet, IsMoving, IsMoved, IsStarted, IsFree, IsCopying}
 use Rattle.nc_transfers.specs.Bytes.{ShowsSource, GetsBytes, SameEnds}
 
@@ -38,11 +38,11 @@ pub record IsSourceRead (e : Ends) (w : ℕ) (c : ChannelState) (s : Span) (done
   pub not_done : done ≡ false
 
 pub record CopiesRead : Type 0 where
-  pub takes : (e : Ends) (f : List ℕ) (w : ℕ) (c : ChannelState) (ram : List ℕ) (s : Span) (bytes : List ℕ) (done : Bool) → IsChannel c → IsMoving e f w c → read_told c ram ≡ Moved s bytes done → IsSourceRead e w c s done
-  pub no_error : (e : Ends) (f : List ℕ) (w : ℕ) (c : ChannelState) (ram : List ℕ) (bus len : ℕ) → AreEnds (length ram) e → IsMoving e f w c → read_told c ram ≡ Error bus len → ⊥
-  pub moves : (e : Ends) (f : List ℕ) (w : ℕ) (c : ChannelState) (ram : List ℕ) (s : Span) (bytes : List ℕ) (done : Bool) → IsChannel c → IsMoving e f w c → read_told c ram ≡ Moved s bytes done → ShowsSource e f ram s
-      → IsMoving e f w (read_next c (read_told c ram))
-  pub idle : (c : ChannelState) (ram : List ℕ) → c.regs.control.run ≡ false → read_told c ram ≡ Idle
+  pub takes : (e : Ends) (f : List ℕ) (w : ℕ) (c : ChannelState) (ram : List ℕ) (s : Span) (bytes : List ℕ) (done : Bool) → IsChannel c → IsMoving e f w c → read_step c ram ≡ Moved s bytes done → IsSourceRead e w c s done
+  pub no_error : (e : Ends) (f : List ℕ) (w : ℕ) (c : ChannelState) (ram : List ℕ) (bus len : ℕ) → AreEnds (length ram) e → IsMoving e f w c → read_step c ram ≡ Error bus len → ⊥
+  pub moves : (e : Ends) (f : List ℕ) (w : ℕ) (c : ChannelState) (ram : List ℕ) (s : Span) (bytes : List ℕ) (done : Bool) → IsChannel c → IsMoving e f w c → read_step c ram ≡ Moved s bytes done → ShowsSource e f ram s
+      → IsMoving e f w (read_next c (read_step c ram))
+  pub idle : (c : ChannelState) (ram : List ℕ) → c.regs.control.run ≡ false → read_step c ram ≡ Idle
 
 -- ---- writes
 
@@ -56,13 +56,13 @@ pub record IsTargetWrite (e : Ends) (w : ℕ) (s : Span) (bytes : List ℕ) (don
   pub more : done ≡ false → w + s.len < e.len
 
 pub record CopiesWrite : Type 0 where
-  pub gives : (e : Ends) (f : List ℕ) (w : ℕ) (c : ChannelState) (size : ℕ) (s : Span) (bytes : List ℕ) (done : Bool) → IsChannel c → IsMoving e f w c → write_told c size ≡ Moved s bytes done → IsTargetWrite e w s bytes done
-  pub no_error : (e : Ends) (f : List ℕ) (w : ℕ) (c : ChannelState) (size bus len : ℕ) → AreEnds size e → IsMoving e f w c → write_told c size ≡ Error bus len → ⊥
-  pub moves : (e : Ends) (f g : List ℕ) (w : ℕ) (c : ChannelState) (size : ℕ) (s : Span) (bytes : List ℕ) → AreEnds size e → IsChannel c → IsMoving e f w c → write_told c size ≡ Moved s bytes false → GetsBytes e f g s bytes
-      → IsMoving e g (w + s.len) (write_next c (write_told c size))
-  pub ends : (e : Ends) (f g : List ℕ) (w : ℕ) (c : ChannelState) (size : ℕ) (s : Span) (bytes : List ℕ) → AreEnds size e → IsChannel c → IsMoving e f w c → write_told c size ≡ Moved s bytes true → GetsBytes e f g s bytes
-      → IsMoved e g (write_next c (write_told c size))
-  pub idle : (c : ChannelState) (size : ℕ) → c.regs.control.run ≡ false → write_told c size ≡ Idle
+  pub gives : (e : Ends) (f : List ℕ) (w : ℕ) (c : ChannelState) (size : ℕ) (s : Span) (bytes : List ℕ) (done : Bool) → IsChannel c → IsMoving e f w c → write_step c size ≡ Moved s bytes done → IsTargetWrite e w s bytes done
+  pub no_error : (e : Ends) (f : List ℕ) (w : ℕ) (c : ChannelState) (size bus len : ℕ) → AreEnds size e → IsMoving e f w c → write_step c size ≡ Error bus len → ⊥
+  pub moves : (e : Ends) (f g : List ℕ) (w : ℕ) (c : ChannelState) (size : ℕ) (s : Span) (bytes : List ℕ) → AreEnds size e → IsChannel c → IsMoving e f w c → write_step c size ≡ Moved s bytes false → GetsBytes e f g s bytes
+      → IsMoving e g (w + s.len) (write_next c (write_step c size))
+  pub ends : (e : Ends) (f g : List ℕ) (w : ℕ) (c : ChannelState) (size : ℕ) (s : Span) (bytes : List ℕ) → AreEnds size e → IsChannel c → IsMoving e f w c → write_step c size ≡ Moved s bytes true → GetsBytes e f g s bytes
+      → IsMoved e g (write_next c (write_step c size))
+  pub idle : (c : ChannelState) (size : ℕ) → c.regs.control.run ≡ false → write_step c size ≡ Idle
 
 -- ---- what Control tells, and the release
 
@@ -88,9 +88,9 @@ pub record CopiesGoOn : Type 0 where
       transfer chan src dst cfg ≡ ops (take 5 (register_stores chan e)) ++ Poll ∷ ops (drop 5 (register_stores chan e))
   pub store : (e : Ends) (f : List ℕ) (c : ChannelState) (d : ℕ) (chan named : ChanNo) (off width v : ℕ) → 0 < e.len → slice_get (register_stores chan e) d ≡ Some (IoStore (Reg named off width v)) → (d ≡ 5 → IsMoved e f c) → IsCopying e f d c
       → IsCopying e f (suc d) (channel_write c off width v)
-  pub read : (e : Ends) (f : List ℕ) (c : ChannelState) (d : ℕ) (ram : List ℕ) → d < 6 → AreEnds (length ram) e → IsChannel c → ((s : Span) (bytes : List ℕ) (done : Bool) → read_told c ram ≡ Moved s bytes done → ShowsSource e f ram s) → IsCopying e f d c
-      → IsCopying e f d (read_next c (read_told c ram))
-  pub write : (e : Ends) (f g : List ℕ) (c : ChannelState) (d size : ℕ) → d < 6 → AreEnds size e → IsChannel c → IsFlatAfter e f g (write_told c size) → IsCopying e f d c → IsCopying e g d (write_next c (write_told c size))
+  pub read : (e : Ends) (f : List ℕ) (c : ChannelState) (d : ℕ) (ram : List ℕ) → d < 6 → AreEnds (length ram) e → IsChannel c → ((s : Span) (bytes : List ℕ) (done : Bool) → read_step c ram ≡ Moved s bytes done → ShowsSource e f ram s) → IsCopying e f d c
+      → IsCopying e f d (read_next c (read_step c ram))
+  pub write : (e : Ends) (f g : List ℕ) (c : ChannelState) (d size : ℕ) → d < 6 → AreEnds size e → IsChannel c → IsFlatAfter e f g (write_step c size) → IsCopying e f d c → IsCopying e g d (write_next c (write_step c size))
   -- a change of flat memory elsewhere leaves each stage
   pub stays : (e : Ends) (f g : List ℕ) (c : ChannelState) (d : ℕ) → SameEnds e f g → IsCopying e f d c → IsCopying e g d c
 
@@ -100,9 +100,9 @@ pub record CopiesStayWithin : Type 0 where
   -- it runs after the start alone
   pub idle : (e : Ends) (f : List ℕ) (c : ChannelState) (d : ℕ) → d < 5 → IsCopying e f d c → c.regs.control.run ≡ false
   -- what it reads and writes is of the ends, and in RAM
-  pub reads : (e : Ends) (f : List ℕ) (c : ChannelState) (d : ℕ) (ram : List ℕ) (s : Span) (bytes : List ℕ) (done : Bool) → d < 6 → IsChannel c → IsCopying e f d c → read_told c ram ≡ Moved s bytes done
+  pub reads : (e : Ends) (f : List ℕ) (c : ChannelState) (d : ℕ) (ram : List ℕ) (s : Span) (bytes : List ℕ) (done : Bool) → d < 6 → IsChannel c → IsCopying e f d c → read_step c ram ≡ Moved s bytes done
       → (e.reads_at ≤ s.at) × (s.at + s.len ≤ e.reads_at + e.len)
-  pub writes : (e : Ends) (f : List ℕ) (c : ChannelState) (d size : ℕ) (s : Span) (bytes : List ℕ) (done : Bool) → d < 6 → IsChannel c → IsCopying e f d c → write_told c size ≡ Moved s bytes done
+  pub writes : (e : Ends) (f : List ℕ) (c : ChannelState) (d size : ℕ) (s : Span) (bytes : List ℕ) (done : Bool) → d < 6 → IsChannel c → IsCopying e f d c → write_step c size ≡ Moved s bytes done
       → (e.writes_at ≤ s.at) × (s.at + s.len ≤ e.writes_at + e.len)
-  pub reads_no_error : (e : Ends) (f : List ℕ) (c : ChannelState) (d : ℕ) (ram : List ℕ) (bus len : ℕ) → d < 6 → AreEnds (length ram) e → IsCopying e f d c → read_told c ram ≡ Error bus len → ⊥
-  pub writes_no_error : (e : Ends) (f : List ℕ) (c : ChannelState) (d size bus len : ℕ) → d < 6 → AreEnds size e → IsCopying e f d c → write_told c size ≡ Error bus len → ⊥
+  pub reads_no_error : (e : Ends) (f : List ℕ) (c : ChannelState) (d : ℕ) (ram : List ℕ) (bus len : ℕ) → d < 6 → AreEnds (length ram) e → IsCopying e f d c → read_step c ram ≡ Error bus len → ⊥
+  pub writes_no_error : (e : Ends) (f : List ℕ) (c : ChannelState) (d size bus len : ℕ) → d < 6 → AreEnds size e → IsCopying e f d c → write_step c size ≡ Error bus len → ⊥

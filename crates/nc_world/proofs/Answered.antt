@@ -87,12 +87,12 @@ evict_same m n h b (Some bus) e state = tt
 
 -- ---- channels
 
-read_by : (c : ChannelState) (ram : List ℕ) (t : ChanStep) → IsChannel c → channels.read_told c ram ≡ t → IsTransactionIn (length ram) t
+read_by : (c : ChannelState) (ram : List ℕ) (t : ChanStep) → IsChannel c → channels.read_step c ram ≡ t → IsTransactionIn (length ram) t
 read_by c ram Idle is e = tt
 read_by c ram (Moved span bytes done) is e = let r = each_read c ram span bytes done is e in record { some = r.span.some; inside = r.span.inside }
 read_by c ram (Error bus len) is e = tt
 
-write_by : (c : ChannelState) (size : ℕ) (t : ChanStep) → IsChannel c → channels.write_told c size ≡ t → IsTransactionIn size t
+write_by : (c : ChannelState) (size : ℕ) (t : ChanStep) → IsChannel c → channels.write_step c size ≡ t → IsTransactionIn size t
 write_by c size Idle is e = tt
 write_by c size (Moved span bytes done) is e = let w = each_write c size span bytes done is e in record { some = w.span.some; inside = w.span.inside }
 write_by c size (Error bus len) is e = tt

@@ -194,7 +194,7 @@ pub(crate) fn evict(machine: &mut Machine, h: HartNo, b: Block) -> Option<BusLis
 pub(crate) fn chan_read(machine: &mut Machine, c: ChanNo) -> ChanStep
     requires { c.0 < 4 }
     ensures state { machine.new.machine ≡ chan_read_next machine.old.machine c.0 }
-    ensures told { result ≡ chan_read_step machine.old.machine c.0 }
+    ensures step { result ≡ chan_read_step machine.old.machine c.0 }
     ensures inside { IsTransactionIn (length machine.old.machine.cache.ram) result }
     ensures same { IsTrue (is_idle_step result) → machine.new.machine ≡ machine.old.machine }
     ensures shape { SameShape machine.old.machine machine.new.machine }
@@ -208,7 +208,7 @@ pub(crate) fn chan_read(machine: &mut Machine, c: ChanNo) -> ChanStep
 pub(crate) fn chan_write(machine: &mut Machine, c: ChanNo) -> ChanStep
     requires { c.0 < 4 }
     ensures state { machine.new.machine ≡ chan_write_next machine.old.machine c.0 }
-    ensures told { result ≡ chan_write_step machine.old.machine c.0 }
+    ensures step { result ≡ chan_write_step machine.old.machine c.0 }
     ensures inside { IsTransactionIn (length machine.old.machine.cache.ram) result }
     ensures same { IsTrue (is_idle_step result) → machine.new.machine ≡ machine.old.machine }
     ensures shape { SameShape machine.old.machine machine.new.machine }

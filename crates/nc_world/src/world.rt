@@ -184,7 +184,7 @@ impl World {
         requires { h.0 < length self.now.state.machine.harts }
         ensures { result ≡ searching (driver_of self.now.state h.0) }
     {
-        match self.coming(h) {
+        match self.next_action(h) {
             Next::Search(k) => Some(k),
             Next::End
             | Next::Start
@@ -277,18 +277,18 @@ impl World {
         moves_may_be_made();
     }
 
-    /// What the driver of hart h does next.
-    fn coming(&self, h: HartNo) -> Next
+    /// What the driver of hart h does next: it names what is there.
+    fn next_action(&self, h: HartNo) -> Next
         requires { h.0 < length self.now.state.machine.harts }
         ensures next { result ≡ next_of (driver_of self.now.state h.0) }
         ensures there { NextFits self.now.state.machine h.0 result }
     {
         self.sound();
-        self.ahead(h)
+        self.next_of(h)
     }
 
-    /// What comes next of the driver of hart h.
-    fn ahead(&self, h: HartNo) -> Next
+    /// What the driver of hart h does next.
+    fn next_of(&self, h: HartNo) -> Next
         requires { h.0 < length self.now.state.machine.harts }
         ensures { result ≡ next_of (driver_of self.now.state h.0) }
     {
@@ -463,7 +463,7 @@ impl World {
         ensures err { OnErr result (self.new ≡ self.old) }
     {
         self.laws();
-        let next = self.coming(h);
+        let next = self.next_action(h);
         if !self.may_issue(h, &next) {
             return Ok(Stepped::Skipped);
         }

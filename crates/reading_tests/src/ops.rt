@@ -1,14 +1,14 @@
 //! What no clause says: that each operation is read from the written form, and that shapes come before limits. The
 //! values are worked by hand; the two limits of each argument stand in nc_scen's table.
 
-use nc_ops::{Room, read_op};
+use nc_ops::{Counts, read_op};
 use nc_values::value_of;
 use std::alloc::Global;
 use std::process::Abort;
 use std::test::Fail;
 
 /// Two harts, three buffers.
-const ROOM: Room = Room {
+const COUNTS: Counts = Counts {
     harts: 2,
     buffers: 3,
 };
@@ -18,7 +18,7 @@ fn answer(alloc: Global, text: &str) -> Result<String, Fail> {
     let Ok(value) = value_of(alloc, text.as_bytes()) else {
         return Ok(String::from_str(alloc, "no JSON")?);
     };
-    let text = match read_op(alloc, ROOM, &value) {
+    let text = match read_op(alloc, COUNTS, &value) {
         Ok(op) => format!(in alloc; "{op:?}")?,
         Err(fault) => format!(in alloc; "{fault:?}")?,
     };

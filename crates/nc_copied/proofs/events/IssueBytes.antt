@@ -12,7 +12,7 @@ use Rattle.nc_queue.specs.declared.entry.Entry.TheVariants as entries
 use Rattle.nc_plan.specs.declared.ops.HartOp.{HartOp}
 use Rattle.nc_plan.specs.declared.ops.HartOp.TheVariants as hart
 use Rattle.nc_hart.specs.Issue.{marks, payload}
-use Rattle.nc_model.specs.Flat.{Mark, Did, named}
+use Rattle.nc_model.specs.Flat.{TraceItem, Did, named}
 use Rattle.nc_model.specs.declared.deeds.Deed.TheVariants.{Read}
 use Rattle.nc_model.specs.declared.owners.Access.TheVariants as accesses
 use Rattle.nc_model.specs.declared.owners.Grant.{Grant}
@@ -27,7 +27,7 @@ use Rattle.nc_rules.specs.declared.steps.Phase.TheVariants.{Steps, Search, Work}
 use Rattle.nc_rules.specs.declared.steps.Step.{Step}
 use Rattle.nc_rules.specs.Calls.{load_transfers}
 use Rattle.nc_rules.specs.Driver.{DriverState, in_hand, next_of, next_of_op, next_in, next_act, next_rest, is_script}
-use Rattle.nc_rules.specs.Flat.{all_marks}
+use Rattle.nc_rules.specs.Flat.{records_trace}
 use Rattle.nc_rules.specs.Machine.{MachineState, hart_of}
 use Rattle.nc_rules.specs.Records.{transfer_records, op_records, load_record}
 use Rattle.nc_rules.specs.Sound.{OpIsThere}
@@ -38,12 +38,12 @@ use Rattle.nc_flatness.specs.Books.{book_of}
 use Rattle.nc_flatness.specs.Copying.{IsItsOwn}
 use Rattle.nc_flatness.specs.Flatness.{Flatness}
 use Rattle.nc_flatness.proofs.worlds.FlatBytes.{byte_stored, byte_zeroed}
-use Rattle.nc_flatness.proofs.worlds.Marks.{append_none, marks-append, transfers_silent, fence_silent}
+use Rattle.nc_flatness.proofs.worlds.Trace.{append_none, trace-append, transfers_silent, fence_silent}
 use Rattle.nc_flat_scripts.specs.Entering.{GivesOwn}
 use Rattle.nc_flat_scripts.proofs.accesses.ActRows.{not_anothers}
 use Rattle.nc_flat_scripts.proofs.accesses.OwnPlaces.{own_piece, store_own, zero_own}
 use Rattle.nc_flat_scripts.proofs.accesses.ScriptEvents.{IsHere, next_there}
-use Rattle.nc_copied.proofs.events.EventMarks.{Leaves, leaves_as}
+use Rattle.nc_copied.proofs.events.EventTrace.{Leaves, leaves_as}
 use Rattle.nc_copied.proofs.events.ZeroSteps.{zeroes, zero_of, zero_apart}
 
 -- ---- a write
@@ -55,13 +55,13 @@ given_not sc f w g h e x ne gives own = elim (gives x) [
   | inr mine ↦ absurd (not_anothers (book_of w) g h (owner_of w x) ne own mine)
 ]
 
-read_leaves : (f : List ℕ) (m : MachineState) (grants : List Grant) (rs : List Record) (ms : List Mark) (x : ℕ) → all_marks m.size grants rs ≡ [] → (r : Record) → all_marks m.size grants (r ∷ []) ≡ ms → Leaves f ms x → Leaves f (all_marks m.size grants (rs ++ r ∷ [])) x
+read_leaves : (f : List ℕ) (m : MachineState) (grants : List Grant) (rs : List Record) (ms : List TraceItem) (x : ℕ) → records_trace m.size grants rs ≡ [] → (r : Record) → records_trace m.size grants (r ∷ []) ≡ ms → Leaves f ms x → Leaves f (records_trace m.size grants (rs ++ r ∷ [])) x
 read_leaves f m grants rs ms x silent r is left =
-    leaves_as f (all_marks m.size grants (rs ++ r ∷ [])) ms x (marks-append m.size grants rs (r ∷ []) ∙ ap (λ (ns : List Mark). ns ++ all_marks m.size grants (r ∷ [])) silent ∙ is) left
+    leaves_as f (records_trace m.size grants (rs ++ r ∷ [])) ms x (trace-append m.size grants rs (r ∷ []) ∙ ap (λ (ns : List TraceItem). ns ++ records_trace m.size grants (r ∷ [])) silent ∙ is) left
 
 -- ---- a script's operation
 
-script_leaves : (sc : Scenario) (f : List ℕ) (w : WorldState) (g : HartNo) (h x : ℕ) (op : HartOp) → Flatness sc f w → OpIsThere w.machine g.0 op → op_touch w g op ≡ None → h ≢ g.0 → IsItsOwn h (owner_of w x) → Leaves f (all_marks w.machine.size w.grants (op_records w.machine g true op)) x
+script_leaves : (sc : Scenario) (f : List ℕ) (w : WorldState) (g : HartNo) (h x : ℕ) (op : HartOp) → Flatness sc f w → OpIsThere w.machine g.0 op → op_touch w g op ≡ None → h ≢ g.0 → IsItsOwn h (owner_of w x) → Leaves f (records_trace w.machine.size w.grants (op_records w.machine g true op)) x
 unfolding op_touch op_records
 script_leaves sc f w g h x (hart.Load span kind) flat there none ne own =
     let m = w.machine in
@@ -88,7 +88,7 @@ script_leaves sc f w g h x (hart.Mark pred succ) flat there none ne own = refl
 
 -- its zeros are of no place of a copy
 plan_leaves : (sc : Scenario) (f : List ℕ) (w : WorldState) (g : HartNo) (x : ℕ) (op : HartOp) → Flatness sc f w → OpIsThere w.machine g.0 op → ((block : Block) → op ≡ hart.Cbo cbos.Zero block → x / w.machine.size ≡ block.0 → ⊥)
-    → Leaves f (all_marks w.machine.size w.grants (op_records w.machine g false op)) x
+    → Leaves f (records_trace w.machine.size w.grants (op_records w.machine g false op)) x
 unfolding op_records
 plan_leaves sc f w g x (hart.Load span kind) flat there off =
     let m = w.machine in
@@ -145,7 +145,7 @@ zero_far sc f w g h x op o block here hand phase first own zero met =
     zero_apart sc f w g.0 h first.step first.rest x flat z (ap (λ (s : ℕ). x / s) size ∙ met ∙ ap (λ (b : Block). b.0) (sym same)) own
 
 op_by : (sc : Scenario) (f : List ℕ) (w : WorldState) (g : HartNo) (h x : ℕ) (op : HartOp) (o : Op) (p : Phase) → IsHere sc f w g → next_of (driver_of w g.0) ≡ nexts.Op op → in_hand (driver_of w g.0) ≡ Some o → (driver_of w g.0).phase ≡ p → next_in (driver_of w g.0) o p ≡ nexts.Op op
-    → issue_touch w g (is_script p) op ≡ None → (h ≡ g.0 → (n : ℕ) → (driver_of w g.0).phase ≡ Steps n → ⊥) → IsItsOwn h (owner_of w x) → Leaves f (all_marks w.machine.size w.grants (op_records w.machine g (is_script p) op)) x
+    → issue_touch w g (is_script p) op ≡ None → (h ≡ g.0 → (n : ℕ) → (driver_of w g.0).phase ≡ Steps n → ⊥) → IsItsOwn h (owner_of w x) → Leaves f (records_trace w.machine.size w.grants (op_records w.machine g (is_script p) op)) x
 op_by sc f w g h x op o (Steps n) here nx hand phase at none other own =
     script_leaves sc f w g h x op here.now.flat (next_there sc f w g op here nx) none (λ same. other same n phase) own
 op_by sc f w g h x op o (Search k) here nx hand phase at none other own = search_not k op at
@@ -159,13 +159,13 @@ unfolding next_of
 next_is d o hand = ap (next_of_op d) hand
 
 op_in : (sc : Scenario) (f : List ℕ) (w : WorldState) (g : HartNo) (h x : ℕ) (op : HartOp) (o : Option Op) → IsHere sc f w g → next_of (driver_of w g.0) ≡ nexts.Op op → in_hand (driver_of w g.0) ≡ o → next_of_op (driver_of w g.0) o ≡ nexts.Op op
-    → issue_touch w g (is_script (driver_of w g.0).phase) op ≡ None → (h ≡ g.0 → (n : ℕ) → (driver_of w g.0).phase ≡ Steps n → ⊥) → IsItsOwn h (owner_of w x) → Leaves f (all_marks w.machine.size w.grants (op_records w.machine g (is_script (driver_of w g.0).phase) op)) x
+    → issue_touch w g (is_script (driver_of w g.0).phase) op ≡ None → (h ≡ g.0 → (n : ℕ) → (driver_of w g.0).phase ≡ Steps n → ⊥) → IsItsOwn h (owner_of w x) → Leaves f (records_trace w.machine.size w.grants (op_records w.machine g (is_script (driver_of w g.0).phase) op)) x
 op_in sc f w g h x op None here nx hand at none other own = end_not op at
 op_in sc f w g h x op (Some o) here nx hand at none other own = op_by sc f w g h x op o (driver_of w g.0).phase here nx hand refl at none other own
 
 -- where hart h is in no script's step, a place of its copy keeps its byte
 pub op_leaves : (sc : Scenario) (f : List ℕ) (w : WorldState) (g : HartNo) (h x : ℕ) (op : HartOp) → IsHere sc f w g → next_of (driver_of w g.0) ≡ nexts.Op op → issue_touch w g (is_script (driver_of w g.0).phase) op ≡ None → (h ≡ g.0 → (n : ℕ) → (driver_of w g.0).phase ≡ Steps n → ⊥)
-    → IsItsOwn h (owner_of w x) → Leaves f (all_marks w.machine.size w.grants (op_records w.machine g (is_script (driver_of w g.0).phase) op)) x
+    → IsItsOwn h (owner_of w x) → Leaves f (records_trace w.machine.size w.grants (op_records w.machine g (is_script (driver_of w g.0).phase) op)) x
 op_leaves sc f w g h x op here nx none other own =
     let o = in_hand (driver_of w g.0) in
     op_in sc f w g h x op o here nx refl (sym (next_is (driver_of w g.0) o refl) ∙ nx) none other own

@@ -9,7 +9,7 @@ use Rattle.nc_num.specs.declared.names.ChanNo.{ChanNo}
 use Rattle.nc_num.specs.declared.names.HartNo.{HartNo}
 use Rattle.nc_num.specs.declared.places.Span.{Span}
 use Rattle.nc_plan.specs.Plans.{In}
-use Rattle.nc_model.specs.Flat.{Mark, Untouched, flat, deeds}
+use Rattle.nc_model.specs.Flat.{TraceItem, Untouched, flat, deeds}
 use Rattle.nc_model.proofs.Faults.{covers-from}
 use Rattle.nc_scen.specs.Accepted.{IsAccepted}
 use Rattle.nc_scen.specs.Events.{IsThere}
@@ -28,7 +28,7 @@ use Rattle.nc_rules.specs.declared.steps.Phase.TheVariants.{Steps, Work}
 use Rattle.nc_rules.specs.declared.steps.Step.{Step}
 use Rattle.nc_rules.specs.Driver.{DriverState, in_hand, next_act, next_of}
 use Rattle.nc_rules.specs.Events.{enabled}
-use Rattle.nc_rules.specs.Flat.{event_marks, flat_after}
+use Rattle.nc_rules.specs.Flat.{event_trace, flat_after}
 use Rattle.nc_rules.specs.Lots.{DriverConfig}
 use Rattle.nc_rules.specs.Next.{next, event_records}
 use Rattle.nc_rules.specs.Operations.{plan_of}
@@ -47,7 +47,7 @@ use Rattle.nc_copied.specs.Copied.{place_in, IsPolled, WritesNone}
 use Rattle.nc_copied.proofs.events.Comings.{IsSameOp}
 use Rattle.nc_copied.proofs.events.EventBytes.{IsOfCopy, Writes, event_leaves}
 use Rattle.nc_copied.proofs.events.EventComes.{CameBy, Kept, Began, Stepped, IsItsStep, came}
-use Rattle.nc_copied.proofs.events.EventMarks.{Leaves, leaves_as, marks_off}
+use Rattle.nc_copied.proofs.events.EventTrace.{Leaves, leaves_as, trace_off}
 use Rattle.nc_copied.proofs.polls.PlanTurns.{TurnsEnds, IsCopyPlan, copy_plan}
 use Rattle.nc_copied.proofs.runs.RunEnds.{after_two, after_end, flat_end, in_before, in_last}
 
@@ -92,10 +92,10 @@ pub record IsLeftBy (sc : Scenario) (es : List Event) (f : List ℕ) (h : HartNo
 
 -- each byte of its ranges stays, or its channel writes
 pub record EachLeft (sc : Scenario) (w : WorldState) (f : List ℕ) (e : Event) (k : CopyOp) : Type 0 where
-  pub from : (i : ℕ) → i < k.len → Leaves f (event_marks w e) (from_place sc k + i) ⊎ Writes w e k.chan
-  pub to : (i : ℕ) → i < k.len → Leaves f (event_marks w e) (to_place sc k + i) ⊎ Writes w e k.chan
+  pub from : (i : ℕ) → i < k.len → Leaves f (event_trace w e) (from_place sc k + i) ⊎ Writes w e k.chan
+  pub to : (i : ℕ) → i < k.len → Leaves f (event_trace w e) (to_place sc k + i) ⊎ Writes w e k.chan
 
-pub extend : (sc : Scenario) (es : List Event) (w : WorldState) (f : List ℕ) (e : Event) (h : HartNo) (n : ℕ) (k : CopyOp) → after (start sc) es ≡ w → EachLeft sc w f e k → IsLeftBy sc es f h n k → IsLeftBy sc (es ++ e ∷ []) (flat f (deeds (event_marks w e))) h n k
+pub extend : (sc : Scenario) (es : List Event) (w : WorldState) (f : List ℕ) (e : Event) (h : HartNo) (n : ℕ) (k : CopyOp) → after (start sc) es ≡ w → EachLeft sc w f e k → IsLeftBy sc es f h n k → IsLeftBy sc (es ++ e ∷ []) (flat f (deeds (event_trace w e))) h n k
 extend sc es w f e h n k at each old =
     let first = after (start sc) old.front in
     let here : after first old.behind ≡ w = sym (after_two (start sc) old.front old.behind) ∙ ap (after (start sc)) (sym old.is) ∙ at in
@@ -106,7 +106,7 @@ extend sc es w f e h n k at each old =
       polled = old.polled;
       left = old.left;
       stays = λ none i lt.
-          let kept : (x : ℕ) → Leaves f (event_marks w e) x ⊎ Writes w e k.chan → Leaves f (event_marks w e) x =
+          let kept : (x : ℕ) → Leaves f (event_trace w e) x ⊎ Writes w e k.chan → Leaves f (event_trace w e) x =
           λ x way. elim way [
             | inl same ↦ same
             | inr wrote ↦ absurd (none wrote.at wrote.bytes
@@ -123,7 +123,7 @@ pub record IsAtRun (sc : Scenario) (f : List ℕ) (w : WorldState) (e : Event) (
   pub accepted : IsAccepted sc
   pub flat : Flatness sc f w
   pub there : IsThere (length sc.harts) sc.block_size sc.ram e
-  pub untouched : Untouched (event_marks w e)
+  pub untouched : Untouched (event_trace w e)
   pub lt : h.0 < length sc.harts
   pub hand : in_hand (driver_of w h.0) ≡ Some (copy_op k)
   pub phase : (driver_of w h.0).phase ≡ Work
@@ -134,9 +134,9 @@ steps_not p n work steps = let no : Steps n ≡ Work = sym steps ∙ work in abs
 pub now_of : (sc : Scenario) (f : List ℕ) (w : WorldState) (e : Event) (h : HartNo) (k : CopyOp) → IsAtRun sc f w e h k → IsCopyNow sc f w h.0 k
 now_of sc f w e h k at = at.flat.bytes.copying h.0 at.lt k at.hand (subst IsBegun (sym at.phase) tt)
 
-leaves_by : (sc : Scenario) (f : List ℕ) (w : WorldState) (e : Event) (h : HartNo) (k : CopyOp) (x : ℕ) (t : Bool) → enabled w e ≡ t → IsAtRun sc f w e h k → IsOfCopy sc f w h.0 k x → Leaves f (event_marks w e) x ⊎ Writes w e k.chan
+leaves_by : (sc : Scenario) (f : List ℕ) (w : WorldState) (e : Event) (h : HartNo) (k : CopyOp) (x : ℕ) (t : Bool) → enabled w e ≡ t → IsAtRun sc f w e h k → IsOfCopy sc f w h.0 k x → Leaves f (event_trace w e) x ⊎ Writes w e k.chan
 leaves_by sc f w e h k x true may at of = event_leaves sc f w e h.0 k x (record { accepted = at.accepted; flat = at.flat; there = at.there; may = may }) of at.untouched
-leaves_by sc f w e h k x false off at of = inl (leaves_as f (event_marks w e) [] x (marks_off w e off) refl)
+leaves_by sc f w e h k x false off at of = inl (leaves_as f (event_trace w e) [] x (trace_off w e off) refl)
 
 pub each_left : (sc : Scenario) (f : List ℕ) (w : WorldState) (e : Event) (h : HartNo) (k : CopyOp) → IsAtRun sc f w e h k → EachLeft sc w f e k
 each_left sc f w e h k at =
@@ -170,7 +170,7 @@ poll_of (acts.Take buf) is = absurd (false≢true is)
 
 poll_leaves : (sc : Scenario) (es : List Event) (h : HartNo) (k : CopyOp) (s : Step) (rest : List Step) → enabled (after (start sc) es) (events.Issue h) ≡ true → IsAtRun sc (flat_after sc es) (after (start sc) es) (events.Issue h) h k
     → (driver_of (after (start sc) es) h.0).rest ≡ s ∷ rest → is_poll s.act ≡ true
-    → IsLeftBy sc (es ++ events.Issue h ∷ []) (flat (flat_after sc es) (deeds (event_marks (after (start sc) es) (events.Issue h)))) h (driver_of (after (start sc) es) h.0).op k
+    → IsLeftBy sc (es ++ events.Issue h ∷ []) (flat (flat_after sc es) (deeds (event_trace (after (start sc) es) (events.Issue h)))) h (driver_of (after (start sc) es) h.0).op k
 poll_leaves sc es h k s rest may at is poll =
     let w = after (start sc) es in
     let f = flat_after sc es in
@@ -184,7 +184,7 @@ poll_leaves sc es h k s rest may at is poll =
     let to = range_is sc d.fixed h k.dst k.dst_off k.len p.now.to fixed p.now.to_is in
     let same : (i : ℕ) → i < k.len → byte f (to_place sc k + i) ≡ byte f (from_place sc k + i) =
     λ i lt. ap (λ (x : ℕ). byte f (x + i)) (sym to.starts) ∙ p.same i (omega (arith, lt, to.long)) ∙ ap (λ (x : ℕ). byte f (x + i)) from.starts in
-    let still : flat f (deeds (event_marks w e)) ≡ f = ap (λ (ms : List Mark). flat f (deeds ms)) p.silent in
+    let still : flat f (deeds (event_trace w e)) ≡ f = ap (λ (ms : List TraceItem). flat f (deeds ms)) p.silent in
     let now : flat_after sc (es ++ e ∷ []) ≡ f = flat_end sc es e ∙ still in
     record {
       front = es ++ e ∷ [];
@@ -216,7 +216,7 @@ pub record IsAtEvent (sc : Scenario) (es : List Event) (e : Event) (h : HartNo) 
   pub accepted : IsAccepted sc
   pub flat : Flatness sc (flat_after sc es) (after (start sc) es)
   pub there : IsThere (length sc.harts) sc.block_size sc.ram e
-  pub untouched : Untouched (event_marks (after (start sc) es) e)
+  pub untouched : Untouched (event_trace (after (start sc) es) e)
   pub lt : h.0 < length sc.harts
 
 at_run : (sc : Scenario) (es : List Event) (e : Event) (h : HartNo) (k : CopyOp) → IsAtEvent sc es e h → in_hand (driver_of (after (start sc) es) h.0) ≡ Some (copy_op k) → (driver_of (after (start sc) es) h.0).phase ≡ Work → IsAtRun sc (flat_after sc es) (after (start sc) es) e h k
@@ -226,19 +226,19 @@ numbered : (sc : Scenario) (es : List Event) (f : List ℕ) (h : HartNo) (n m : 
 numbered sc es f h n m k same left = subst (λ (i : ℕ). IsLeftBy sc es f h i k) same left
 
 stepped_left : (sc : Scenario) (es : List Event) (e : Event) (h : HartNo) (k : CopyOp) (s : Step) (rest : List Step) → IsAtRun sc (flat_after sc es) (after (start sc) es) e h k → IsItsStep (after (start sc) es) e h → InPlan sc es (after (start sc) es) (flat_after sc es) h k
-    → (driver_of (after (start sc) es) h.0).rest ≡ s ∷ rest → polls rest ≡ false → IsLeftBy sc (es ++ e ∷ []) (flat (flat_after sc es) (deeds (event_marks (after (start sc) es) e))) h (driver_of (after (start sc) es) h.0).op k
+    → (driver_of (after (start sc) es) h.0).rest ≡ s ∷ rest → polls rest ≡ false → IsLeftBy sc (es ++ e ∷ []) (flat (flat_after sc es) (deeds (event_trace (after (start sc) es) e))) h (driver_of (after (start sc) es) h.0).op k
 stepped_left sc es e h k s rest at its old is off =
     let w = after (start sc) es in
     let f = flat_after sc es in
     elim (cases_Bool (is_poll s.act)) [
       | inl poll ↦
-          subst (λ (g : Event). IsLeftBy sc (es ++ g ∷ []) (flat f (deeds (event_marks w g))) h (driver_of w h.0).op k) (sym its.is)
+          subst (λ (g : Event). IsLeftBy sc (es ++ g ∷ []) (flat f (deeds (event_trace w g))) h (driver_of w h.0).op k) (sym its.is)
           (poll_leaves sc es h k s rest (subst (λ (g : Event). enabled w g ≡ true) its.is its.may) (subst (λ (g : Event). IsAtRun sc f w g h k) its.is at) is poll)
       | inr none ↦ extend sc es w f e h (driver_of w h.0).op k refl (each_left sc f w e h k at) (old.left (ap polls is ∙ ap (λ (t : Bool). t || polls rest) none ∙ off))
     ]
 
 came_stands : (sc : Scenario) (es : List Event) (e : Event) (h : HartNo) (k : CopyOp) → IsAtEvent sc es e h → Stands sc es (after (start sc) es) (flat_after sc es) h → in_hand (driver_of (next (after (start sc) es) e) h.0) ≡ Some (copy_op k) → IsPhase (driver_of (next (after (start sc) es) e) h.0) Work
-    → CameBy (after (start sc) es) (next (after (start sc) es) e) e h → InPlan sc (es ++ e ∷ []) (next (after (start sc) es) e) (flat (flat_after sc es) (deeds (event_marks (after (start sc) es) e))) h k
+    → CameBy (after (start sc) es) (next (after (start sc) es) e) e h → InPlan sc (es ++ e ∷ []) (next (after (start sc) es) e) (flat (flat_after sc es) (deeds (event_trace (after (start sc) es) e))) h k
 came_stands sc es e h k at old hand work (Kept phase rest same) =
     let w = after (start sc) es in
     let f = flat_after sc es in
@@ -268,8 +268,8 @@ stands_next sc es e h at old =
     let w = after (start sc) es in
     let world = at.flat.world in
     let v = next w e in
-    let stands : Stands sc (es ++ e ∷ []) v (flat (flat_after sc es) (deeds (event_marks w e))) h =
+    let stands : Stands sc (es ++ e ∷ []) v (flat (flat_after sc es) (deeds (event_trace w e))) h =
     λ k hand phase.
     came_stands sc es e h k at old hand (subst (IsPhase (driver_of v h.0)) phase (phase_of sc v h.0 (worlds_stay sc w e world at.there) at.lt)) (came sc w e h world at.there (drivers_long sc w h.0 world at.lt) phase) in
     subst (λ (g : List ℕ). Stands sc (es ++ e ∷ []) (after (start sc) (es ++ e ∷ [])) g h) (sym (flat_end sc es e))
-    (subst (λ (u : WorldState). Stands sc (es ++ e ∷ []) u (flat (flat_after sc es) (deeds (event_marks w e))) h) (sym (after_end (start sc) es e)) stands)
+    (subst (λ (u : WorldState). Stands sc (es ++ e ∷ []) u (flat (flat_after sc es) (deeds (event_trace w e))) h) (sym (after_end (start sc) es e)) stands)

@@ -26,7 +26,7 @@ use Rattle.nc_rules.specs.declared.steps.Step.{Step}
 use Rattle.nc_rules.specs.Copies.{copied}
 use Rattle.nc_rules.specs.Driver.{DriverState, in_hand, done}
 use Rattle.nc_rules.specs.Events.{enabled}
-use Rattle.nc_rules.specs.Flat.{AreThere, event_marks, flat_after}
+use Rattle.nc_rules.specs.Flat.{AreThere, event_trace, flat_after}
 use Rattle.nc_rules.specs.Lots.{DriverConfig}
 use Rattle.nc_rules.specs.Next.{next, after_outcome, counted}
 use Rattle.nc_rules.specs.Outcomes.{Outcome, outcome}
@@ -214,7 +214,7 @@ is_done sc es e h n k t l =
     let number : (driver_of w h.0).op ≡ n = t.is.is.op in
     let left : IsLeftBy sc run (flat_after sc run) h n k =
     subst (λ (g : List ℕ). IsLeftBy sc run g h n k) (sym (flat_end sc es e))
-    (subst (λ (m : ℕ). IsLeftBy sc run (flat f (deeds (event_marks w e))) h m k) number (extend sc es w f e h (driver_of w h.0).op k refl (each_left sc f w e h k at) (l.plan.left (polls_none sc es e h k l)))) in
+    (subst (λ (m : ℕ). IsLeftBy sc run (flat f (deeds (event_trace w e))) h m k) number (extend sc es w f e h (driver_of w h.0).op k refl (each_left sc f w e h k at) (l.plan.left (polls_none sc es e h k l)))) in
     let flat_now = flat_front sc run t.law t.accepted t.fine in
     let none = answers_leave_no_ends sc es e h t.accepted t.fine.there t.is.is.by_is t.is.may (ap is_some t.is.is.answer) in
     let here : after (start sc) run ≡ next w e = after_end (start sc) es e in

@@ -1,7 +1,7 @@
 -- A run, its flat memory and its records, by its last event.
 use Rattle.std.proofs.Common.{◌≡◌, List, [], ◌∷◌, ◌++◌, length, refl, sym, ap, ◌∙◌, subst, inl, inr}
 use Rattle.nc_plan.specs.Plans.{In}
-use Rattle.nc_model.specs.Flat.{Mark, Did, Touched, Untouched, flat, deeds}
+use Rattle.nc_model.specs.Flat.{TraceItem, Did, Touched, Untouched, flat, deeds}
 use Rattle.nc_model.proofs.FlatLaws.{in_order}
 use Rattle.nc_model.proofs.LatestLaws.{deeds-append}
 use Rattle.nc_scen.specs.Accepted.{IsAccepted}
@@ -9,7 +9,7 @@ use Rattle.nc_scen.specs.Events.{IsThere}
 use Rattle.nc_scen.specs.declared.events.Event.{Event}
 use Rattle.nc_scen.specs.declared.scenario.Scenario.{Scenario}
 use Rattle.nc_rules.specs.declared.records.Record.{Record}
-use Rattle.nc_rules.specs.Flat.{event_marks, run_marks, flat_after, AreThere}
+use Rattle.nc_rules.specs.Flat.{event_trace, run_trace, flat_after, AreThere}
 use Rattle.nc_rules.specs.Next.{next, event_records}
 use Rattle.nc_rules.specs.Run.{after}
 use Rattle.nc_rules.specs.Run as run
@@ -17,7 +17,7 @@ use Rattle.nc_rules.specs.Start.{memory}
 use Rattle.nc_rules.specs.World.{WorldState, start}
 use Rattle.nc_scripts.proofs.Lists.{all_left}
 use Rattle.nc_flatness.specs.Flatness.{Flatness}
-use Rattle.nc_flatness.proofs.worlds.Marks.{append_none}
+use Rattle.nc_flatness.proofs.worlds.Trace.{append_none}
 
 -- ---- worlds
 
@@ -35,35 +35,35 @@ after_end w es e = after_two w es (e ∷ []) ∙ after_one (after w es) e
 
 -- ---- marks
 
-assoc : (a b c : List Mark) → (a ++ b) ++ c ≡ a ++ (b ++ c)
+assoc : (a b c : List TraceItem) → (a ++ b) ++ c ≡ a ++ (b ++ c)
 assoc [] b c = refl
-assoc (m ∷ a) b c = ap (λ (ms : List Mark). m ∷ ms) (assoc a b c)
+assoc (m ∷ a) b c = ap (λ (ms : List TraceItem). m ∷ ms) (assoc a b c)
 
-pub marks_two : (w : WorldState) (a b : List Event) → run_marks w (a ++ b) ≡ run_marks w a ++ run_marks (after w a) b
-unfolding run_marks after
-marks_two w [] b = refl
-marks_two w (e ∷ a) b = ap (λ (ms : List Mark). event_marks w e ++ ms) (marks_two (next w e) a b) ∙ sym (assoc (event_marks w e) (run_marks (next w e) a) (run_marks (after (next w e) a) b))
+pub trace_two : (w : WorldState) (a b : List Event) → run_trace w (a ++ b) ≡ run_trace w a ++ run_trace (after w a) b
+unfolding run_trace after
+trace_two w [] b = refl
+trace_two w (e ∷ a) b = ap (λ (ms : List TraceItem). event_trace w e ++ ms) (trace_two (next w e) a b) ∙ sym (assoc (event_trace w e) (run_trace (next w e) a) (run_trace (after (next w e) a) b))
 
-marks_one : (w : WorldState) (e : Event) → run_marks w (e ∷ []) ≡ event_marks w e
-unfolding run_marks
-marks_one w e = append_none (event_marks w e)
+trace_one : (w : WorldState) (e : Event) → run_trace w (e ∷ []) ≡ event_trace w e
+unfolding run_trace
+trace_one w e = append_none (event_trace w e)
 
-pub marks_end : (w : WorldState) (es : List Event) (e : Event) → run_marks w (es ++ e ∷ []) ≡ run_marks w es ++ event_marks (after w es) e
-marks_end w es e = marks_two w es (e ∷ []) ∙ ap (λ (ms : List Mark). run_marks w es ++ ms) (marks_one (after w es) e)
+pub trace_end : (w : WorldState) (es : List Event) (e : Event) → run_trace w (es ++ e ∷ []) ≡ run_trace w es ++ event_trace (after w es) e
+trace_end w es e = trace_two w es (e ∷ []) ∙ ap (λ (ms : List TraceItem). run_trace w es ++ ms) (trace_one (after w es) e)
 
 -- flat memory behind the last event
-pub flat_end : (sc : Scenario) (es : List Event) (e : Event) → flat_after sc (es ++ e ∷ []) ≡ flat (flat_after sc es) (deeds (event_marks (after (start sc) es) e))
+pub flat_end : (sc : Scenario) (es : List Event) (e : Event) → flat_after sc (es ++ e ∷ []) ≡ flat (flat_after sc es) (deeds (event_trace (after (start sc) es) e))
 flat_end sc es e =
-    let a = run_marks (start sc) es in
-    let b = event_marks (after (start sc) es) e in
-    ap (λ (ms : List Mark). flat (memory sc) (deeds ms)) (marks_end (start sc) es e) ∙ ap (flat (memory sc)) (deeds-append a b) ∙ in_order (memory sc) (deeds a) (deeds b)
+    let a = run_trace (start sc) es in
+    let b = event_trace (after (start sc) es) e in
+    ap (λ (ms : List TraceItem). flat (memory sc) (deeds ms)) (trace_end (start sc) es e) ∙ ap (flat (memory sc)) (deeds-append a b) ∙ in_order (memory sc) (deeds a) (deeds b)
 
-untouched_front : (ms ns : List Mark) → Untouched (ms ++ ns) → Untouched ms
+untouched_front : (ms ns : List TraceItem) → Untouched (ms ++ ns) → Untouched ms
 untouched_front [] ns u = tt
 untouched_front (Did d ∷ ms) ns u = untouched_front ms ns u
 untouched_front (Touched ∷ ms) ns u = u
 
-untouched_back : (ms ns : List Mark) → Untouched (ms ++ ns) → Untouched ns
+untouched_back : (ms ns : List TraceItem) → Untouched (ms ++ ns) → Untouched ns
 untouched_back [] ns u = u
 untouched_back (Did d ∷ ms) ns u = untouched_back ms ns u
 untouched_back (Touched ∷ ms) ns u = absurd u
@@ -98,17 +98,17 @@ in_last w (f ∷ es) e r here = in_back r (event_records w f) (run.records (next
 
 pub record IsFine (sc : Scenario) (es : List Event) : Type 0 where
   pub there : AreThere sc es
-  pub untouched : Untouched (run_marks (start sc) es)
+  pub untouched : Untouched (run_trace (start sc) es)
 
 pub fine_front : (sc : Scenario) (a b : List Event) → IsFine sc (a ++ b) → IsFine sc a
 fine_front sc a b fine = record {
   there = all_left (IsThere (length sc.harts) sc.block_size sc.ram) a b fine.there;
-  untouched = untouched_front (run_marks (start sc) a) (run_marks (after (start sc) a) b) (subst Untouched (marks_two (start sc) a b) fine.untouched);
+  untouched = untouched_front (run_trace (start sc) a) (run_trace (after (start sc) a) b) (subst Untouched (trace_two (start sc) a b) fine.untouched);
 }
 
-pub last_untouched : (sc : Scenario) (es : List Event) (e : Event) → IsFine sc (es ++ e ∷ []) → Untouched (event_marks (after (start sc) es) e)
-last_untouched sc es e fine = untouched_back (run_marks (start sc) es) (event_marks (after (start sc) es) e) (subst Untouched (marks_end (start sc) es e) fine.untouched)
+pub last_untouched : (sc : Scenario) (es : List Event) (e : Event) → IsFine sc (es ++ e ∷ []) → Untouched (event_trace (after (start sc) es) e)
+last_untouched sc es e fine = untouched_back (run_trace (start sc) es) (event_trace (after (start sc) es) e) (subst Untouched (trace_end (start sc) es e) fine.untouched)
 
 -- flat memory stands behind each
 abbrev pub RunsAreFlat : Type 0
-RunsAreFlat = (sc : Scenario) (es : List Event) → IsAccepted sc → AreThere sc es → Untouched (run_marks (start sc) es) → Flatness sc (flat_after sc es) (after (start sc) es)
+RunsAreFlat = (sc : Scenario) (es : List Event) → IsAccepted sc → AreThere sc es → Untouched (run_trace (start sc) es) → Flatness sc (flat_after sc es) (after (start sc) es)

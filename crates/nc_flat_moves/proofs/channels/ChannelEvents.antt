@@ -6,7 +6,7 @@ use Rattle.nc_num.specs.declared.places.Span.{Span}
 use Rattle.nc_pdma.specs.declared.channel.ChanStep.{ChanStep}
 use Rattle.nc_pdma.specs.declared.channel.ChanStep.TheVariants.{Idle, Moved, Error}
 use Rattle.nc_pdma.proofs.Transactions.{each_read}
-use Rattle.nc_model.specs.Flat.{named_from, channel_name, written, Mark, Did}
+use Rattle.nc_model.specs.Flat.{named_from, channel_name, written, TraceItem, Did}
 use Rattle.nc_model.specs.declared.deeds.Deed.TheVariants as deeds
 use Rattle.nc_model.specs.declared.owners.Access.TheVariants.{Read, Write}
 use Rattle.nc_model.specs.declared.owners.Grant.{Grant}
@@ -14,7 +14,7 @@ use Rattle.nc_scen.specs.declared.events.Event.TheVariants as events
 use Rattle.nc_scen.specs.declared.scenario.Scenario.{Scenario}
 use Rattle.nc_rules.specs.Machine.{MachineState, channel_of}
 use Rattle.nc_rules.specs.Calls.{chan_read_step, chan_read_next, chan_write_step, chan_write_next}
-use Rattle.nc_rules.specs.Flat.{all_marks}
+use Rattle.nc_rules.specs.Flat.{records_trace}
 use Rattle.nc_rules.specs.Outcomes.{outcome}
 use Rattle.nc_rules.specs.Records.{read_records, write_records}
 use Rattle.nc_rules.specs.EventTouches.{transaction_touch}
@@ -34,7 +34,7 @@ use Rattle.nc_flat_moves.proofs.channels.Granted.{used}
 -- ---- a read
 
 read_by : (sc : Scenario) (f : List ℕ) (w : WorldState) (chan : ChanNo) (k : MachineState) (t : ChanStep) → Flatness sc f w → chan.0 < 4 → chan_read_step w.machine chan.0 ≡ t → BytesStand sc f (ran w k) → transaction_touch w chan Read t ≡ None
-    → GoesTo sc f (all_marks w.machine.size w.grants (read_records chan t)) (ran w k)
+    → GoesTo sc f (records_trace w.machine.size w.grants (read_records chan t)) (ran w k)
 read_by sc f w chan k Idle flat four told bytes none = goes_silent sc f _ (ran w k) refl bytes
 read_by sc f w chan k (Error bus len) flat four told bytes none = goes_silent sc f _ (ran w k) refl bytes
 read_by sc f w chan k (Moved span seen done) flat four told bytes none =
@@ -56,19 +56,19 @@ read_goes sc f w chan now =
 
 -- ---- a write
 
-write_marks : (s : ℕ) (grants : List Grant) (chan : ChanNo) (span : Span) (bytes : List ℕ) (done : Bool) → all_marks s grants (write_records chan (Moved span bytes done)) ≡ Did (deeds.Write (named_from (channel_name grants chan) span.at bytes)) ∷ []
-write_marks s grants chan span bytes true = refl
-write_marks s grants chan span bytes false = refl
+write_trace : (s : ℕ) (grants : List Grant) (chan : ChanNo) (span : Span) (bytes : List ℕ) (done : Bool) → records_trace s grants (write_records chan (Moved span bytes done)) ≡ Did (deeds.Write (named_from (channel_name grants chan) span.at bytes)) ∷ []
+write_trace s grants chan span bytes true = refl
+write_trace s grants chan span bytes false = refl
 
 wrote : (sc : Scenario) (f : List ℕ) (w : WorldState) (ps : List (Place × ℕ)) → BytesStand sc (written f ps) w → GoesTo sc f (Did (deeds.Write ps) ∷ []) w
 wrote sc f w ps bytes = record { untouched = tt; latest = tt; bytes = bytes }
 
 write_by : (sc : Scenario) (f : List ℕ) (w : WorldState) (chan : ChanNo) (k : MachineState) (t : ChanStep) → Flatness sc f w → SameShape w.machine k → RamAfter w.machine k t → transaction_touch w chan Write t ≡ None → ((h : ℕ) → h < length sc.harts → CopyStands sc (flat_after w chan f t) (ran w k) h)
-    → GoesTo sc f (all_marks w.machine.size w.grants (write_records chan t)) (ran w k)
+    → GoesTo sc f (records_trace w.machine.size w.grants (write_records chan t)) (ran w k)
 write_by sc f w chan k Idle flat shape stays none copying = goes_silent sc f _ (ran w k) refl (stay_bytes sc f w k flat shape stays copying)
 write_by sc f w chan k (Error bus len) flat shape stays none copying = goes_silent sc f _ (ran w k) refl (stay_bytes sc f w k flat shape stays copying)
 write_by sc f w chan k (Moved span bytes done) flat shape writes none copying =
-    subst (λ (ms : List Mark). GoesTo sc f ms (ran w k)) (sym (write_marks w.machine.size w.grants chan span bytes done))
+    subst (λ (ms : List TraceItem). GoesTo sc f ms (ran w k)) (sym (write_trace w.machine.size w.grants chan span bytes done))
     (wrote sc f (ran w k) (named_from (channel_name w.grants chan) span.at bytes) (write_bytes sc f w k chan span bytes flat shape writes (λ x over. used sc f w chan Write span x flat none over) copying))
 
 pub write_goes : (sc : Scenario) (f : List ℕ) (w : WorldState) (chan : ChanNo) → IsNow sc f w (events.ChanWrite chan) → Goes sc f w (events.ChanWrite chan)

@@ -10,7 +10,7 @@ use Rattle.nc_num.specs.declared.names.MapId.{MapId}
 use Rattle.nc_queue.specs.declared.entry.Entry.{Entry}
 use Rattle.nc_queue.specs.declared.entry.Entry.TheVariants as entries
 use Rattle.nc_plan.specs.Plans.{In}
-use Rattle.nc_model.specs.Flat.{Mark}
+use Rattle.nc_model.specs.Flat.{TraceItem}
 use Rattle.nc_model.specs.declared.owners.Owner.{Owner}
 use Rattle.nc_model.specs.declared.owners.Owner.TheVariants.{Thread, Passing, Lending, Device, Returning, Synced, Pool}
 use Rattle.nc_model.specs.declared.touches.Touch.{Touch}
@@ -20,7 +20,7 @@ use Rattle.nc_rules.specs.declared.records.Record.{Record}
 use Rattle.nc_rules.specs.Machine.{MachineState, queue_of}
 use Rattle.nc_rules.specs.Calls.{leaving, drain_next, drain_transfers}
 use Rattle.nc_rules.specs.Events.{enabled}
-use Rattle.nc_rules.specs.Flat.{all_marks}
+use Rattle.nc_rules.specs.Flat.{records_trace}
 use Rattle.nc_rules.specs.Driver.{lent}
 use Rattle.nc_rules.specs.Outcomes.{goes, runs, leaves, drain_outcome, outcome}
 use Rattle.nc_rules.specs.Records.{transfer_records, drain_records}
@@ -38,7 +38,7 @@ use Rattle.nc_flatness.specs.Books.{book_of}
 use Rattle.nc_flatness.specs.Copying.{CopyStands}
 use Rattle.nc_flatness.specs.Flatness.{BytesStand, Flatness}
 use Rattle.nc_flatness.specs.Steps.{IsNow, Goes}
-use Rattle.nc_flatness.proofs.worlds.Marks.{transfers_silent, entry_silent}
+use Rattle.nc_flatness.proofs.worlds.Trace.{transfers_silent, entry_silent}
 use Rattle.nc_flatness.proofs.worlds.Outcomes.{ran, goes_silent, runs_go, goes_go}
 use Rattle.nc_flat_moves.proofs.drains.LosesRows.{loses_row}
 use Rattle.nc_flat_moves.proofs.drains.Calm.{calm_of}
@@ -85,9 +85,9 @@ drain_is : (w : WorldState) (h : HartNo) (i : ℕ) (e : Entry) → leaving w.mac
 unfolding outcome drain_outcome
 drain_is w h i e out none = ap (drain_outcome w h i) out ∙ leaves_runs w h (drain_next w.machine h.0 i) (drain_touch w h e) (drain_records w.machine h e) e none
 
-drain_silent : (w : WorldState) (h : HartNo) (e : Entry) → all_marks w.machine.size w.grants (drain_records w.machine h e) ≡ []
+drain_silent : (w : WorldState) (h : HartNo) (e : Entry) → records_trace w.machine.size w.grants (drain_records w.machine h e) ≡ []
 drain_silent w h e =
-    ap (λ (ms : List Mark). ms ++ all_marks w.machine.size w.grants (transfer_records w.machine.size (drain_transfers w.machine h.0 e))) (entry_silent w.machine.size w.machine.size w.grants h e)
+    ap (λ (ms : List TraceItem). ms ++ records_trace w.machine.size w.grants (transfer_records w.machine.size (drain_transfers w.machine h.0 e))) (entry_silent w.machine.size w.machine.size w.grants h e)
     ∙ transfers_silent w.machine.size w.machine.size w.grants (drain_transfers w.machine h.0 e)
 
 drains : (sc : Scenario) (f : List ℕ) (w : WorldState) (h : HartNo) (i : ℕ) (e : Entry) → IsNow sc f w (events.Drain h i) → leaving w.machine h.0 i ≡ Some e → IsDrain w.machine h.0 i e
@@ -126,7 +126,7 @@ plain_goes sc f w h i e now out none =
     let is = drains sc f w h i e now out in
     let here : In e (queue_of w.machine h.0) = at_get (queue_of w.machine h.0) i e (entry_leaves w.machine h.0 i e is).drains.queues.stood in
     runs_go sc f w (events.Drain h i) (drain_next w.machine h.0 i) (drain_touch w h e) (drain_records w.machine h e) now.may (drain_is w h i e out none)
-    (λ untouched. goes_silent sc f (all_marks w.machine.size w.grants (drain_records w.machine h e)) (ran w (drain_next w.machine h.0 i)) (drain_silent w h e)
+    (λ untouched. goes_silent sc f (records_trace w.machine.size w.grants (drain_records w.machine h e)) (ran w (drain_next w.machine h.0 i)) (drain_silent w h e)
     (drained_bytes sc f w h.0 i e flat is here none (copies_drained sc f w h i e flat is none untouched)))
 
 -- with a token its lot is its channel's
@@ -144,7 +144,7 @@ token_goes sc f w h i label first count now out =
     let giving : IsGiving sc f w h i label first count =
     record { flat = now.flat; lt = now.there; there = is.hart; is = is; sent = sent sc f w h.0 i label first count now.flat now.there is.hart stood } in
     goes_go sc f w (events.Drain h i) h m (lent (driver_of w h.0) label first) w.slots (drain_touch w h e) (drain_records w.machine h e) now.may (token_is w h i label first count out)
-    (λ untouched. goes_silent sc f (all_marks w.machine.size w.grants (drain_records w.machine h e)) (given_world w h i label first) (drain_silent w h e) (given_bytes sc f w h i label first count giving))
+    (λ untouched. goes_silent sc f (records_trace w.machine.size w.grants (drain_records w.machine h e)) (given_world w h i label first) (drain_silent w h e) (given_bytes sc f w h i label first count giving))
 
 entry_goes : (sc : Scenario) (f : List ℕ) (w : WorldState) (h : HartNo) (i : ℕ) (e : Entry) → IsNow sc f w (events.Drain h i) → leaving w.machine h.0 i ≡ Some e → Goes sc f w (events.Drain h i)
 entry_goes sc f w h i (entries.Lend label first count) now out = token_goes sc f w h i label first count now out

@@ -26,7 +26,7 @@ use Rattle.nc_row_moves.proofs.RowMoves.{rows_move}
 use Rattle.nc_flatness.specs.Books.{book_of, mapping_in}
 use Rattle.nc_flatness.specs.Flatness.{BytesStand, Flatness}
 use Rattle.nc_flatness.specs.Steps.{IsNow, Goes}
-use Rattle.nc_flatness.proofs.worlds.Marks.{answer_silent}
+use Rattle.nc_flatness.proofs.worlds.Trace.{answer_silent}
 use Rattle.nc_flatness.proofs.worlds.Outcomes.{ran, goes_silent, runs_go}
 use Rattle.nc_flat_moves.proofs.drains.Calm.{calm_of}
 use Rattle.nc_flat_moves.proofs.drains.CopiesBeside.{copies_kept}

@@ -16,7 +16,7 @@ use Rattle.nc_scen.specs.declared.scenario.Scenario.{Scenario}
 use Rattle.nc_ops.specs.declared.ops.Op.{Op}
 use Rattle.nc_rules.specs.declared.steps.Phase.{Phase}
 use Rattle.nc_rules.specs.declared.steps.Phase.TheVariants.{Steps, Search, Work}
-use Rattle.nc_rules.specs.Calls.{granted_to, is_claimed, drain_next}
+use Rattle.nc_rules.specs.Calls.{grantee_after, is_claimed, drain_next}
 use Rattle.nc_rules.specs.Driver.{DriverState, in_hand}
 use Rattle.nc_rules.specs.Machine.{queue_of, channel_of, grantee_of}
 use Rattle.nc_rules.specs.World.{WorldState, driver_of}
@@ -92,7 +92,7 @@ more_left chan e d xs ys lt some same = elim (cases_eq d 5) [
   | inr ne ↦ omega (arith, lt, ne)
 ]
 
-granted_on : (o : Option HartNo) (was is : Bool) (h : ℕ) → was ≡ true → is ≡ true → granted_to o was is h ≡ o
+granted_on : (o : Option HartNo) (was is : Bool) (h : ℕ) → was ≡ true → is ≡ true → grantee_after o was is h ≡ o
 granted_on o true true h a b = refl
 granted_on o true false h a b = absurd (false≢true b)
 granted_on o false is h a b = absurd (false≢true a)
@@ -113,7 +113,7 @@ register_drained sc f w h i named off width v c from to is some u =
     let few : suc u.stores < 6 = more_left c.chan u.ends u.stores (registers (queue_of k h)) coming u.few some s.behind in
     let name : named.0 ≡ at = ap (λ (n : ChanNo). n.0) s.chan_is in
     let written : ℕ → ChannelState = λ j. channel_write (channel_of m j) off width v in
-    let device : ChannelIs m k named.0 (written named.0) (granted_to (grantee_of m named.0) (is_claimed (channel_of m named.0)) (is_claimed (written named.0)) h) = (leaves m h i e is).drains.devices (written named.0) refl in
+    let device : ChannelIs m k named.0 (written named.0) (grantee_after (grantee_of m named.0) (is_claimed (channel_of m named.0)) (is_claimed (written named.0)) h) = (leaves m h i e is).drains.devices (written named.0) refl in
     let channel : channel_of k at ≡ written at = ap (channel_of k) (sym name) ∙ device.channel ∙ ap written name in
     let stage : IsCopying u.ends f (suc u.stores) (written at) = copies_go_on.store u.ends f (channel_of m at) u.stores c.chan named off width v u.are.some s.at (λ five. absurd (omega (arith, few, five))) u.stage in
     let before = copies_stay_within.claimed u.ends f (channel_of m at) u.stores u.few u.stage in
@@ -130,7 +130,7 @@ register_drained sc f w h i named off width v c from to is some u =
       few = few;
       stage = subst (λ (t : ChannelState). IsCopying u.ends f (suc u.stores) t) (sym channel) stage;
       granted =
-          ap (grantee_of k) (sym name) ∙ device.grantee ∙ ap (λ (j : ℕ). granted_to (grantee_of m j) (is_claimed (channel_of m j)) (is_claimed (written j)) h) name
+          ap (grantee_of k) (sym name) ∙ device.grantee ∙ ap (λ (j : ℕ). grantee_after (grantee_of m j) (is_claimed (channel_of m j)) (is_claimed (written j)) h) name
           ∙ granted_on (grantee_of m at) (is_claimed (channel_of m at)) (is_claimed (written at)) h before behind ∙ u.granted;
     }
 

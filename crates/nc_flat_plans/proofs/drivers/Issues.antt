@@ -35,7 +35,7 @@ use Rattle.nc_rules.specs.Calls.{may_issue, issue_next, issue_answer, load_trans
 use Rattle.nc_rules.specs.View.{bytes_seen}
 use Rattle.nc_rules.specs.Driver.{Went, next_of, next_of_op, next_in, next_act, next_rest, done, is_script}
 use Rattle.nc_rules.specs.Events.{enabled, may_go_on, is_out}
-use Rattle.nc_rules.specs.Flat.{all_marks}
+use Rattle.nc_rules.specs.Flat.{records_trace}
 use Rattle.nc_rules.specs.Outcomes.{seen_of, op_outcome, step_outcome, outcome}
 use Rattle.nc_rules.specs.Records.{op_records, transfer_records, load_record}
 use Rattle.nc_rules.specs.Sound.{OpIsThere}
@@ -49,7 +49,7 @@ use Rattle.nc_holds.specs.Holds.{DriverHolds}
 use Rattle.nc_row_issues.specs.Laws.{Enters}
 use Rattle.nc_flatness.specs.Flatness.{BytesStand}
 use Rattle.nc_flatness.specs.Steps.{GoesTo, Goes}
-use Rattle.nc_flatness.proofs.worlds.Marks.{marks-append, transfers_silent}
+use Rattle.nc_flatness.proofs.worlds.Trace.{trace-append, transfers_silent}
 use Rattle.nc_flatness.proofs.worlds.Outcomes.{gone, goes_go, goes_silent}
 use Rattle.nc_flat_plans.proofs.places.Passes.{is_kept_op}
 use Rattle.nc_flat_plans.proofs.drivers.Drivers.{IsNext}
@@ -135,34 +135,34 @@ fence_stays m h = issues_by_place.fence m h 15 15 refl
 
 -- ---- no operation of a plan is an access
 
-pub fence_silent : (w : WorldState) (h : HartNo) (b : Bool) → all_marks w.machine.size w.grants (op_records w.machine h b full) ≡ []
+pub fence_silent : (w : WorldState) (h : HartNo) (b : Bool) → records_trace w.machine.size w.grants (op_records w.machine h b full) ≡ []
 unfolding op_records
 fence_silent w h b = refl
 
-pub kept_silent : (w : WorldState) (h : HartNo) (b : Bool) (op : CboOp) (block : Block) → is_kept_op op ≡ true → all_marks w.machine.size w.grants (op_records w.machine h b (hart_ops.Cbo op block)) ≡ []
+pub kept_silent : (w : WorldState) (h : HartNo) (b : Bool) (op : CboOp) (block : Block) → is_kept_op op ≡ true → records_trace w.machine.size w.grants (op_records w.machine h b (hart_ops.Cbo op block)) ≡ []
 unfolding op_records
 kept_silent w h b cbos.Clean block is = refl
 kept_silent w h b cbos.Flush block is = refl
 kept_silent w h b cbos.Inval block is = refl
 kept_silent w h b cbos.Zero block is = absurd cc
 
-load_silent_by : (w : WorldState) (h : HartNo) (span : Span) (kind : MemType) → all_marks w.machine.size w.grants (op_records w.machine h false (hart_ops.Load span kind)) ≡ []
+load_silent_by : (w : WorldState) (h : HartNo) (span : Span) (kind : MemType) → records_trace w.machine.size w.grants (op_records w.machine h false (hart_ops.Load span kind)) ≡ []
 unfolding op_records
 load_silent_by w h span kind =
     let m = w.machine in
-    marks-append m.size w.grants (transfer_records m.size (load_transfers m h.0 span kind)) (load_record false h span.at (bytes_seen m h.0 kind span) ∷ [])
+    trace-append m.size w.grants (transfer_records m.size (load_transfers m h.0 span kind)) (load_record false h span.at (bytes_seen m h.0 kind span) ∷ [])
     ∙ ap (λ ms. ms ++ []) (transfers_silent m.size m.size w.grants (load_transfers m h.0 span kind))
 
-store_silent_by : (w : WorldState) (h : HartNo) (span : Span) (kind : MemType) (bytes : Payload) → all_marks w.machine.size w.grants (op_records w.machine h false (hart_ops.Store span kind bytes)) ≡ []
+store_silent_by : (w : WorldState) (h : HartNo) (span : Span) (kind : MemType) (bytes : Payload) → records_trace w.machine.size w.grants (op_records w.machine h false (hart_ops.Store span kind bytes)) ≡ []
 unfolding op_records
 store_silent_by w h span kind bytes = refl
 
 -- a plan's are not its script's
-pub load_silent : (w : WorldState) (h : HartNo) (p : Phase) (span : Span) (kind : MemType) → p ≡ Work → all_marks w.machine.size w.grants (op_records w.machine h (is_script p) (hart_ops.Load span kind)) ≡ []
-load_silent w h p span kind is = ap (λ (q : Phase). all_marks w.machine.size w.grants (op_records w.machine h (is_script q) (hart_ops.Load span kind))) is ∙ load_silent_by w h span kind
+pub load_silent : (w : WorldState) (h : HartNo) (p : Phase) (span : Span) (kind : MemType) → p ≡ Work → records_trace w.machine.size w.grants (op_records w.machine h (is_script p) (hart_ops.Load span kind)) ≡ []
+load_silent w h p span kind is = ap (λ (q : Phase). records_trace w.machine.size w.grants (op_records w.machine h (is_script q) (hart_ops.Load span kind))) is ∙ load_silent_by w h span kind
 
-pub store_silent : (w : WorldState) (h : HartNo) (p : Phase) (span : Span) (kind : MemType) (bytes : Payload) → p ≡ Work → all_marks w.machine.size w.grants (op_records w.machine h (is_script p) (hart_ops.Store span kind bytes)) ≡ []
-store_silent w h p span kind bytes is = ap (λ (q : Phase). all_marks w.machine.size w.grants (op_records w.machine h (is_script q) (hart_ops.Store span kind bytes))) is ∙ store_silent_by w h span kind bytes
+pub store_silent : (w : WorldState) (h : HartNo) (p : Phase) (span : Span) (kind : MemType) (bytes : Payload) → p ≡ Work → records_trace w.machine.size w.grants (op_records w.machine h (is_script p) (hart_ops.Store span kind bytes)) ≡ []
+store_silent w h p span kind bytes is = ap (λ (q : Phase). records_trace w.machine.size w.grants (op_records w.machine h (is_script q) (hart_ops.Store span kind bytes))) is ∙ store_silent_by w h span kind bytes
 
 -- ---- the event
 
@@ -176,7 +176,7 @@ went_by w h op = done (driver_of w h.0) (seen_of (issue_answer w.machine h.0 op)
 
 -- it is no touch, and its records are these
 pub op_event : (sc : Scenario) (f : List ℕ) (w : WorldState) (h : HartNo) (o : Op) (op : HartOp) (s : Step) (rest : List Step) → IsOpNext sc f w h o op s rest
-    → GoesTo sc f (all_marks w.machine.size w.grants (op_records w.machine h (is_script (driver_of w h.0).phase) op)) (gone w h (issue_next w.machine h.0 op) (went_by w h op)) → Goes sc f w (events.Issue h)
+    → GoesTo sc f (records_trace w.machine.size w.grants (op_records w.machine h (is_script (driver_of w h.0).phase) op)) (gone w h (issue_next w.machine h.0 op) (went_by w h op)) → Goes sc f w (events.Issue h)
 unfolding step_outcome op_outcome
 op_event sc f w h o op s rest k to =
     let machine = issue_next w.machine h.0 op in
@@ -184,10 +184,10 @@ op_event sc f w h o op s rest k to =
     goes_go sc f w (events.Issue h) h machine (went_by w h op) w.slots (issue_touch w h script op) (op_records w.machine h script op) k.next.now.may (issues w h (nexts.Op op) (next_work sc f w h o op s rest k)) (λ none. to)
 
 pub op_goes : (sc : Scenario) (f : List ℕ) (w : WorldState) (h : HartNo) (o : Op) (op : HartOp) (s : Step) (rest : List Step) → IsOpNext sc f w h o op s rest
-    → all_marks w.machine.size w.grants (op_records w.machine h (is_script (driver_of w h.0).phase) op) ≡ [] → BytesStand sc f (gone w h (issue_next w.machine h.0 op) (went_by w h op)) → Goes sc f w (events.Issue h)
+    → records_trace w.machine.size w.grants (op_records w.machine h (is_script (driver_of w h.0).phase) op) ≡ [] → BytesStand sc f (gone w h (issue_next w.machine h.0 op) (went_by w h op)) → Goes sc f w (events.Issue h)
 op_goes sc f w h o op s rest k silent bytes =
     op_event sc f w h o op s rest k
-    (goes_silent sc f (all_marks w.machine.size w.grants (op_records w.machine h (is_script (driver_of w h.0).phase) op)) (gone w h (issue_next w.machine h.0 op) (went_by w h op)) silent bytes)
+    (goes_silent sc f (records_trace w.machine.size w.grants (op_records w.machine h (is_script (driver_of w h.0).phase) op)) (gone w h (issue_next w.machine h.0 op) (went_by w h op)) silent bytes)
 
 -- a zero of a plan writes zeros over its block
 pub zero_goes : (sc : Scenario) (f : List ℕ) (w : WorldState) (h : HartNo) (o : Op) (block : Block) (s : Step) (rest : List Step) → IsOpNext sc f w h o (hart_ops.Cbo cbos.Zero block) s rest

@@ -28,7 +28,7 @@ use Rattle.nc_rules.specs.Machine.{MachineState, queue_of}
 use Rattle.nc_rules.specs.Turns.{is_area, lots_after}
 use Rattle.nc_rules.specs.Calls.{issue_next}
 use Rattle.nc_rules.specs.Driver.{Went, is_script}
-use Rattle.nc_rules.specs.Flat.{all_marks}
+use Rattle.nc_rules.specs.Flat.{records_trace}
 use Rattle.nc_rules.specs.Records.{op_records}
 use Rattle.nc_rules.specs.EventTouches.{owner_of}
 use Rattle.nc_rules.specs.World.{WorldState, driver_of}
@@ -64,11 +64,11 @@ mark_op = hart_ops.Mark 1 4
 abbrev token_op : Lot → HartOp
 token_op lot = hart_ops.IoStore (io.Lend lot.id.label lot.id.first (length lot.list.entries))
 
-mark_silent : (w : WorldState) (h : HartNo) (b : Bool) → all_marks w.machine.size w.grants (op_records w.machine h b mark_op) ≡ []
+mark_silent : (w : WorldState) (h : HartNo) (b : Bool) → records_trace w.machine.size w.grants (op_records w.machine h b mark_op) ≡ []
 unfolding op_records
 mark_silent w h b = refl
 
-token_silent : (w : WorldState) (h : HartNo) (b : Bool) (lot : Lot) → all_marks w.machine.size w.grants (op_records w.machine h b (token_op lot)) ≡ []
+token_silent : (w : WorldState) (h : HartNo) (b : Bool) (lot : Lot) → records_trace w.machine.size w.grants (op_records w.machine h b (token_op lot)) ≡ []
 unfolding op_records
 token_silent w h b lot = refl
 

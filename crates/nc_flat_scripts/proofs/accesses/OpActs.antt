@@ -19,7 +19,7 @@ use Rattle.nc_plan.specs.declared.ops.HartOp.TheVariants as hart
 use Rattle.nc_plan.specs.declared.ops.IoTarget.TheVariants as io
 use Rattle.nc_plan.specs.declared.ops.Payload.{Payload}
 use Rattle.nc_hart.specs.Issue.{cut, entry_of, marks, marker, payload}
-use Rattle.nc_model.specs.Flat.{Mark, Did, named, written, flat, deeds, Shows, Latest, Untouched}
+use Rattle.nc_model.specs.Flat.{TraceItem, Did, named, written, flat, deeds, Shows, Latest, Untouched}
 use Rattle.nc_model.specs.declared.deeds.Deed.TheVariants.{Read, Write}
 use Rattle.nc_model.specs.declared.owners.Access.TheVariants as accesses
 use Rattle.nc_model.specs.declared.owners.Owner.{Owner}
@@ -29,7 +29,7 @@ use Rattle.nc_model.proofs.FlatLaws.{length-written}
 use Rattle.nc_scen.specs.declared.scenario.Scenario.{Scenario}
 use Rattle.nc_rules.specs.Machine.{MachineState, hart_of}
 use Rattle.nc_rules.specs.Calls.{may_issue, issue_next, load_transfers}
-use Rattle.nc_rules.specs.Flat.{all_marks}
+use Rattle.nc_rules.specs.Flat.{records_trace}
 use Rattle.nc_rules.specs.Sound.{IsMachine, IsPieceIn, OpIsThere}
 use Rattle.nc_rules.specs.Records.{transfer_records, op_records, load_record}
 use Rattle.nc_rules.specs.View.{seen, view, bytes_seen}
@@ -45,7 +45,7 @@ use Rattle.nc_row_issues.proofs.RowIssues.{rows_issue}
 use Rattle.nc_flatness.specs.Books.{book_of}
 use Rattle.nc_flatness.specs.Flatness.{Flatness}
 use Rattle.nc_flatness.proofs.worlds.FlatBytes.{byte_stored, byte_zeroed, shows_seen}
-use Rattle.nc_flatness.proofs.worlds.Marks.{append_none, marks-append, transfers_silent, fence_silent}
+use Rattle.nc_flatness.proofs.worlds.Trace.{append_none, trace-append, transfers_silent, fence_silent}
 use Rattle.nc_flatness.proofs.books.WholeBlocks.{in_whole}
 use Rattle.nc_flat_scripts.specs.Entering.{GivesOwn, IsPlain, IsNoMail}
 use Rattle.nc_flat_scripts.proofs.accesses.ActRows.{stands_now, load_stands, entry_stands}
@@ -55,13 +55,13 @@ use Rattle.nc_flat_scripts.proofs.accesses.ScriptSteps.{IsScriptOp}
 use Rattle.nc_flat_scripts.proofs.steps.StepFrames.{StandsIn}
 
 -- marks that are no touch, whose reads show flat memory, and flat memory behind them
-pub record Acts (sc : Scenario) (f : List ℕ) (ms : List Mark) (w : WorldState) (n : MachineState) : Type 0 where
+pub record Acts (sc : Scenario) (f : List ℕ) (ms : List TraceItem) (w : WorldState) (n : MachineState) : Type 0 where
   pub untouched : Untouched ms
   pub latest : Latest f ms
   pub stands : StandsIn sc (flat f (deeds ms)) w n
 
-acts_same : (sc : Scenario) (f : List ℕ) (ms ns : List Mark) (w : WorldState) (n : MachineState) → ns ≡ ms → Acts sc f ms w n → Acts sc f ns w n
-acts_same sc f ms ns w n same acts = subst (λ (k : List Mark). Acts sc f k w n) (sym same) acts
+acts_same : (sc : Scenario) (f : List ℕ) (ms ns : List TraceItem) (w : WorldState) (n : MachineState) → ns ≡ ms → Acts sc f ms w n → Acts sc f ns w n
+acts_same sc f ms ns w n same acts = subst (λ (k : List TraceItem). Acts sc f k w n) (sym same) acts
 
 pub acts_silent : (sc : Scenario) (f : List ℕ) (w : WorldState) (n : MachineState) → StandsIn sc f w n → Acts sc f [] w n
 acts_silent sc f w n is = record { untouched = tt; latest = tt; stands = is }
@@ -117,7 +117,7 @@ load_shows sc f w h span kind flat own piece =
     ∙ (rows_issue.shows (book_of w) (owner_of w x) (byte f x) w.machine h.0 x mine (flat.bytes.rows x (omega (arith, lt, piece.inside, flat.world.of_scenario.ram)) (own_unslotted sc f w h.0 x flat mine))).shows)
 
 acts_load : (sc : Scenario) (f : List ℕ) (w : WorldState) (h : HartNo) (span : Span) (kind : MemType) → Flatness sc f w → h.0 < length w.machine.harts → rest_last ((book_of w).rest h.0) ≡ None → op_touch w h (hart.Load span kind) ≡ None → IsPieceIn (length w.machine.cache.ram) span
-    → may_issue w.machine h.0 (hart.Load span kind) ≡ true → Acts sc f (all_marks w.machine.size w.grants (op_records w.machine h true (hart.Load span kind))) w (issue_next w.machine h.0 (hart.Load span kind))
+    → may_issue w.machine h.0 (hart.Load span kind) ≡ true → Acts sc f (records_trace w.machine.size w.grants (op_records w.machine h true (hart.Load span kind))) w (issue_next w.machine h.0 (hart.Load span kind))
 unfolding op_touch op_records
 acts_load sc f w h span kind flat lt idle none piece may =
     let m = w.machine in
@@ -125,7 +125,7 @@ acts_load sc f w h span kind flat lt idle none piece may =
     let bytes = bytes_seen m h.0 kind span in
     let shape = calls_keep_shape.of_issue m h.0 (hart.Load span kind) flat.world.machine (record { hart = lt; there = piece; may = may }) in
     acts_same sc f (Did (Read (named span.at bytes)) ∷ []) _ w (issue_next m h.0 (hart.Load span kind))
-    (marks-append m.size w.grants (transfer_records m.size (load_transfers m h.0 span kind)) (load_record true h span.at bytes ∷ []) ∙ ap (λ (ms : List Mark). ms ++ Did (Read (named span.at bytes)) ∷ []) (transfers_silent m.size m.size w.grants (load_transfers m h.0 span kind)))
+    (trace-append m.size w.grants (transfer_records m.size (load_transfers m h.0 span kind)) (load_record true h span.at bytes ∷ []) ∙ ap (λ (ms : List TraceItem). ms ++ Did (Read (named span.at bytes)) ∷ []) (transfers_silent m.size m.size w.grants (load_transfers m h.0 span kind)))
     (record {
       untouched = tt;
       latest = (load_shows sc f w h span kind flat own piece, tt);
@@ -165,7 +165,7 @@ acts_write : (sc : Scenario) (f : List ℕ) (w : WorldState) (h : HartNo) (op : 
 acts_write sc f w h op e at bytes flat lt was puts same = record { untouched = tt; latest = tt; stands = put_stands sc f (written f (named at bytes)) w h op e flat lt was puts (length-written f (named at bytes)) same }
 
 acts_store : (sc : Scenario) (f : List ℕ) (w : WorldState) (h : HartNo) (span : Span) (kind : MemType) (bytes : Payload) → Flatness sc f w → h.0 < length w.machine.harts → IsIdle (driver_of w h.0) → op_touch w h (hart.Store span kind bytes) ≡ None
-    → OpIsThere w.machine h.0 (hart.Store span kind bytes) → may_issue w.machine h.0 (hart.Store span kind bytes) ≡ true → Acts sc f (all_marks w.machine.size w.grants (op_records w.machine h true (hart.Store span kind bytes))) w (issue_next w.machine h.0 (hart.Store span kind bytes))
+    → OpIsThere w.machine h.0 (hart.Store span kind bytes) → may_issue w.machine h.0 (hart.Store span kind bytes) ≡ true → Acts sc f (records_trace w.machine.size w.grants (op_records w.machine h true (hart.Store span kind bytes))) w (issue_next w.machine h.0 (hart.Store span kind bytes))
 unfolding op_touch op_records
 acts_store sc f w h span kind bytes flat lt was none there may =
     let m = w.machine in
@@ -185,7 +185,7 @@ acts_store sc f w h span kind bytes flat lt was none there may =
     (λ x. byte_stored f span stored x (omega (arith, flat.bytes.flat_size, flat.world.of_scenario.ram, there.piece.inside)) there.whole)
 
 acts_zero : (sc : Scenario) (f : List ℕ) (w : WorldState) (h : HartNo) (block : Block) → Flatness sc f w → h.0 < length w.machine.harts → IsIdle (driver_of w h.0) → IsBeside w.machine.pool w.machine.size block.0 → op_touch w h (hart.Cbo cbos.Zero block) ≡ None → OpIsThere w.machine h.0 (hart.Cbo cbos.Zero block)
-    → may_issue w.machine h.0 (hart.Cbo cbos.Zero block) ≡ true → Acts sc f (all_marks w.machine.size w.grants (op_records w.machine h true (hart.Cbo cbos.Zero block))) w (issue_next w.machine h.0 (hart.Cbo cbos.Zero block))
+    → may_issue w.machine h.0 (hart.Cbo cbos.Zero block) ≡ true → Acts sc f (records_trace w.machine.size w.grants (op_records w.machine h true (hart.Cbo cbos.Zero block))) w (issue_next w.machine h.0 (hart.Cbo cbos.Zero block))
 unfolding op_touch op_records
 acts_zero sc f w h block flat lt was beside none there may =
     let m = w.machine in
@@ -236,7 +236,7 @@ here_beside sc f w h b flat lt beside =
 
 -- whatever operation of a script it is
 pub acts_op : (sc : Scenario) (f : List ℕ) (w : WorldState) (h : HartNo) (op : HartOp) → Flatness sc f w → h.0 < length w.machine.harts → IsIdle (driver_of w h.0) → op_touch w h op ≡ None → IsScriptOp (driver_of w h.0).fixed op → OpIsThere w.machine h.0 op → may_issue w.machine h.0 op ≡ true
-    → Acts sc f (all_marks w.machine.size w.grants (op_records w.machine h true op)) w (issue_next w.machine h.0 op)
+    → Acts sc f (records_trace w.machine.size w.grants (op_records w.machine h true op)) w (issue_next w.machine h.0 op)
 unfolding op_touch op_records
 acts_op sc f w h (hart.Load span kind) flat lt was none quiet there may = acts_load sc f w h span kind flat lt (ap rest_last was.rest) none there may
 acts_op sc f w h (hart.Store span kind bytes) flat lt was none quiet there may = acts_store sc f w h span kind bytes flat lt was none there may

@@ -5,7 +5,7 @@ use Rattle.std.proofs.lemmas.Bool.{and_parts}
 use Rattle.nc_num.specs.declared.names.ChanNo.{ChanNo}
 use Rattle.nc_num.specs.declared.names.HartNo.{HartNo}
 use Rattle.nc_plan.specs.declared.ops.HartOp.{HartOp}
-use Rattle.nc_model.specs.Flat.{Mark, flat, deeds}
+use Rattle.nc_model.specs.Flat.{TraceItem, flat, deeds}
 use Rattle.nc_ops.specs.declared.ops.Op.{Op}
 use Rattle.nc_scen.specs.declared.events.Event.TheVariants as events
 use Rattle.nc_scen.specs.declared.scenario.Scenario.{Scenario}
@@ -21,7 +21,7 @@ use Rattle.nc_rules.specs.Machine.{MachineState, grantee_of}
 use Rattle.nc_rules.specs.Calls.{issue_next, issue_answer, claim_next, control_of}
 use Rattle.nc_rules.specs.Driver.{DriverState, Went, in_hand, next_act, next_of, is_script, started, waits_for, done}
 use Rattle.nc_rules.specs.Events.{is_out, may_go_on, enabled}
-use Rattle.nc_rules.specs.Flat.{all_marks}
+use Rattle.nc_rules.specs.Flat.{records_trace}
 use Rattle.nc_rules.specs.Operations.{step_at}
 use Rattle.nc_rules.specs.Outcomes.{goes, seen_of, claim_seen, start_outcome, op_outcome, claim_outcome, poll_outcome, step_outcome, outcome}
 use Rattle.nc_rules.specs.Records.{op_records}
@@ -109,7 +109,7 @@ poll_is w h chan = refl
 
 -- ---- a step that has no plan before it nor behind it
 
-pub acts_go : (sc : Scenario) (f : List ℕ) (ms : List Mark) (w : WorldState) (h : HartNo) (n : MachineState) (went : Went) → IsHere sc f w h → IsIdle (driver_of w h.0) → GoesIdle (driver_of w h.0) went [] → Acts sc f ms w n → GoesTo sc f ms (gone w h n went)
+pub acts_go : (sc : Scenario) (f : List ℕ) (ms : List TraceItem) (w : WorldState) (h : HartNo) (n : MachineState) (went : Went) → IsHere sc f w h → IsIdle (driver_of w h.0) → GoesIdle (driver_of w h.0) went [] → Acts sc f ms w n → GoesTo sc f ms (gone w h n went)
 acts_go sc f ms w h n went here was idle is = record { untouched = is.untouched; latest = is.latest; bytes = idle_stands sc f (flat f (deeds ms)) w h n went here.now.flat here.lt was idle is.stands }
 
 pub quiet_go : (sc : Scenario) (f : List ℕ) (w : WorldState) (h : HartNo) (n : MachineState) (went : Went) → IsHere sc f w h → IsIdle (driver_of w h.0) → GoesIdle (driver_of w h.0) went [] → StandsIn sc f w n → GoesTo sc f [] (gone w h n went)
@@ -133,7 +133,7 @@ op_goes sc f w h o n s op here at act nx =
     let went = done d saw in
     let was = idle_by sc f w h n here at.phase in
     let next = issue_next m h.0 op in
-    let marks : Bool → List Mark = λ t. all_marks m.size w.grants (op_records m h t op) in
+    let marks : Bool → List TraceItem = λ t. records_trace m.size w.grants (op_records m h t op) in
     goes_go sc f w (events.Issue h) h next went w.slots (issue_touch w h (is_script d.phase) op) (op_records m h (is_script d.phase) op) here.now.may (outcome_is w h (nexts.Op op) nx ∙ op_is w h op)
     (λ none. subst (λ (t : Bool). GoesTo sc f (marks t) (gone w h next went)) (sym (ap is_script at.phase))
     (acts_go sc f (marks true) w h next went here was (done_idles d saw o n s was.still at.hand at.phase at.is at.own)

@@ -9,7 +9,7 @@ use Rattle.nc_num.specs.declared.names.HartNo.{HartNo}
 use Rattle.nc_num.specs.declared.places.Span.{Span}
 use Rattle.nc_plan.specs.declared.ops.HartOp.TheVariants as hart_ops
 use Rattle.nc_plan.specs.declared.ops.IoTarget.TheVariants as io
-use Rattle.nc_model.specs.Flat.{Mark}
+use Rattle.nc_model.specs.Flat.{TraceItem}
 use Rattle.nc_model.specs.Touches.{register_touch}
 use Rattle.nc_model.specs.declared.touches.Touch.{Touch}
 use Rattle.nc_scen.specs.declared.events.Event.TheVariants as events
@@ -26,7 +26,7 @@ use Rattle.nc_rules.specs.declared.steps.Act.TheVariants as acts
 use Rattle.nc_rules.specs.Calls.{control_of}
 use Rattle.nc_rules.specs.Driver.{in_hand, next_of, next_act, next_rest, done}
 use Rattle.nc_rules.specs.Events.{enabled}
-use Rattle.nc_rules.specs.Flat.{all_marks, event_marks}
+use Rattle.nc_rules.specs.Flat.{records_trace, event_trace}
 use Rattle.nc_rules.specs.Lots.{DriverConfig}
 use Rattle.nc_rules.specs.Machine.{grantee_of}
 use Rattle.nc_rules.specs.Next.{event_records}
@@ -38,7 +38,7 @@ use Rattle.nc_transfers.specs.Transfers.{IsCopied}
 use Rattle.nc_flatness.specs.Copying.{CopyOp, copy_op, IsBegun, IsCopyNow, IsUnderWay}
 use Rattle.nc_flatness.specs.Plans.{PlanGoes}
 use Rattle.nc_flatness.specs.Steps.{IsNow, kind_of_act}
-use Rattle.nc_flatness.proofs.worlds.Marks.{moves_silent}
+use Rattle.nc_flatness.proofs.worlds.Trace.{moves_silent}
 use Rattle.nc_flat_scripts.proofs.accesses.ScriptEvents.{IsHere, here_by, may_next, outcome_is, poll_is}
 use Rattle.nc_flat_scripts.proofs.handing.SendEvents.{next_work}
 use Rattle.nc_flat_scripts.proofs.copies.TransferDrivers.{at_work}
@@ -51,11 +51,11 @@ granted_silent : (w : WorldState) (h : HartNo) (chan : ChanNo) → grantee_of w.
 granted_silent w h chan is =
     ap (λ (g : Option HartNo). register_touch h chan 0 4 g) is ∙ cond-true (h.0 == h.0) None _ (eq-eqb h.0 h.0 refl)
 
-poll_marks : (w : WorldState) (h : HartNo) (chan : ChanNo) → enabled w (events.Issue h) ≡ true → next_of (driver_of w h.0) ≡ nexts.Poll chan → grantee_of w.machine chan.0 ≡ Some (hart h.0) → event_marks w (events.Issue h) ≡ []
-unfolding event_marks event_records
-poll_marks w h chan may nx granted =
+poll_trace : (w : WorldState) (h : HartNo) (chan : ChanNo) → enabled w (events.Issue h) ≡ true → next_of (driver_of w h.0) ≡ nexts.Poll chan → grantee_of w.machine chan.0 ≡ Some (hart h.0) → event_trace w (events.Issue h) ≡ []
+unfolding event_trace event_records
+poll_trace w h chan may nx granted =
     let went = done (driver_of w h.0) (seen.Control (control_of w.machine chan.0)) in
-    let marks : List Record → List Mark = λ rs. all_marks w.machine.size w.grants rs in
+    let marks : List Record → List TraceItem = λ rs. records_trace w.machine.size w.grants rs in
     ap (λ (t : Bool). marks (if t then records.Event (events.Issue h) ∷ (outcome w (events.Issue h)).records else [])) may
     ∙ ap (λ (o : Outcome). marks (records.Event (events.Issue h) ∷ o.records)) (outcome_is w h (nexts.Poll chan) nx ∙ poll_is w h chan)
     ∙ ap (λ (t : Option Touch). marks (records.Event (events.Issue h) ∷ (goes w h w.machine went w.slots t []).records)) (granted_silent w h chan granted)
@@ -96,7 +96,7 @@ pub record PollCopied (sc : Scenario) (f : List ℕ) (w : WorldState) (h : HartN
   -- the ranges are as long, and flat memory's bytes are the same at both
   pub long : now.from.len ≡ now.to.len
   pub same : (i : ℕ) → i < now.to.len → byte f (now.to.at + i) ≡ byte f (now.from.at + i)
-  pub silent : event_marks w (events.Issue h) ≡ []
+  pub silent : event_trace w (events.Issue h) ≡ []
 
 copied_so : (sc : Scenario) (f : List ℕ) (w : WorldState) (h : HartNo) (k : CopyOp) (chan : ChanNo) → IsHere sc f w h → next_of (driver_of w h.0) ≡ nexts.Poll chan → (now : IsCopyNow sc f w h.0 k) → PollFinds sc f w h.0 k now.from now.to chan → PollCopied sc f w h k chan
 copied_so sc f w h k chan here nx now finds =
@@ -113,7 +113,7 @@ copied_so sc f w h k chan here nx now finds =
       same = λ i less.
           subst (λ (x : ℕ). byte f (x + i) ≡ byte f (now.from.at + i)) to_at
           (subst (λ (x : ℕ). byte f (u.ends.target + i) ≡ byte f (x + i)) from_at (finds.moved.copied.same i (subst (λ (n : ℕ). i < n) len less)));
-      silent = poll_marks w h chan here.now.may nx (ap (λ (c : ChanNo). grantee_of w.machine c.0) finds.chan_is ∙ u.granted);
+      silent = poll_trace w h chan here.now.may nx (ap (λ (c : ChanNo). grantee_of w.machine c.0) finds.chan_is ∙ u.granted);
     }
 
 pub poll_copied : (sc : Scenario) (f : List ℕ) (w : WorldState) (h : HartNo) (k : CopyOp) (chan : ChanNo) → IsNow sc f w (events.Issue h) → in_hand (driver_of w h.0) ≡ Some (copy_op k) → (driver_of w h.0).phase ≡ Work → next_of (driver_of w h.0) ≡ nexts.Poll chan

@@ -26,7 +26,7 @@ use Rattle.nc_rules.specs.declared.steps.Turn.TheVariants as turns
 use Rattle.nc_rules.specs.Calls.{issue_next, control_of, io_waits}
 use Rattle.nc_rules.specs.Driver.{in_hand, is_script, kept, busy, done}
 use Rattle.nc_rules.specs.Events.{is_over}
-use Rattle.nc_rules.specs.Flat.{all_marks}
+use Rattle.nc_rules.specs.Flat.{records_trace}
 use Rattle.nc_rules.specs.Lots.{DriverConfig}
 use Rattle.nc_rules.specs.Machine.{queue_of}
 use Rattle.nc_rules.specs.Plans.{step, control_step}
@@ -78,7 +78,7 @@ went_so sc f w h o a rest saw k free =
 
 -- ---- a store to a register
 
-store_silent : (w : WorldState) (h : HartNo) (t : Bool) (chan : ChanNo) (off width value : ℕ) → all_marks w.machine.size w.grants (op_records w.machine h t (hart_ops.IoStore (io.Reg chan off width value))) ≡ []
+store_silent : (w : WorldState) (h : HartNo) (t : Bool) (chan : ChanNo) (off width value : ℕ) → records_trace w.machine.size w.grants (op_records w.machine h t (hart_ops.IoStore (io.Reg chan off width value))) ≡ []
 unfolding op_records
 store_silent w h t chan off width value = refl
 
@@ -111,7 +111,7 @@ store_goes sc f w h o chan off width value rest k still next =
     let own = copies_own sc f w h n went s made (record { hand = on.hand; phase = k.phase }) refl
     (λ c was now begun over. subst SawDone (sym (on.saw begun)) (now.polled k.phase (ap polls k.rest_is ∙ ap polls (sym on.rest) ∙ over))) in
     goes_go sc f w (events.Issue h) h n went w.slots (issue_touch w h (is_script d.phase) op) rs k.here.now.may (outcome_is w h (nexts.Op op) nx ∙ op_is w h op)
-    (λ none. goes_silent sc f (all_marks m.size w.grants rs) (gone w h n went) (store_silent w h (is_script d.phase) chan off width value) (step_stands sc f w h n went s made (copies_on sc f w h n went s made own)))
+    (λ none. goes_silent sc f (records_trace m.size w.grants rs) (gone w h n went) (store_silent w h (is_script d.phase) chan off width value) (step_stands sc f w h n went s made (copies_on sc f w h n went s made own)))
 
 -- ---- the poll
 

@@ -96,9 +96,9 @@ done_works : (d : DriverState) (o : Op) (rest : List Step) → in_hand d ≡ Som
 unfolding done
 done_works d o rest hand phase is = ap (λ (k : Option Op). done_of d seen.Nothing k) hand ∙ ap (λ (p : Phase). done_in d o d.saw p) phase ∙ ap (λ (r : List Step). worked d o d.saw r) is
 
-pub done_marks : (d : DriverState) (buf : ℕ) (to : HartNo) → in_hand d ≡ Some (ops.Hand buf to) → d.phase ≡ Work → d.rest ≡ hand_steps buf to → GoesHanding d (done d seen.Nothing) buf to (mail_step buf to ∷ []) []
+pub done_trace : (d : DriverState) (buf : ℕ) (to : HartNo) → in_hand d ≡ Some (ops.Hand buf to) → d.phase ≡ Work → d.rest ≡ hand_steps buf to → GoesHanding d (done d seen.Nothing) buf to (mail_step buf to ∷ []) []
 unfolding turned_by
-done_marks d buf to hand phase is =
+done_trace d buf to hand phase is =
     subst (λ (w : Went). GoesHanding d w buf to (mail_step buf to ∷ []) []) (sym (done_works d (ops.Hand buf to) (hand_steps buf to) hand phase is))
     (record { driver = record { fixed = refl; lots = refl; rest = refl; phase = refl; hand = hand }; transfers = refl })
 

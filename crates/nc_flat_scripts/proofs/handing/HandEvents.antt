@@ -22,7 +22,7 @@ use Rattle.nc_rules.specs.declared.steps.Step.{Step}
 use Rattle.nc_rules.specs.Machine.{MachineState}
 use Rattle.nc_rules.specs.Calls.{issue_next, issue_answer}
 use Rattle.nc_rules.specs.Driver.{Went, next_of, is_script, done}
-use Rattle.nc_rules.specs.Flat.{all_marks}
+use Rattle.nc_rules.specs.Flat.{records_trace}
 use Rattle.nc_rules.specs.Outcomes.{goes, seen_of}
 use Rattle.nc_rules.specs.Records.{op_records}
 use Rattle.nc_rules.specs.EventTouches.{owner_of, issue_touch}
@@ -124,7 +124,7 @@ sends_stands sc f w h n went e buf s =
 -- ---- the operation, as an event
 
 pub sends_goes : (sc : Scenario) (f : List ℕ) (w : WorldState) (h : HartNo) (op : HartOp) (e : Entry) (buf : ℕ) → IsHere sc f w h → next_of (driver_of w h.0) ≡ nexts.Op op → seen_of (issue_answer w.machine h.0 op) ≡ seen.Nothing
-    → ((t : Bool) → all_marks w.machine.size w.grants (op_records w.machine h t op) ≡ []) → Sends sc f w h (issue_next w.machine h.0 op) (done (driver_of w h.0) seen.Nothing) e buf → Goes sc f w (events.Issue h)
+    → ((t : Bool) → records_trace w.machine.size w.grants (op_records w.machine h t op) ≡ []) → Sends sc f w h (issue_next w.machine h.0 op) (done (driver_of w h.0) seen.Nothing) e buf → Goes sc f w (events.Issue h)
 sends_goes sc f w h op e buf here nx unseen silent s =
     let d = driver_of w h.0 in
     let next = issue_next w.machine h.0 op in
@@ -132,4 +132,4 @@ sends_goes sc f w h op e buf here nx unseen silent s =
     let rs = op_records w.machine h (is_script d.phase) op in
     goes_go sc f w (events.Issue h) h next went w.slots (issue_touch w h (is_script d.phase) op) rs here.now.may
     (outcome_is w h (nexts.Op op) nx ∙ op_is w h op ∙ ap (λ (k : Seen). goes w h next (done d k) w.slots (issue_touch w h (is_script d.phase) op) rs) unseen)
-    (λ none. goes_silent sc f (all_marks w.machine.size w.grants rs) (gone w h next went) (silent (is_script d.phase)) (stands_passed sc f w h next went s.passes (sends_stands sc f w h next went e buf s)))
+    (λ none. goes_silent sc f (records_trace w.machine.size w.grants rs) (gone w h next went) (silent (is_script d.phase)) (stands_passed sc f w h next went s.passes (sends_stands sc f w h next went e buf s)))

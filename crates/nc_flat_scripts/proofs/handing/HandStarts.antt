@@ -42,7 +42,7 @@ use Rattle.nc_flatness.proofs.books.Owned.{me_is}
 use Rattle.nc_flat_scripts.proofs.accesses.ActRows.{stands_now}
 use Rattle.nc_flat_scripts.proofs.handing.BufferOwners.{moved_in, moved_out, owned_is, range_of, ranges_alike, number_here, number_away, range_in, off_pool, off_slots, unsent}
 use Rattle.nc_flat_scripts.proofs.handing.HandCalls.{hands_drives, Starts, Refuses, Begins, hand_starts}
-use Rattle.nc_flat_scripts.proofs.handing.MailFacts.{marks_none, sends_other, sends_none, bare_comes, marker_comes, mail_comes}
+use Rattle.nc_flat_scripts.proofs.handing.MailFacts.{trace_none, sends_other, sends_none, bare_comes, marker_comes, mail_comes}
 use Rattle.nc_flat_scripts.proofs.copies.OtherCopies.{hand_copies_none, same_keeps}
 use Rattle.nc_flat_scripts.proofs.handing.PassingFrames.{row_over, PassedIn, stands_passed}
 use Rattle.nc_flat_scripts.proofs.handing.PassingParts.{Passes, there}
@@ -154,7 +154,7 @@ start_by sc f w h buf to went here hand idle (Begins own goes) =
         fixed = goes.driver.fixed;
         lots = goes.driver.lots;
         was = none_ends d.rest idle.rest;
-        left = subst EndsNone (sym goes.driver.rest) (marks_none buf to);
+        left = subst EndsNone (sym goes.driver.rest) (trace_none buf to);
         unstored = ap rest_last goes.driver.rest;
         drives = hands_drives d went.driver buf to (hand_steps buf to) (flat.bytes.drives h.0 here.lt) idle.still goes.driver (inl refl);
         uncopied = hand_copies_none went.driver buf to goes.driver.hand;

@@ -91,8 +91,8 @@ none_in_line b q rest quiet =
 
 -- ---- the steps with which a buffer is passed on
 
-pub marks_none : (buf : ℕ) (to : HartNo) → EndsNone (hand_steps buf to)
-marks_none buf to lot = refl
+pub trace_none : (buf : ℕ) (to : HartNo) → EndsNone (hand_steps buf to)
+trace_none buf to lot = refl
 
 pub mails_none : (buf : ℕ) (to : HartNo) → EndsNone (mail_step buf to ∷ [])
 mails_none buf to lot = refl

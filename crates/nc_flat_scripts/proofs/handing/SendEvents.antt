@@ -24,9 +24,9 @@ use Rattle.nc_rows.specs.Parts.{rest_last}
 use Rattle.nc_flatness.specs.Flatness.{mail_step}
 use Rattle.nc_flatness.specs.Plans.{IsStill}
 use Rattle.nc_flatness.specs.Steps.{Goes}
-use Rattle.nc_flat_scripts.proofs.handing.HandCalls.{hands_drives, done_marks, done_mails}
+use Rattle.nc_flat_scripts.proofs.handing.HandCalls.{hands_drives, done_trace, done_mails}
 use Rattle.nc_flat_scripts.proofs.handing.HandEvents.{sends_goes}
-use Rattle.nc_flat_scripts.proofs.handing.MailFacts.{marks_none, mails_none, sends_other, mails_other, sends_none, sends_mail, sends_mark}
+use Rattle.nc_flat_scripts.proofs.handing.MailFacts.{trace_none, mails_none, sends_other, mails_other, sends_none, sends_mail, sends_mark}
 use Rattle.nc_flat_scripts.proofs.accesses.OpActs.{enters, marker_plain}
 use Rattle.nc_flat_scripts.proofs.copies.OtherCopies.{steps_copy_none, hand_copies_none}
 use Rattle.nc_flat_scripts.proofs.accesses.ScriptEvents.{IsHere, next_there, may_next}
@@ -44,7 +44,7 @@ mark_goes sc f w h buf to here hand phase rest still nx =
     let op = hart.Mark 1 4 in
     let flat = here.now.flat in
     let went = done d seen.Nothing in
-    let goes = done_marks d buf to hand phase rest in
+    let goes = done_trace d buf to hand phase rest in
     let there = next_there sc f w h op here nx in
     sends_goes sc f w h op (marker 1 4) buf here nx refl (λ t. refl) (record {
       passes = record {
@@ -53,7 +53,7 @@ mark_goes sc f w h buf to here hand phase rest still nx =
         still = still;
         fixed = goes.driver.fixed;
         lots = goes.driver.lots;
-        was = left_as d.rest (hand_steps buf to) rest (marks_none buf to);
+        was = left_as d.rest (hand_steps buf to) rest (trace_none buf to);
         left = left_as went.driver.rest (mail_step buf to ∷ []) goes.driver.rest (mails_none buf to);
         unstored = ap rest_last goes.driver.rest;
         drives = hands_drives d went.driver buf to (mail_step buf to ∷ []) (flat.bytes.drives h.0 here.lt) still goes.driver (inr refl);

@@ -7,4 +7,4 @@ use Rattle.nc_values.proofs.Loops.{with_front}
 use Rattle.nc_scen.proofs.harts.read_harts.Given as goal
 
 abbrev pub invariant-loop-i : goal.invariant-loop-i
-invariant-loop-i l = (with_front (hart_at l.room) l.harts.items (each (hart_at l.room) l.i (items_view (drop l.i l.items))) ≡ each (hart_at l.room) 0 (items_view l.items)) × All (FitsHart l.room.harts l.room.buffers) l.harts.items × (length l.harts.items ≡ l.i)
+invariant-loop-i l = (with_front (hart_at l.counts) l.harts.items (each (hart_at l.counts) l.i (items_view (drop l.i l.items))) ≡ each (hart_at l.counts) 0 (items_view l.items)) × All (FitsHart l.counts.harts l.counts.buffers) l.harts.items × (length l.harts.items ≡ l.i)

@@ -8,11 +8,11 @@ use Rattle.nc_scen.proofs.harts.read_ops.Goals as goal
 pub returns-in_err-op-clause-gives : goal.returns-in_err-op-clause-gives
 returns-in_err-op-clause-gives c =
     let p = err_from_is_err_and c.from_residual.result c.from_residual.ensures.1 in
-    rw (p.1, p.2) (fails (op_at c.args.room c.args.script.now) c.in_err-op.field-0.0 c.loop-i.ops.items c.args.items.now c.loop-i.i c.index-items-i.result _ c.loop-i-test.true c.index-items-i.is c.in_err-op.ensures.gives c.loop-i.invariant.0)
+    rw (p.1, p.2) (fails (op_at c.args.counts c.args.script.now) c.in_err-op.field-0.0 c.loop-i.ops.items c.args.items.now c.loop-i.i c.index-items-i.result _ c.loop-i-test.true c.index-items-i.is c.in_err-op.ensures.gives c.loop-i.invariant.0)
 
 pub loop-i-preserved : goal.loop-i-preserved
 loop-i-preserved c =
-    rw c.in_ok-push.ensures.items (goes_on (op_at c.args.room c.args.script.now) c.loop-i.ops.items c.args.items.now c.loop-i.i c.index-items-i.result c.in_ok-op.op _ c.loop-i-test.true c.index-items-i.is c.in_ok-op.ensures.gives c.loop-i.invariant.0, All-push (FitsOp c.args.room.harts c.args.room.buffers) c.loop-i.ops.items c.in_ok-op.op c.loop-i.invariant.1 c.in_ok-op.ensures.fits, length_push c.loop-i.ops.items c.in_ok-op.op c.loop-i.i c.loop-i.invariant.2)
+    rw c.in_ok-push.ensures.items (goes_on (op_at c.args.counts c.args.script.now) c.loop-i.ops.items c.args.items.now c.loop-i.i c.index-items-i.result c.in_ok-op.op _ c.loop-i-test.true c.index-items-i.is c.in_ok-op.ensures.gives c.loop-i.invariant.0, All-push (FitsOp c.args.counts.harts c.args.counts.buffers) c.loop-i.ops.items c.in_ok-op.op c.loop-i.invariant.1 c.in_ok-op.ensures.fits, length_push c.loop-i.ops.items c.in_ok-op.op c.loop-i.i c.loop-i.invariant.2)
 
 pub returns-clause-gives : goal.returns-clause-gives
-returns-clause-gives c = is_done (op_at c.args.room c.args.script.now) c.loop-i.ops.items c.args.items.now c.loop-i.i _ c.loop-i-test.false c.loop-i.invariant.0
+returns-clause-gives c = is_done (op_at c.args.counts c.args.script.now) c.loop-i.ops.items c.args.items.now c.loop-i.i _ c.loop-i-test.false c.loop-i.invariant.0

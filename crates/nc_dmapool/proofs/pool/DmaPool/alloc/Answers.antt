@@ -2,7 +2,7 @@ use Rattle.std.proofs.Common.{◌≡◌, ◌∙◌, ap, sym, subst, length, true
 use Rattle.std.specs.FinSet as fin
 use Rattle.nc_coherent.specs.Pages.{PageMap, with_pages}
 use Rattle.nc_dmapool.specs.Pieces.{Pieces, Given, HasTaken, given, page_span, with_piece, with_page}
-use Rattle.nc_dmapool.specs.Marks.{Marks, IsKept, IsLowest, HasNone, shown, fresh_page}
+use Rattle.nc_dmapool.specs.Marks.{Marks, ArePages, IsLowest, HasNone, shown, fresh_page}
 use Rattle.nc_dmapool.proofs.Powers.{cuts}
 use Rattle.nc_dmapool.proofs.Shown.{shown_more, ats_mark}
 use Rattle.nc_dmapool.proofs.Found.{free_found, free_none, free_spot}
@@ -50,7 +50,7 @@ invariant_of-self-2 c =
     let has : HasTaken c.args.pages.now (shown l ps) = subst (HasTaken c.args.pages.now) (sym c.self.view_is) c.requires in
     let are = taken_pages l ps c.args.pages.now has c.self.invariant in
     let page = (found c.args.pages.now (page_span c.in_ok-at.at) c.in_ok-at.ensures.taken.0).0 in
-    subst (IsKept l) (sym c.in_ok-at.ensures.taken.1)
+    subst (ArePages l) (sym c.in_ok-at.ensures.taken.1)
     (kept_push l ps (fresh_page l c.in_ok-at.at) c.self.invariant (fresh_is_page l c.in_ok-at.at c.in_ok-at.ensures.whole c.in_ok-at.ensures.ends) (push_apart ps c.args.pages.now c.in_ok-at.at are page))
 
 pub returns-clause-given : goal.returns-clause-given

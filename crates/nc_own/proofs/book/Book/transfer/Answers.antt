@@ -1,5 +1,5 @@
 use Rattle.std.proofs.Common.{◌∙◌, length, sym, ap, arith}
-use Rattle.nc_own.specs.Books.{Shown}
+use Rattle.nc_own.specs.Books.{BookView}
 use Rattle.nc_own.proofs.Follows.{length-owners_of}
 use Rattle.nc_own.proofs.Views.{shown_size, shown_given}
 use Rattle.nc_own.proofs.book.Book.transfer.Goals as goal
@@ -19,4 +19,4 @@ returns-clause-owners c = shown_given _ _ _ _ _ _ _ _ c.self.view_is c.self.inva
 
 pub returns-clause-size : goal.returns-clause-size
 returns-clause-size c =
-    length-owners_of _ _ ∙ sym (length-owners_of _ _) ∙ ap (λ (s : Shown). length s.owners) c.self.view_is
+    length-owners_of _ _ ∙ sym (length-owners_of _ _) ∙ ap (λ (s : BookView). length s.owners) c.self.view_is

@@ -6,8 +6,8 @@ use Rattle.nc_pdma_regs.specs.Moves.{bytes_read}
 use Rattle.nc_pdma.specs.declared.channel.ChanStep.TheVariants.{Moved, Error}
 use Rattle.nc_pdma.specs.Bus.{place_of}
 use Rattle.nc_pdma.specs.Channel.{ChannelState}
-use Rattle.nc_pdma.specs.Steps.{may_read, read_len, read_next, read_told}
-use Rattle.nc_pdma.proofs.Told.{read_idle, read_goes}
+use Rattle.nc_pdma.specs.Steps.{may_read, read_len, read_next, read_step}
+use Rattle.nc_pdma.proofs.StepLaws.{read_idle, read_goes}
 use Rattle.nc_pdma.proofs.channel.Channel.read_step.Goals as goal
 
 pub returns-then-not-may_read-clause-told : goal.returns-then-not-may_read-clause-told
@@ -17,7 +17,7 @@ pub returns-then-not-may_read-clause-state : goal.returns-then-not-may_read-clau
 returns-then-not-may_read-clause-state c =
     sym (ap (read_next c.args.self.now) (read_idle c.args.self.now c.args.ram.now (sym c.may_read.ensures ∙ c.if-not-may_read.true)))
 
-error : (c : goal.After-fail) → read_told c.args.self.now c.args.ram.now ≡ Error c.args.self.now.regs.exec.source (read_len c.args.self.now)
+error : (c : goal.After-fail) → read_step c.args.self.now c.args.ram.now ≡ Error c.args.self.now.regs.exec.source (read_len c.args.self.now)
 error c =
     let s : ChannelState = c.args.self.now in
     let may : may_read s ≡ true = sym c.may_read.ensures ∙ c.if-not-may_read.false in
@@ -35,7 +35,7 @@ returns-in_default-clause-told c =
 pub returns-in_default-clause-state : goal.returns-in_default-clause-state
 returns-in_default-clause-state c = c.fail.ensures ∙ sym (ap (read_next c.args.self.now) (error c))
 
-moved : (c : goal.After-read_on) → read_told c.args.self.now c.args.ram.now
+moved : (c : goal.After-read_on) → read_step c.args.self.now c.args.ram.now
     ≡ Moved (record { at = c.in-Some.at; len = read_len c.args.self.now }) (span c.args.ram.now c.in-Some.at (read_len c.args.self.now)) false
 moved c =
     let s : ChannelState = c.args.self.now in
@@ -48,8 +48,8 @@ moved c =
 bytes_are : (c : goal.After-read_on) → c.read-bytes.result ≡ span c.args.ram.now c.in-Some.at (read_len c.args.self.now)
 bytes_are c = c.read-bytes.ensures.value ∙ ap (span c.args.ram.now c.in-Some.at) c.read_len-len.ensures
 
-pub returns-clause-told : goal.returns-clause-told
-returns-clause-told c = (λ i. Moved (record { at = c.in-Some.at; len = c.read_len-len.ensures i }) (bytes_are c i) false) ∙ sym (moved c)
+pub returns-clause-step : goal.returns-clause-step
+returns-clause-step c = (λ i. Moved (record { at = c.in-Some.at; len = c.read_len-len.ensures i }) (bytes_are c i) false) ∙ sym (moved c)
 
 pub returns-clause-state : goal.returns-clause-state
 returns-clause-state c =

@@ -6,8 +6,8 @@ use Rattle.nc_pdma_regs.specs.Moves.{written_on}
 use Rattle.nc_pdma.specs.declared.channel.ChanStep.TheVariants.{Moved, Error}
 use Rattle.nc_pdma.specs.Bus.{place_of}
 use Rattle.nc_pdma.specs.Channel.{ChannelState, IsChannel}
-use Rattle.nc_pdma.specs.Steps.{may_write, ram_after, write_len, write_next, write_told}
-use Rattle.nc_pdma.proofs.Told.{moved_out_is, write_idle, write_goes}
+use Rattle.nc_pdma.specs.Steps.{may_write, ram_after, write_len, write_next, write_step}
+use Rattle.nc_pdma.proofs.StepLaws.{moved_out_is, write_idle, write_goes}
 use Rattle.nc_pdma.proofs.channel.Channel.write_step.Goals as goal
 
 pub returns-then-not-may_write-clause-told : goal.returns-then-not-may_write-clause-told
@@ -21,7 +21,7 @@ pub returns-then-not-may_write-clause-memory : goal.returns-then-not-may_write-c
 returns-then-not-may_write-clause-memory c =
     sym (ap (ram_after c.args.ram.now) (write_idle c.args.self.now (length c.args.ram.now) (sym c.may_write.ensures ∙ c.if-not-may_write.true)))
 
-error : (c : goal.After-fail) → write_told c.args.self.now (length c.args.ram.now) ≡ Error c.args.self.now.regs.exec.destination (write_len c.args.self.now)
+error : (c : goal.After-fail) → write_step c.args.self.now (length c.args.ram.now) ≡ Error c.args.self.now.regs.exec.destination (write_len c.args.self.now)
 error c =
     let s : ChannelState = c.args.self.now in
     let may : may_write s ≡ true = sym c.may_write.ensures ∙ c.if-not-may_write.false in
@@ -43,7 +43,7 @@ returns-in_default-clause-state c = c.fail.ensures ∙ sym (ap (write_next c.arg
 pub returns-in_default-clause-memory : goal.returns-in_default-clause-memory
 returns-in_default-clause-memory c = sym (ap (ram_after c.args.ram.now) (error c))
 
-moved : (c : goal.After-write_on-done) → let s : ChannelState = c.args.self.now in write_told s (length c.args.ram.now)
+moved : (c : goal.After-write_on-done) → let s : ChannelState = c.args.self.now in write_step s (length c.args.ram.now)
     ≡ Moved (record { at = c.in-Some.at; len = write_len s }) (take (write_len s) s.fifo) (s.regs.exec.bytes - write_len s == 0)
 moved c =
     let s : ChannelState = c.args.self.now in
@@ -70,8 +70,8 @@ invariant_of-self c =
     let sound : IsChannel c.args.self.now = subst IsChannel c.self.view_is c.self.invariant in
     moved_out_is c.args.self.now (write_len c.args.self.now) c.write_on-done.new.self c.take_out-bytes.new.fifo.items sound (regs_are c) (fifo_is c)
 
-pub returns-clause-told : goal.returns-clause-told
-returns-clause-told c =
+pub returns-clause-step : goal.returns-clause-step
+returns-clause-step c =
     let s : ChannelState = c.args.self.now in
     let len : c.from.result ≡ write_len s = c.from.ensures ∙ c.write_len-len.ensures in
     let left : c.self.inside.regs.exec.bytes ≡ s.regs.exec.bytes = ap (λ (v : ChannelState). v.regs.exec.bytes) c.self.view_is in

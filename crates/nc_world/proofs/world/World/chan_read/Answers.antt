@@ -22,8 +22,8 @@ invariant_of-self-2 c =
     let sound : IsMachine w.machine = subst (λ (v : WorldView). IsMachine v.state.machine) back c.laws.ensures.machine in
     let t = c.chan_read-moved.result in
     let moved : is_idle_step t ≡ false = sym c.is_idle.ensures ∙ c.if-is_idle.false in
-    let touch = c.touches_after-self-inside.ensures ∙ ap (touches_after w.touches) (c.transaction_touch-touch.ensures ∙ transaction_touch_is w c.args.c Read t _ c.chan_read-moved.ensures.told) in
-    let same = machine_next w _ (ChanRead c.args.c) _ _ _ (read_may w c.args.c t c.chan_read-moved.ensures.told moved) (read_is w c.args.c) c.chan_read-moved.ensures.state refl refl refl c.one_more-self-inside.ensures touch refl refl in
+    let touch = c.touches_after-self-inside.ensures ∙ ap (touches_after w.touches) (c.transaction_touch-touch.ensures ∙ transaction_touch_is w c.args.c Read t _ c.chan_read-moved.ensures.step) in
+    let same = machine_next w _ (ChanRead c.args.c) _ _ _ (read_may w c.args.c t c.chan_read-moved.ensures.step moved) (read_is w c.args.c) c.chan_read-moved.ensures.state refl refl refl c.one_more-self-inside.ensures touch refl refl in
     kept_next w _ (ChanRead c.args.c) c.self.inside.size c.self.inside.pool c.laws.ensures.keeps c.laws.ensures.stays sound c.self.invariant c.requires same
 
 pub returns-clause-records : goal.returns-clause-records
@@ -35,5 +35,5 @@ returns-clause-records c =
     let moved : is_idle_step t ≡ false = sym c.is_idle.ensures ∙ c.if-is_idle.false in
     let pushed = c.push.ensures.records ∙ ap (λ (l : List Record). l ++ x ∷ []) c.in_ok-reserve.ensures.records in
     let touched = c.touch.ensures.records ∙ ap (λ (l : List Record). c.push.new.self.records ++ l) (ap touch_records c.transaction_touch-touch.ensures) in
-    let sum = added start _ _ _ _ _ x pushed touched c.chan_read.ensures.records ∙ ap (λ (l : List Record). start ++ l) (sym (records_read w c.args.c t c.chan_read-moved.ensures.told moved)) in
+    let sum = added start _ _ _ _ _ x pushed touched c.chan_read.ensures.records ∙ ap (λ (l : List Record). start ++ l) (sym (records_read w c.args.c t c.chan_read-moved.ensures.step moved)) in
     subst (λ (v : WorldView). c.chan_read.new.self.records ≡ v.records ++ event_records v.state (ChanRead c.args.c)) c.self.view_is sum

@@ -29,18 +29,18 @@ use Rattle.nc_world.proofs.Parts.{going, next_may, joined, same_next, parts_outc
 use Rattle.nc_world.proofs.world.World.issue_step.Goals as goal
 
 pub issue_step-requires-clause-seen : goal.issue_step-requires-clause-seen
-issue_step-requires-clause-seen c = subst (λ (s : Seen). IsSeenAt c.coming-next.result s) (sym c.seen-saw.ensures) (seen_at (state_of c.self.inside).machine c.args.h c.coming-next.result)
+issue_step-requires-clause-seen c = subst (λ (s : Seen). IsSeenAt c.next_action-next.result s) (sym c.seen-saw.ensures) (seen_at (state_of c.self.inside).machine c.args.h c.next_action-next.result)
 
 pub carry-requires-clause-inside : goal.carry-requires-clause-inside
 carry-requires-clause-inside c =
     let w = state_of c.self.inside in
     let h = c.args.h in
-    let n = c.coming-next.result in
+    let n = c.next_action-next.result in
     let d = driver_of w h.0 in
     let back = sym c.self.view_is in
     let lt : h.0 < length w.machine.harts = subst (λ (v : WorldView). h.0 < length v.state.machine.harts) back c.requires in
     let sound : IsMachine w.machine = subst (λ (v : WorldView). IsMachine v.state.machine) back c.laws.ensures.machine in
-    let coming : next_of d ≡ n = sym (subst (λ (v : WorldView). n ≡ next_of (driver_of v.state h.0)) back c.coming-next.ensures.next) in
+    let coming : next_of d ≡ n = sym (subst (λ (v : WorldView). n ≡ next_of (driver_of v.state h.0)) back c.next_action-next.ensures.next) in
     let may_go : may_issue_step w h ≡ true = sym (subst (λ (v : WorldView). c.may_issue.result ≡ may_issue_step v.state h) back c.may_issue.ensures) ∙ c.if-not-may_issue.false in
     let moves : moves_view c.in_ok-moves.moves ≡ (went_on d w.owners w.pages n (step_seen w.machine h n)).moves =
     c.in_ok-moves.ensures.moves ∙ ap (λ (os : List Owner). (went_on d os w.pages n c.seen-saw.result).moves) c.in_ok-reserve.ensures.owners
@@ -52,12 +52,12 @@ pub carry-requires-clause-grants : goal.carry-requires-clause-grants
 carry-requires-clause-grants c =
     let w = state_of c.self.inside in
     let h = c.args.h in
-    let n = c.coming-next.result in
+    let n = c.next_action-next.result in
     let d = driver_of w h.0 in
     let back = sym c.self.view_is in
     let lt : h.0 < length w.machine.harts = subst (λ (v : WorldView). h.0 < length v.state.machine.harts) back c.requires in
     let sound : IsMachine w.machine = subst (λ (v : WorldView). IsMachine v.state.machine) back c.laws.ensures.machine in
-    let coming : next_of d ≡ n = sym (subst (λ (v : WorldView). n ≡ next_of (driver_of v.state h.0)) back c.coming-next.ensures.next) in
+    let coming : next_of d ≡ n = sym (subst (λ (v : WorldView). n ≡ next_of (driver_of v.state h.0)) back c.next_action-next.ensures.next) in
     let may_go : may_issue_step w h ≡ true = sym (subst (λ (v : WorldView). c.may_issue.result ≡ may_issue_step v.state h) back c.may_issue.ensures) ∙ c.if-not-may_issue.false in
     let moves : moves_view c.in_ok-moves.moves ≡ (went_on d w.owners w.pages n (step_seen w.machine h n)).moves =
     c.in_ok-moves.ensures.moves ∙ ap (λ (os : List Owner). (went_on d os w.pages n c.seen-saw.result).moves) c.in_ok-reserve.ensures.owners
@@ -70,12 +70,12 @@ pub carry-requires-clause-backs : goal.carry-requires-clause-backs
 carry-requires-clause-backs c =
     let w = state_of c.self.inside in
     let h = c.args.h in
-    let n = c.coming-next.result in
+    let n = c.next_action-next.result in
     let d = driver_of w h.0 in
     let back = sym c.self.view_is in
     let lt : h.0 < length w.machine.harts = subst (λ (v : WorldView). h.0 < length v.state.machine.harts) back c.requires in
     let sound : IsMachine w.machine = subst (λ (v : WorldView). IsMachine v.state.machine) back c.laws.ensures.machine in
-    let coming : next_of d ≡ n = sym (subst (λ (v : WorldView). n ≡ next_of (driver_of v.state h.0)) back c.coming-next.ensures.next) in
+    let coming : next_of d ≡ n = sym (subst (λ (v : WorldView). n ≡ next_of (driver_of v.state h.0)) back c.next_action-next.ensures.next) in
     let may_go : may_issue_step w h ≡ true = sym (subst (λ (v : WorldView). c.may_issue.result ≡ may_issue_step v.state h) back c.may_issue.ensures) ∙ c.if-not-may_issue.false in
     let moves : moves_view c.in_ok-moves.moves ≡ (went_on d w.owners w.pages n (step_seen w.machine h n)).moves =
     c.in_ok-moves.ensures.moves ∙ ap (λ (os : List Owner). (went_on d os w.pages n c.seen-saw.result).moves) c.in_ok-reserve.ensures.owners
@@ -87,12 +87,12 @@ pub carry-requires-clause-pages : goal.carry-requires-clause-pages
 carry-requires-clause-pages c =
     let w = state_of c.self.inside in
     let h = c.args.h in
-    let n = c.coming-next.result in
+    let n = c.next_action-next.result in
     let d = driver_of w h.0 in
     let back = sym c.self.view_is in
     let lt : h.0 < length w.machine.harts = subst (λ (v : WorldView). h.0 < length v.state.machine.harts) back c.requires in
     let sound : IsMachine w.machine = subst (λ (v : WorldView). IsMachine v.state.machine) back c.laws.ensures.machine in
-    let coming : next_of d ≡ n = sym (subst (λ (v : WorldView). n ≡ next_of (driver_of v.state h.0)) back c.coming-next.ensures.next) in
+    let coming : next_of d ≡ n = sym (subst (λ (v : WorldView). n ≡ next_of (driver_of v.state h.0)) back c.next_action-next.ensures.next) in
     let may_go : may_issue_step w h ≡ true = sym (subst (λ (v : WorldView). c.may_issue.result ≡ may_issue_step v.state h) back c.may_issue.ensures) ∙ c.if-not-may_issue.false in
     let moves : moves_view c.in_ok-moves.moves ≡ (went_on d w.owners w.pages n (step_seen w.machine h n)).moves =
     c.in_ok-moves.ensures.moves ∙ ap (λ (os : List Owner). (went_on d os w.pages n c.seen-saw.result).moves) c.in_ok-reserve.ensures.owners
@@ -104,12 +104,12 @@ pub invariant_of-self-2 : goal.invariant_of-self-2
 invariant_of-self-2 c =
     let w = state_of c.self.inside in
     let h = c.args.h in
-    let n = c.coming-next.result in
+    let n = c.next_action-next.result in
     let d = driver_of w h.0 in
     let back = sym c.self.view_is in
     let lt : h.0 < length w.machine.harts = subst (λ (v : WorldView). h.0 < length v.state.machine.harts) back c.requires in
     let sound : IsMachine w.machine = subst (λ (v : WorldView). IsMachine v.state.machine) back c.laws.ensures.machine in
-    let coming : next_of d ≡ n = sym (subst (λ (v : WorldView). n ≡ next_of (driver_of v.state h.0)) back c.coming-next.ensures.next) in
+    let coming : next_of d ≡ n = sym (subst (λ (v : WorldView). n ≡ next_of (driver_of v.state h.0)) back c.next_action-next.ensures.next) in
     let may_go : may_issue_step w h ≡ true = sym (subst (λ (v : WorldView). c.may_issue.result ≡ may_issue_step v.state h) back c.may_issue.ensures) ∙ c.if-not-may_issue.false in
     let moves : moves_view c.in_ok-moves.moves ≡ (went_on d w.owners w.pages n (step_seen w.machine h n)).moves =
     c.in_ok-moves.ensures.moves ∙ ap (λ (os : List Owner). (went_on d os w.pages n c.seen-saw.result).moves) c.in_ok-reserve.ensures.owners
@@ -129,12 +129,12 @@ pub returns-clause-next : goal.returns-clause-next
 returns-clause-next c =
     let w = state_of c.self.inside in
     let h = c.args.h in
-    let n = c.coming-next.result in
+    let n = c.next_action-next.result in
     let d = driver_of w h.0 in
     let back = sym c.self.view_is in
     let lt : h.0 < length w.machine.harts = subst (λ (v : WorldView). h.0 < length v.state.machine.harts) back c.requires in
     let sound : IsMachine w.machine = subst (λ (v : WorldView). IsMachine v.state.machine) back c.laws.ensures.machine in
-    let coming : next_of d ≡ n = sym (subst (λ (v : WorldView). n ≡ next_of (driver_of v.state h.0)) back c.coming-next.ensures.next) in
+    let coming : next_of d ≡ n = sym (subst (λ (v : WorldView). n ≡ next_of (driver_of v.state h.0)) back c.next_action-next.ensures.next) in
     let may_go : may_issue_step w h ≡ true = sym (subst (λ (v : WorldView). c.may_issue.result ≡ may_issue_step v.state h) back c.may_issue.ensures) ∙ c.if-not-may_issue.false in
     let moves : moves_view c.in_ok-moves.moves ≡ (went_on d w.owners w.pages n (step_seen w.machine h n)).moves =
     c.in_ok-moves.ensures.moves ∙ ap (λ (os : List Owner). (went_on d os w.pages n c.seen-saw.result).moves) c.in_ok-reserve.ensures.owners
@@ -154,12 +154,12 @@ pub returns-clause-records : goal.returns-clause-records
 returns-clause-records c =
     let w = state_of c.self.inside in
     let h = c.args.h in
-    let n = c.coming-next.result in
+    let n = c.next_action-next.result in
     let d = driver_of w h.0 in
     let back = sym c.self.view_is in
     let lt : h.0 < length w.machine.harts = subst (λ (v : WorldView). h.0 < length v.state.machine.harts) back c.requires in
     let sound : IsMachine w.machine = subst (λ (v : WorldView). IsMachine v.state.machine) back c.laws.ensures.machine in
-    let coming : next_of d ≡ n = sym (subst (λ (v : WorldView). n ≡ next_of (driver_of v.state h.0)) back c.coming-next.ensures.next) in
+    let coming : next_of d ≡ n = sym (subst (λ (v : WorldView). n ≡ next_of (driver_of v.state h.0)) back c.next_action-next.ensures.next) in
     let may_go : may_issue_step w h ≡ true = sym (subst (λ (v : WorldView). c.may_issue.result ≡ may_issue_step v.state h) back c.may_issue.ensures) ∙ c.if-not-may_issue.false in
     let moves : moves_view c.in_ok-moves.moves ≡ (went_on d w.owners w.pages n (step_seen w.machine h n)).moves =
     c.in_ok-moves.ensures.moves ∙ ap (λ (os : List Owner). (went_on d os w.pages n c.seen-saw.result).moves) c.in_ok-reserve.ensures.owners
