@@ -2,8 +2,8 @@
 use Rattle.std.proofs.Common.{◌≡◌, ◌≢◌, ◌⊎◌, ℕ, zero, suc, ◌+◌, ◌-◌, ◌<◌, ◌≤◌, true, false, List, [], ◌∷◌, ◌++◌, length, take, drop, get_or, cond, ltb, min, refl, sym, ap, ◌∙◌, subst, append_assoc, arith, inl, inr}
 use Rattle.std.proofs.lemmas.Bool.{cases_lt, lt-ltb}
 use Rattle.std.proofs.lemmas.Bool.Decides.{nat_tests}
-use Rattle.std.proofs.lemmas.List.{take-take, length-drop}
-use Rattle.std.proofs.Math.Seq.{drop-append_seam, take-append_seam, take-append-add}
+use Rattle.std.proofs.lemmas.List.{length-take-le, length-drop}
+use Rattle.std.proofs.Math.Seq.{drop-append_seam, take-append_seam}
 use Rattle.nc_num.specs.Places.{covers}
 use Rattle.nc_num.specs.declared.places.Span.{Span}
 use Rattle.nc_model.proofs.Faults.{covers-from, covers-low, covers-high, covers-below, covers-above}
@@ -79,23 +79,14 @@ abbrev pub cut : List Interval → ℕ → ℕ → Interval → Interval → ℕ
 cut xs first last a b start stop owner =
     take first xs ++ (run a.span.at start a.owner ++ (run start stop owner ++ (run stop (b.span.at + b.span.len) b.owner ++ drop (suc last) xs)))
 
--- the same by turning: what lies behind goes to the front and back
-seam : {X : Type 0} (front back : List X) (n : ℕ) → length front ≡ n → drop n (front ++ back) ++ take n (front ++ back) ≡ back ++ front
-seam front back n e = subst (λ k. drop k (front ++ back) ++ take k (front ++ back) ≡ back ++ front) e (ap (λ xs. xs ++ take (length front) (front ++ back)) (drop-append_seam front back) ∙ ap (λ xs. back ++ xs) (take-append_seam front back))
+-- what is put between the first n and the rest
+seam : {X : Type 0} (front back l : List X) (n : ℕ) → length front ≡ n → take n (front ++ back) ++ (l ++ drop n (front ++ back)) ≡ front ++ (l ++ back)
+seam front back l n e =
+    subst (λ k. take k (front ++ back) ++ (l ++ drop k (front ++ back)) ≡ front ++ (l ++ back)) e
+    (rw (take-append_seam front back, drop-append_seam front back) refl)
 
-front_of : {X : Type 0} (xs : List X) (first behind rest : ℕ) → first ≤ behind → length (drop behind xs) ≡ rest
-    → take (rest + first) (drop behind xs ++ take behind xs) ≡ drop behind xs ++ take first xs
-front_of xs first behind rest le e =
-    subst (λ k. take (k + first) (drop behind xs ++ take behind xs) ≡ drop behind xs ++ take first xs) e
-    (take-append-add (drop behind xs) (take behind xs) first ∙ ap (λ ys. drop behind xs ++ ys) (take-take first behind xs le))
-
-pub turned : {X : Type 0} (xs l m r : List X) (first behind rest : ℕ) → first ≤ behind → behind ≤ length xs → rest ≡ length xs - behind
-    → drop rest (((take (rest + first) (drop behind xs ++ take behind xs) ++ l) ++ m) ++ r) ++ take rest (((take (rest + first) (drop behind xs ++ take behind xs) ++ l) ++ m) ++ r)
-    ≡ take first xs ++ (l ++ (m ++ (r ++ drop behind xs)))
-turned xs l m r first behind rest le le' e =
-    let size : length (drop behind xs) ≡ rest = length-drop behind xs ∙ sym e in
-    let front : ((take (rest + first) (drop behind xs ++ take behind xs) ++ l) ++ m) ++ r ≡ drop behind xs ++ (take first xs ++ (l ++ (m ++ r))) = rw (front_of xs first behind rest le size) (simp append_assoc) in
-    ap (λ ys. drop rest ys ++ take rest ys) front ∙ seam (drop behind xs) (take first xs ++ (l ++ (m ++ r))) rest size ∙ simp append_assoc
+pub put_between : {X : Type 0} (xs back l : List X) (n : ℕ) → n ≤ length xs → take n (take n xs ++ back) ++ (l ++ drop n (take n xs ++ back)) ≡ take n xs ++ (l ++ back)
+put_between xs back l n le = seam (take n xs) back l n (length-take-le n xs le)
 
 -- where the cut lies, in numbers
 pub record IsCut (xs : List Interval) (span : Span) (owner : Owner) (first last : ℕ) (a b : Interval) (start stop : ℕ) : Type 0 where

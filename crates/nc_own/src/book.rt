@@ -15,7 +15,7 @@ use crate::finds::{
     remove_with_id,
 };
 use crate::guesses::Guesses;
-use crate::intervals::{Interval, end_of, give, index_of, interval_at, push_run};
+use crate::intervals::{Interval, end_of, give, index_of, insert_run, interval_at};
 use nc_model::{Access, Actor, Grant, Owner, Touch, TouchKind};
 use nc_num::{ChanNo, HartNo, MapId, NoMemory, Place, Span};
 use std::alloc::Global;
@@ -53,7 +53,7 @@ impl Book {
         ensures grants { IfOk result (λ b. b.grants ≡ []) }
     {
         let mut intervals = Vec::with_capacity(alloc, 1)?;
-        push_run(&mut intervals, 0, ram, Owner::Pool);
+        insert_run(&mut intervals, 0, 0, ram, Owner::Pool);
         Ok(Book {
             ram,
             intervals,

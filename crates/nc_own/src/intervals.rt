@@ -1,6 +1,6 @@
 //! Intervals of RAM, one behind another, each with its owner.
 
-ghost use Rattle.std.specs.Prelude.{◌≡◌, ◌≢◌, ◌⊎◌, ◌++◌, ◌+◌, ◌^◌, ◌<◌, ◌≤◌, ℕ, true, length, vec_len, vec_capacity, if◌then◌else◌};
+ghost use Rattle.std.specs.Prelude.{◌≡◌, ◌≢◌, ◌⊎◌, ◌++◌, ◌+◌, ◌-◌, ◌^◌, ◌<◌, ◌≤◌, ℕ, true, length, take, drop, vec_len, vec_capacity, if◌then◌else◌};
 ghost use Rattle.std.specs.List.{HoldsAt};
 ghost use Rattle.nc_num.specs.Places.{covers};
 ghost use Rattle.nc_model.specs.Owners.{owner_at};
@@ -84,21 +84,39 @@ fn border(neighbour: Owner, owner: Owner, outer: u32, inner: u32) -> u32
     if neighbour == owner { outer } else { inner }
 }
 
-/// Appends the interval from one place to another, or none where there is nothing between them. It takes no memory.
-pub fn push_run(intervals: &mut Vec<Interval>, start: u32, end: u32, owner: Owner)
-    requires { vec_len intervals.old < vec_capacity intervals.old }
-    ensures items { intervals.new.items ≡ intervals.old.items ++ run start end owner }
+/// Inserts the interval from one place to another as number `at`, or none where there is nothing between them. It takes
+/// no memory.
+pub fn insert_run(intervals: &mut Vec<Interval>, at: usize, start: u32, end: u32, owner: Owner)
+    requires room { vec_len intervals.old < vec_capacity intervals.old }
+    requires inside { at ≤ vec_len intervals.old }
+    ensures items { intervals.new.items ≡ take at intervals.old.items ++ (run start end owner ++ drop at intervals.old.items) }
     ensures len { vec_len intervals.new ≤ vec_len intervals.old + 1 }
+    ensures more { vec_len intervals.old ≤ vec_len intervals.new }
     ensures capacity { vec_capacity intervals.new ≡ vec_capacity intervals.old }
 {
     if start < end {
-        intervals.push_reserved(Interval {
-            span: Span {
-                at: start,
-                len: end - start,
-            },
-            owner,
-        });
+        let span = Span {
+            at: start,
+            len: end - start,
+        };
+        let inserted = intervals.insert(at, Interval { span, owner });
+        match inserted {
+            Ok(()) => {}
+            Err(_) => unreachable!(),
+        }
+    }
+}
+
+/// Removes the intervals from number `first` on, up to the one before number `end`.
+fn remove_from(intervals: &mut Vec<Interval>, first: usize, end: usize)
+    requires order { first ≤ end }
+    requires inside { end ≤ vec_len intervals.old }
+    ensures items { intervals.new.items ≡ take first intervals.old.items ++ drop end intervals.old.items }
+    ensures len { vec_len intervals.new + (end - first) ≡ vec_len intervals.old }
+    ensures capacity { vec_capacity intervals.new ≡ vec_capacity intervals.old }
+{
+    for _ in first..end {
+        let _ = intervals.remove(first);
     }
 }
 
@@ -120,12 +138,8 @@ pub fn give(intervals: &mut Vec<Interval>, ram: u32, span: Span, owner: Owner)
     let (last, behind) = find(intervals, end.min(ram - 1));
     let start = border(before.owner, owner, before.span.at, span.at);
     let stop = border(behind.owner, owner, end_of(behind.span), end);
-    // what lies behind goes to the front, so that what changes is at the end
-    let rest = intervals.len() - (last + 1);
-    intervals.rotate_left(last + 1);
-    intervals.truncate(rest + first);
-    push_run(intervals, before.span.at, start, before.owner);
-    push_run(intervals, start, stop, owner);
-    push_run(intervals, stop, end_of(behind.span), behind.owner);
-    intervals.rotate_left(rest);
+    remove_from(intervals, first, last + 1);
+    insert_run(intervals, first, stop, end_of(behind.span), behind.owner);
+    insert_run(intervals, first, start, stop, owner);
+    insert_run(intervals, first, before.span.at, start, before.owner);
 }
