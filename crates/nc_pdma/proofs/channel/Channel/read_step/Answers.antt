@@ -10,8 +10,8 @@ use Rattle.nc_pdma.specs.Steps.{may_read, read_len, read_next, read_step}
 use Rattle.nc_pdma.proofs.StepLaws.{read_idle, read_goes}
 use Rattle.nc_pdma.proofs.channel.Channel.read_step.Goals as goal
 
-pub returns-then-not-may_read-clause-told : goal.returns-then-not-may_read-clause-told
-returns-then-not-may_read-clause-told c = sym (read_idle c.args.self.now c.args.ram.now (sym c.may_read.ensures ∙ c.if-not-may_read.true))
+pub returns-then-not-may_read-clause-step : goal.returns-then-not-may_read-clause-step
+returns-then-not-may_read-clause-step c = sym (read_idle c.args.self.now c.args.ram.now (sym c.may_read.ensures ∙ c.if-not-may_read.true))
 
 pub returns-then-not-may_read-clause-state : goal.returns-then-not-may_read-clause-state
 returns-then-not-may_read-clause-state c =
@@ -26,8 +26,8 @@ error c =
     λ i. place_of (c.len.ensures.value i) (source i) (c.read_len-len.ensures i) in
     read_goes s c.args.ram.now None may (sym same ∙ (sym c.place_on_bus.ensures ∙ c.in_default.is))
 
-pub returns-in_default-clause-told : goal.returns-in_default-clause-told
-returns-in_default-clause-told c =
+pub returns-in_default-clause-step : goal.returns-in_default-clause-step
+returns-in_default-clause-step c =
     let source : c.exec-bus.result.source ≡ c.args.self.now.regs.exec.source =
     ap (λ t. t.source) c.exec-bus.ensures ∙ ap (λ (v : ChannelState). v.regs.exec.source) c.self.view_is in
     (λ i. Error (source i) (c.read_len-len.ensures i)) ∙ sym (error c)

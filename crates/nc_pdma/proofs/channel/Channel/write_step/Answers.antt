@@ -10,8 +10,8 @@ use Rattle.nc_pdma.specs.Steps.{may_write, ram_after, write_len, write_next, wri
 use Rattle.nc_pdma.proofs.StepLaws.{moved_out_is, write_idle, write_goes}
 use Rattle.nc_pdma.proofs.channel.Channel.write_step.Goals as goal
 
-pub returns-then-not-may_write-clause-told : goal.returns-then-not-may_write-clause-told
-returns-then-not-may_write-clause-told c = sym (write_idle c.args.self.now (length c.args.ram.now) (sym c.may_write.ensures ∙ c.if-not-may_write.true))
+pub returns-then-not-may_write-clause-step : goal.returns-then-not-may_write-clause-step
+returns-then-not-may_write-clause-step c = sym (write_idle c.args.self.now (length c.args.ram.now) (sym c.may_write.ensures ∙ c.if-not-may_write.true))
 
 pub returns-then-not-may_write-clause-state : goal.returns-then-not-may_write-clause-state
 returns-then-not-may_write-clause-state c =
@@ -31,8 +31,8 @@ error c =
     λ i. place_of (c.len.ensures.value i) (bus i) (c.write_len-len.ensures i) in
     write_goes s (length c.args.ram.now) None may (sym same ∙ (sym c.place_on_bus.ensures ∙ c.in_default.is))
 
-pub returns-in_default-clause-told : goal.returns-in_default-clause-told
-returns-in_default-clause-told c =
+pub returns-in_default-clause-step : goal.returns-in_default-clause-step
+returns-in_default-clause-step c =
     let bus : c.exec-bus.result.destination ≡ c.args.self.now.regs.exec.destination =
     ap (λ t. t.destination) c.exec-bus.ensures ∙ ap (λ (v : ChannelState). v.regs.exec.destination) c.self.view_is in
     (λ i. Error (bus i) (c.write_len-len.ensures i)) ∙ sym (error c)
