@@ -42,9 +42,6 @@ blocks_apart a b z lt = grind arith
 pub block_of-le : {s : ℕ} (x y : ℕ) → IsBlockSize s → x ≤ y → x / s ≤ y / s
 block_of-le x y z le = grind arith
 
-pub whole-add : {s : ℕ} (a b : ℕ) → IsBlockSize s → a % s ≡ 0 → b % s ≡ 0 → (a + b) % s ≡ 0
-whole-add a b z p q = grind arith
-
 pub piece_in_block : {s : ℕ} (at n : ℕ) → IsBlockSize s → (n ≡ 8) ⊎ (n ≡ 4) ⊎ (n ≡ 2) ⊎ (n ≡ 1) → at % n ≡ 0 → at % s + n ≤ s
 piece_in_block at n z is e = grind arith
 
@@ -54,9 +51,6 @@ page_whole a z e = grind arith
 -- a larger size is whole blocks, and block i of a zeroed range
 pub zeroed : {s z : ℕ} → IsBlockSize s → IsBlockSize z → s ≤ z → s * (z / s) ≡ z
 zeroed size zone le = grind arith
-
-pub zeroed_block : {s z : ℕ} (x i : ℕ) → IsBlockSize s → IsBlockSize z → s ≤ z → i < z / s → s * (z * (x / z) / s + i) ≡ z * (x / z) + s * i
-zeroed_block x i size zone le lt = grind arith
 
 -- what holds at 32, 64 and 128, where grind has no way in
 pub each_size : (P : ℕ → Type 0) (s : ℕ) → IsBlockSize s → P 32 → P 64 → P 128 → P s
