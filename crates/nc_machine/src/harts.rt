@@ -59,12 +59,16 @@ fn queued(queue: &Queue, x: Place, size: u32) -> Option<u8>
 }
 
 /// Bytes from a place on, each from the newest entry that gives it, else these.
+#[tactic(auto, using(crate::proofs::Loads::overlaid_by_none))]
 pub(crate) fn overlaid(queue: &Queue, at: u32, below: &Bytes, size: u32) -> Bytes
     requires size { queue.now.size ≡ size }
     requires short { length below.now ≤ 8 }
     requires ends { at + length below.now < 2 ^ 32 }
     ensures { result ≡ overlaid size queue.now.entries at below.now }
 {
+    if queue.len() == 0 {
+        return *below;
+    }
     let mut cells = [0; 8];
     let below = below.as_slice();
     for (i, byte) in below.iter().enumerate() {
@@ -74,11 +78,15 @@ pub(crate) fn overlaid(queue: &Queue, at: u32, below: &Bytes, size: u32) -> Byte
 }
 
 /// Whether some byte of a span comes from no entry.
+#[tactic(auto, using(crate::proofs::Loads::none_gives))]
 pub(crate) fn reaches_below(queue: &Queue, span: Span, size: u32) -> bool
     requires size { queue.now.size ≡ size }
     requires ends { span.at + span.len < 2 ^ 32 }
     ensures { result ≡ list_any (λ x. is_none (gives size queue.now.entries x)) (range_with_len span.at span.len) }
 {
+    if queue.len() == 0 {
+        return span.len != 0;
+    }
     (span.at..span.at + span.len).any(|x| queued(queue, Place(x), size).is_none())
 }
 
