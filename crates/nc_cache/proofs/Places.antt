@@ -16,15 +16,6 @@ use Rattle.nc_cache.proofs.Lines.{line-with_same, line-with_other, byte-span_blo
 pub keeps_same : (s : ℕ) (c : Cache) (x : ℕ) → Keeps s c c x
 keeps_same s c x = record { fresh = λ f. (f, refl); clear = λ f. (f, refl); memory = inl refl }
 
-pub keeps_then : (s : ℕ) (c d e : Cache) (x : ℕ) → Fresh s c x → Keeps s c d x → Keeps s d e x → Keeps s c e x
-keeps_then s c d e x f p q =
-    let first = p.fresh f in
-    record {
-      fresh = λ g. let r = q.fresh first.0 in (r.0, r.1 ∙ first.1);
-      clear = λ g. let a = p.clear g in let b = q.clear a.0 in (b.0, b.1 ∙ a.1);
-      memory = elim q.memory [ inl same ↦ elim p.memory [ inl same' ↦ inl (same ∙ same') | inr got ↦ inr (same ∙ got) ] | inr got ↦ inr (got ∙ first.1) ];
-    }
-
 -- a place where memory and the copies have one byte
 agrees_bytes : (s : ℕ) (ram bs : List ℕ) (d : Held) (v x : ℕ) → byte ram x ≡ v → byte bs (x % s) ≡ v → CleanAgrees s ram x bs d
 agrees_bytes s ram bs (Shared by) v x m e = e ∙ sym m

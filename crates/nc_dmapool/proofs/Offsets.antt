@@ -1,6 +1,6 @@
 -- The places of a page, by number, for a layout that a pool can have.
 use Rattle.std.proofs.Common.{◌≡◌, ℕ, ◌+◌, ◌*◌, ◌/◌, ◌%◌, ◌<◌, ◌≤◌, sym, ap, subst, ◌∙◌, arith}
-use Rattle.std.proofs.lemmas.Nat.{mul-le, le-div, mul-lt}
+use Rattle.std.proofs.lemmas.Nat.{le-div, mul-lt}
 use Rattle.nc_dmapool.specs.Layouts.{Layout, IsCut, Cuts, stride, each, offset_of, place_count}
 use Rattle.nc_dmapool.proofs.Powers.{cuts}
 use Rattle.nc_dmapool.proofs.Cutting.{off_ends, off_grows, off_same, number_at, number_of}
@@ -16,12 +16,6 @@ offset_grows l is n m lt = off_grows (each l) l.range (stride l) n m is.count is
 
 pub offset_same : (l : Layout) → Cuts l → (n m : ℕ) → offset_of l n ≡ offset_of l m → n ≡ m
 offset_same l is n m same = off_same (each l) l.range (stride l) n m is.count is.step is.fits same
-
-each_le : (l : Layout) → Cuts l → each l ≤ l.range
-each_le l is = let grows : each l * 1 ≤ each l * stride l = mul-le (each l) 1 (each l) (stride l) (omega arith) is.step in omega (arith, grows, is.fits)
-
-pub count_le : (l : Layout) → Cuts l → place_count l ≤ 4096
-count_le l is = omega (arith, mul-le (4096 / l.range) (each l) (4096 / l.range) l.range (omega arith) (each_le l is), is.ranges)
 
 pub count_some : (l : Layout) → Cuts l → 0 < place_count l
 count_some l is = mul-lt 0 0 (4096 / l.range) (each l) (le-div 1 4096 l.range is.range (omega (arith, is.page))) is.count

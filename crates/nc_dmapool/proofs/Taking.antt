@@ -73,9 +73,6 @@ with_page_is map c b x is =
 
 -- where it stands afterwards
 
-taken_in : (map : PageMap) (x : ℕ) → IsPageOf map false x → IsTaken map x
-taken_in map x is = record { number = is.number; there = is.there; starts = is.starts; taken = is.is }
-
 pub page_taken : (map : PageMap) (x : ℕ) → IsTaken map x → IsPageOf map false x
 page_taken map x is = record { number = is.number; there = is.there; starts = is.starts; is = is.taken }
 
@@ -101,9 +98,6 @@ taken_beside map c y x is t off =
     let ne : t.number ≢ is.number = λ e. off (omega (arith, t.starts, is.starts, e)) in
     subst (λ (m : PageMap). IsTaken m x) (sym (with_page_is map c true y is))
     (record { number = t.number; there = omega (arith, length-set map.free is.number true, t.there); starts = t.starts; taken = get_or-set_other map.free is.number t.number true true ne ∙ t.taken })
-
-pub length_with : (map : PageMap) (c b : Bool) (x : ℕ) → IsPageOf map c x → length (with_pages map (page_span x) b).free ≡ length map.free
-length_with map c b x is = ap (λ (m : PageMap). length m.free) (with_page_is map c b x is) ∙ length-set map.free is.number b
 
 -- a free page is none of those taken
 pub free_apart : (map : PageMap) (y x : ℕ) → IsPageOf map true y → IsTaken map x → x ≢ y

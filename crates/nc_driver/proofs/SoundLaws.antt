@@ -1,5 +1,5 @@
 -- What a driver's calls leave is a driver, and what they move is there.
-use Rattle.std.proofs.Common.{arith, ◌≡◌, ℕ, ◌<◌, true, List, [], ◌∷◌, ◌++◌, length, refl, sym, ap, subst, ◌∙◌, Option, Some, Ok, Err, Result}
+use Rattle.std.proofs.Common.{arith, ◌≡◌, ℕ, ◌<◌, true, List, ◌++◌, length, sym, ap, subst, ◌∙◌, Option, Some, Ok, Err, Result}
 use Rattle.std.specs.Prelude.{All, Bool, IfOk, OnErr}
 use Rattle.std.proofs.lemmas.List.Elements.{All-append}
 use Rattle.nc_num.specs.declared.names.HartNo.{HartNo}
@@ -23,7 +23,7 @@ use Rattle.nc_sg.specs.declared.list.Entry.{Entry}
 use Rattle.nc_num.specs.declared.places.Span.{Span}
 use Rattle.nc_rules.specs.Operations.{begin}
 use Rattle.nc_rules.specs.Lots.{DriverConfig, lot_id, slot_given}
-use Rattle.nc_rules.specs.Driver.{DriverState, Went, in_hand, next_of, over, went_to, started, told, done, lent}
+use Rattle.nc_rules.specs.Driver.{DriverState, Went, in_hand, next_of, started, told, done, lent}
 use Rattle.nc_rules.specs.Start.{first_driver}
 use Rattle.nc_scripts.specs.Scripts.{is_act}
 use Rattle.nc_scripts.specs.Drivers.{IsDriver, ArePagesOf, AreThere, IsSettled, IsPhase, IsSearching, IsLotIn, FitsKind, IsSeenAt, IsLentAt, Keeps}
@@ -81,10 +81,6 @@ placed_in d n Work e h = absurd (cc)
 
 pub steps_placed : (d : DriverState) (n : ℕ) → DriverInvariant d → d.phase ≡ Steps n → ArePlaced d.lots
 steps_placed d n k e = placed_in d n d.phase e k.driver.phase
-
--- those of a driver whose operation is over
-pub over_placed : (ram harts : ℕ) (d : DriverState) (lots : List Lot) → IsDriver ram harts (over d lots) → ArePlaced lots
-over_placed ram harts d lots k = steps_placed (over d lots) 0 (record { ram = ram; harts = harts; driver = k }) refl
 
 searching_in : (d : DriverState) (n : ℕ) (p : Phase) → p ≡ Search n → IsPhase d p → IsSearching d n
 searching_in d n (Steps m) e h = absurd (cc)

@@ -42,14 +42,6 @@ bus_plain (object ms) s is e = absurd cc
 
 -- ---- lists of arguments
 
-pub one_item : (a : Data) → IsPlain a → ArePlain (item a no_items)
-unfolding ArePlain
-one_item a p = (p, tt)
-
-more_items : (a : Data) (ds : Items) → IsPlain a → ArePlain ds → ArePlain (item a ds)
-unfolding ArePlain
-more_items a ds p ps = (p, ps)
-
 -- three numbers
 entry_items_plain : (ds : Items) (x : ℕ × ℕ × ℕ) → AreRead ds → entry_items ds ≡ Ok x → ArePlain ds
 unfolding AreRead ArePlain

@@ -136,9 +136,6 @@ unfolding AllAbove
 found_above k q d no_members above e = absurd cc
 found_above k q d (member l e ms) above f = found_above_at (slice_cmp nat_cmp q l) k q l d e (get_member q ms) refl above.0 (found_above k q d ms above.1) f
 
-less_not_equal : (o : Ordering) → o ≡ Less → o ≡ Equal → ⊥
-less_not_equal o e f = let both : Less ≡ Equal = sym e ∙ f in cc
-
 skipped : (o : Ordering) (r s : Option Data) → (o ≡ Equal → ⊥) → match_ordering o r s r ≡ r
 skipped Less r s off = refl
 skipped Equal r s off = absurd (off refl)

@@ -44,14 +44,6 @@ unfoldable mutual
 
 -- ---- the parts of what was read
 
-pub number_read : (n : Num) → IsRead (number n) → IsSized n
-unfolding IsRead
-number_read n is = is
-
-pub items_read : (ds : Items) → IsRead (array ds) → AreRead ds
-unfolding IsRead
-items_read ds is = is
-
 pub item_read : (d : Data) (ds : Items) → AreRead (item d ds) → IsRead d × AreRead ds
 unfolding AreRead
 item_read d ds is = is

@@ -109,6 +109,3 @@ fault_passed may s x end all lt e =
 
 pub fault_none : (may : ℕ → Bool) (s : Span) (x end : ℕ) → first_fault may (record { at = x; len = end - x }) ≡ first_fault may s → end ≤ x → None ≡ first_fault may s
 fault_none may s x end all le = sym (fault_end may x (end - x) (omega arith)) ∙ all
-
-pub fault_from_start : (may : ℕ → Bool) (s : Span) (end : ℕ) → end ≡ s.at + s.len → first_fault may (record { at = s.at; len = end - s.at }) ≡ first_fault may s
-fault_from_start may s end e = ap (λ n. first_fault may (record { at = s.at; len = n })) (omega arith)

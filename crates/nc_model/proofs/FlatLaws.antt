@@ -21,11 +21,6 @@ pub length-written : (m : List ℕ) (ps : List (Place × ℕ)) → length (writt
 length-written m [] = refl
 length-written m (p ∷ ps) = length-written (set m p.0.0 p.1) ps ∙ length-set m p.0.0 p.1
 
-pub length-flat : (m : List ℕ) (ds : List Deed) → length (flat m ds) ≡ length m
-length-flat m [] = refl
-length-flat m (Read bytes ∷ ds) = length-flat m ds
-length-flat m (Write bytes ∷ ds) = length-flat (written m bytes) ds ∙ length-written m bytes
-
 pub byte-written_other : (m : List ℕ) (ps : List (Place × ℕ)) (x : ℕ) → names x ps ≡ false → byte (written m ps) x ≡ byte m x
 byte-written_other m [] x e = refl
 byte-written_other m (p ∷ ps) x e =

@@ -1,15 +1,12 @@
 -- Lists of grants.
-use Rattle.std.proofs.Common.{inr, inl, ◌⊎◌, ◌≡◌, ℕ, ◌+◌, ◌≤◌, Bool, true, false, not, List, [], ◌∷◌, ◌++◌, Option, Some, refl, sym, ap, ◌∙◌, subst, arith, cond}
-use Rattle.std.proofs.lemmas.Bool.{or_from, and_parts, or_parts, both_ways}
+use Rattle.std.proofs.Common.{◌≡◌, ℕ, ◌+◌, ◌≤◌, Bool, true, false, not, List, [], ◌∷◌, ◌++◌, Option, Some, refl, sym, ap, ◌∙◌, subst, arith, cond}
+use Rattle.std.proofs.lemmas.Bool.{and_parts, or_parts, both_ways}
 use Rattle.std.proofs.lemmas.Bool.Decides.{nat_tests}
 use Rattle.std.proofs.lemmas.List.Filters.{sum_by-filter_both}
 use Rattle.std.proofs.lemmas.List.Sums.{sum_by-cons, sum_by_push}
 use Rattle.std.specs.List.{list_any, find, filter, count_by}
-use Rattle.std.proofs.lemmas.List.Folds.{list_any-append}
-use Rattle.nc_num.specs.Places.{covers}
 use Rattle.nc_num.specs.declared.names.ChanNo.{ChanNo}
 use Rattle.nc_num.specs.declared.names.MapId.{MapId}
-use Rattle.nc_model.proofs.Faults.{covers-low, covers-high, covers-below, covers-above}
 use Rattle.nc_model.specs.Grants.{FitsIn, AllFit, IsGrants, CanAdd, without}
 use Rattle.nc_model.specs.Laws.{OneGrant, StayApart}
 use Rattle.nc_model.specs.Rights.{same_map, is_of, has_device, serves, served_by, place_through}
@@ -131,19 +128,3 @@ no_grants ram = record { fit = tt; apart = λ x. omega arith; ids = λ m. omega 
 
 pub stay_apart : (ram : ℕ) (grants : List Grant) → IsGrants ram grants → StayApart ram grants
 stay_apart ram grants is = record { added = λ g can. grants-push ram grants g is can; removed = λ m. grants-without ram grants m is }
-
--- what may be added to grants, may be added behind one more that lies apart and is another mapping's
-pub can_add-nil : (ram : ℕ) (g : Grant) → FitsIn ram g → CanAdd ram [] g
-can_add-nil ram g fits = record { fits = fits; apart = λ x e. refl; id = refl }
-
-pub can_add-push : (ram : ℕ) (grants : List Grant) (h g : Grant) → CanAdd ram grants g → (h.device.at + h.device.len ≤ g.device.at) ⊎ (g.device.at + g.device.len ≤ h.device.at) → same_map h.id g.id ≡ false
-    → CanAdd ram (grants ++ h ∷ []) g
-can_add-push ram grants h g can away other = record {
-  fits = can.fits;
-  apart = λ x e. list_any-append (has_device x) grants (h ∷ []) ∙ or_from _ _ (can.apart x e) (or_from _ _ (clear x e away) refl);
-  id = list_any-append (is_of g.id) grants (h ∷ []) ∙ or_from _ _ can.id (or_from _ _ other refl);
-}
-  where
-    clear : (x : ℕ) → covers g.device x ≡ true → (h.device.at + h.device.len ≤ g.device.at) ⊎ (g.device.at + g.device.len ≤ h.device.at) → covers h.device x ≡ false
-    clear x e (inl le) = covers-above h.device x (omega (arith, covers-low g.device x e))
-    clear x e (inr le) = covers-below h.device x (omega (arith, covers-high g.device x e))

@@ -1,5 +1,5 @@
 -- The laws of moves one behind another.
-use Rattle.std.proofs.Common.{◌≡◌, ℕ, ◌+◌, ◌<◌, ◌≤◌, List, [], ◌∷◌, ◌++◌, length, drop, map, subst, refl, sym, ap, ◌∙◌, arith, append_assoc, length-append}
+use Rattle.std.proofs.Common.{◌≡◌, ℕ, ◌+◌, ◌<◌, ◌≤◌, List, [], ◌∷◌, ◌++◌, length, drop, subst, refl, sym, ap, ◌∙◌, arith, append_assoc, length-append}
 use Rattle.std.specs.Prelude.{slice_index_or}
 use Rattle.std.proofs.lemmas.List.{append-nil, at_drop_more}
 use Rattle.nc_num.specs.declared.names.HartNo.{HartNo}
@@ -10,7 +10,6 @@ use Rattle.nc_rules.specs.declared.steps.PageMove.{PageMove}
 use Rattle.nc_rules.specs.declared.steps.PageMove.TheVariants as pages
 use Rattle.nc_rules.specs.Lots.{map_id, each_from}
 use Rattle.nc_rules.specs.Turns.{Moved, page_move}
-use Rattle.nc_moves.specs.MovesView.{IsFew}
 use Rattle.nc_moves.specs.Turned.{nothing, joined}
 
 page_stay : (p : PageMove) → page_move p pages.Stay ≡ p
@@ -42,9 +41,6 @@ joined_assoc a b c = λ i. record {
   pages = page_assoc a.pages b.pages c.pages i;
   answer = a.answer;
 }
-
-front_few : {A : Type 0} (xs ys : List A) (n : ℕ) → length (xs ++ ys) ≤ n → length xs ≤ n
-front_few xs ys n h = omega (arith, length-append xs ys, h)
 
 -- there is room for one more
 pub room : {A : Type 0} (xs ys : List A) (y : A) (n : ℕ) → length (xs ++ y ∷ ys) ≤ n → length xs < n

@@ -1,5 +1,5 @@
 -- First faults, run by run.
-use Rattle.std.proofs.Common.{◌≡◌, ℕ, zero, suc, ◌+◌, ◌-◌, ◌<◌, ◌≤◌, Bool, true, false, ◌&&◌, List, [], ◌∷◌, Option, Some, None, cond, refl, sym, ap, ◌∙◌, subst, arith, inl, inr}
+use Rattle.std.proofs.Common.{◌≡◌, ℕ, zero, suc, ◌+◌, ◌-◌, ◌<◌, ◌≤◌, Bool, true, false, ◌&&◌, List, [], ◌∷◌, Option, Some, cond, refl, sym, ap, ◌∙◌, subst, arith, inl, inr}
 use Rattle.std.proofs.lemmas.Bool.{cases_lt, and_parts, and_from, both_ways}
 use Rattle.std.specs.List.{find}
 use Rattle.nc_num.specs.Places.{covers}
@@ -65,14 +65,6 @@ reach_granted owners ram grants c access x end g s o is e here around owner may 
       let same : owners (buffer_place g y) ≡ o = owner (buffer_place g y) (covers-from s (buffer_place g y) (omega arith) (omega arith)) in
       ap (granted owners access y) (served_on ram grants c x y g is e device) ∙ ap (λ p. is_device g.id p && device_may access g.dir) same ∙ may;
 }
-
--- where it may not use the place itself
-pub not_granted : (owners : ℕ → Owner) (grants : List Grant) (c : ChanNo) (access : Access) (x : ℕ) (g : Grant) (o : Owner) → served_by grants c x ≡ Some g → owners (buffer_place g x) ≡ o
-    → (is_device g.id o && device_may access g.dir) ≡ false → channel_may owners grants c access x ≡ false
-not_granted owners grants c access x g o e same may = ap (granted owners access x) e ∙ ap (λ p. is_device g.id p && device_may access g.dir) same ∙ may
-
-pub not_served : (owners : ℕ → Owner) (grants : List Grant) (c : ChanNo) (access : Access) (x : ℕ) → served_by grants c x ≡ None → channel_may owners grants c access x ≡ false
-not_served owners grants c access x e = ap (granted owners access x) e
 
 -- over one owner's bytes a test of the owner passes all or none
 pub reach_owned : (test : Owner → Bool) (owners : List Owner) (x : ℕ) (i : Interval) → IsAround owners x i → test i.owner ≡ true → Reaches (λ y. test (owner_in owners y)) x (i.span.at + i.span.len)

@@ -47,11 +47,6 @@ starts_at at k [] d t lt = absurd (omega arith)
 starts_at at zero (x ∷ xs) d t lt = omega (arith, t.0)
 starts_at at (suc k) (x ∷ xs) d t lt = omega (arith, starts_at (at + x.span.len) k xs d t.2 (omega arith))
 
-pub some_at : (at k : ℕ) (xs : List Interval) (d : Interval) → Tile at xs → k < length xs → 0 < (get_or xs k d).span.len
-some_at at k [] d t lt = absurd (omega arith)
-some_at at zero (x ∷ xs) d t lt = t.1
-some_at at (suc k) (x ∷ xs) d t lt = some_at (at + x.span.len) k xs d t.2 (omega arith)
-
 -- more intervals have more places
 pub places-more : (i j : ℕ) (xs : List Interval) → i ≤ j → places (take i xs) ≤ places (take j xs)
 places-more zero j xs le = omega arith

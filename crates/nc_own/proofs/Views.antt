@@ -27,9 +27,6 @@ pub shown_can : (ram spare : ℕ) (ts : List (Span × Owner)) (grants : List Gra
 shown_can ram spare ts grants s g e can =
     subst (λ (gs : List Grant). CanAdd ram gs g) (sym (ap (λ (v : BookView). v.grants) e)) (subst (λ (n : ℕ). CanAdd n s.grants g) (sym (shown_size ram spare ts grants s e)) can)
 
-pub shown_spare : (ram spare : ℕ) (ts : List (Span × Owner)) (grants : List Grant) (s : BookView) → record { owners = owners_of ram ts; grants = grants; spare = spare } ≡ s → spare ≡ s.spare
-shown_spare ram spare ts grants s e = ap (λ (v : BookView). v.spare) e
-
 -- what the intervals say of the owners of all places
 pub shown_around : (ram spare room free_intervals free_grants : ℕ) (is : List Interval) (grants : List Grant) (s : BookView) (x : ℕ) (i : Interval)
     → record { owners = owners_of ram (made is); grants = grants; spare = spare } ≡ s → IsBook ram room free_intervals free_grants is grants → Has is x i → IsAround s.owners x i

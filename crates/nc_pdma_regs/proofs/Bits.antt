@@ -99,11 +99,6 @@ flags_same a b h0 h1 h2 h3 h4 h5 i = record { claim = h0 i; run = h1 i; done_ie 
 pub bits_of-number_of : (c : ControlBits) → bits_of (number_of c) ≡ c
 bits_of-number_of c = flags_same (bits_of (number_of c)) c (claim_is c) (run_is c) (done_ie_is c) (error_ie_is c) (done_is c) (error_is c)
 
--- the flag that is set in Control's own value
-pub claim_sets : (c : ControlBits) → bit_or (number_of c) 1 ≡ number_of (record c { claim = true })
-unfolding number_of
-claim_sets c = omega (arith, or_pow (number_of c) 0, one-lt c.claim, one-lt c.run, one-lt c.done_ie, one-lt c.error_ie, one-lt c.done, one-lt c.error)
-
 -- what six flags make, from the lowest on
 pub flags_of_six : (x a b c d e f : ℕ) (p q r s t u : Bool) → x ≡ 0
     → a ≡ (if p then bit_or x (2 ^ 0) else bit_and x (2 ^ 32 - 1 - 2 ^ 0)) → b ≡ (if q then bit_or a (2 ^ 1) else bit_and a (2 ^ 32 - 1 - 2 ^ 1))

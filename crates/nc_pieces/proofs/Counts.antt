@@ -11,7 +11,6 @@ use Rattle.nc_coherent.specs.Pages.{PageMap, lowest_span}
 use Rattle.nc_dmapool.specs.declared.layout.PoolBad.{PoolBad}
 use Rattle.nc_dmapool.specs.Layouts.{Layout}
 use Rattle.nc_dmapool.specs.Pieces.{Pieces, Given, HasTaken, given, given_at, given_on, lowest_free, pool_of}
-use Rattle.nc_dmapool.specs.Apart.{after_free}
 use Rattle.nc_pieces.specs.Serving.{IsServing, none_held}
 
 some_is : (g h : Given) → Some g ≡ Some h → g ≡ h
@@ -58,10 +57,6 @@ none_is n off = omega (arith, off)
 
 pub one_used : (s : fin.FinSet nat_cmp) (x : ℕ) → fin.contains s x ≡ true → 0 < fin.len s
 one_used s x e = none_is (fin.len s) (λ none. let off : false ≡ true = sym (ap (λ t. fin.contains t x) (empty_of_len s none) ∙ contains-empty nat_cmp x) ∙ e in cc)
-
-pub freed_has : (m : PageMap) (p : Pieces) (x : ℕ) (b : Bool) → HasTaken m p → HasTaken m (after_free p x b)
-freed_has m p x true has = record { taken = has.taken }
-freed_has m p x false has = has
 
 -- at the start
 

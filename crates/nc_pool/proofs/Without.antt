@@ -82,10 +82,6 @@ distinct-front k (x ∷ xs) d =
     let q = or_parts (k == x) (has x xs) (not_true ((k == x) || has x xs) (ap not (sym (has-push x k xs)) ∙ p.0)) in
     (both (not (has x xs)) (is_distinct xs) (ap not q.1) r.0, ap (λ t. t || has k xs) (eqb_swap k x q.0) ∙ r.1)
 
-pub without-other : (k : ℕ) (xs : List ℕ) → has k xs ≡ false → without k xs ≡ xs
-without-other k [] h = refl
-without-other k (x ∷ xs) h = let q = or_parts (x == k) (has k xs) h in rw q.0 (ap (λ ys. x ∷ ys) (without-other k xs q.1))
-
 pub without-push : (k : ℕ) (xs : List ℕ) → has k xs ≡ false → without k (xs ++ k ∷ []) ≡ xs
 without-push k [] h = rw (eq-eqb k k refl) refl
 without-push k (x ∷ xs) h = let q = or_parts (x == k) (has k xs) h in rw q.0 (ap (λ ys. x ∷ ys) (without-push k xs q.1))

@@ -66,14 +66,6 @@ o_is_no_mark (Mail buf to) o = refl
 o_is_no_mark (Lend label first count) o = refl
 o_is_no_mark (Mark pred succ) o = absurd cc
 
-pub w_is_no_mark : (e : Entry) → is_w e ≡ true → is_mark e ≡ false
-w_is_no_mark (Store span bytes kind) w = refl
-w_is_no_mark (Cbo block op) w = refl
-w_is_no_mark (Reg chan off width value) w = absurd cc
-w_is_no_mark (Mail buf to) w = absurd cc
-w_is_no_mark (Lend label first count) w = absurd cc
-w_is_no_mark (Mark pred succ) w = absurd cc
-
 -- a marker of W before O orders an entry of class O behind one of class W
 pub wo_orders : (m a e : Entry) → is_wo m ≡ true → is_w a ≡ true → is_o e ≡ true → orders m a e ≡ true
 wo_orders (Mark pred succ) a e is w o =
@@ -141,19 +133,6 @@ covered-remove p m t (a ∷ q) (suc i) e is first covered =
       | inr other ↦ stands-remove m t q i e is other (covered.0 pa)
     ] in
     (kept, λ ta. none-remove p q i (covered.1 ta), covered-remove p m t q i e is (λ me. (or_parts (p a) (list_any p (take i q)) (first me)).1) covered.2)
-
--- with none of m left there is none of p
-no_stand : (m t : Entry → Bool) (q : List Entry) → list_any m q ≡ false → Stands m t q → ⊥
-no_stand m t [] without stands = stands
-no_stand m t (a ∷ q) without (inl here) = both_ways (m a) (or_parts (m a) (list_any m q) without).0 here
-no_stand m t (a ∷ q) without (inr later) = no_stand m t q (or_parts (m a) (list_any m q) without).1 later.1
-
-pub covered-without : (p m t : Entry → Bool) (q : List Entry) → Covered p m t q → list_any m q ≡ false → list_any p q ≡ false
-covered-without p m t [] covered without = refl
-covered-without p m t (a ∷ q) covered without =
-    let parts = or_parts (m a) (list_any m q) without in
-    let here : p a ≡ false = elim (cases_Bool (p a)) [ inl pa ↦ absurd (no_stand m t q parts.1 (covered.0 pa)) | inr other ↦ other ] in
-    or_from (p a) (list_any p q) here (covered-without p m t q covered.2 parts.1)
 
 -- none of p behind an entry of t
 covered_behind : (p m t : Entry → Bool) (q : List Entry) (i : ℕ) (e : Entry) → Covered p m t q → slice_get q i ≡ Some e → t e ≡ true → list_any p (drop (suc i) q) ≡ false

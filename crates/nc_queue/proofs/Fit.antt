@@ -1,6 +1,6 @@
 -- Every entry of a queue meets the condition of a push.
 use Rattle.std.specs.Prelude.{Some, None, slice_get, slice_set, remove}
-use Rattle.std.proofs.Common.{◌≡◌, ℕ, zero, suc, ◌+◌, ◌-◌, ◌%◌, ◌<◌, ◌≤◌, get_or, ◌∙◌, sym, ap, List, [], ◌∷◌, ◌++◌, length, refl, subst, arith}
+use Rattle.std.proofs.Common.{◌≡◌, ℕ, zero, suc, ◌+◌, ◌-◌, ◌%◌, ◌<◌, ◌≤◌, get_or, ◌∙◌, sym, ap, List, [], ◌∷◌, ◌++◌, length, subst, arith}
 use Rattle.std.proofs.lemmas.List.{length-set}
 use Rattle.nc_num.specs.Sizes.{IsBlockSize}
 use Rattle.nc_queue.proofs.Drained.{get_some, get_none}
@@ -71,7 +71,3 @@ kept-there cells start len size i q now kept same is lt = omega (arith, ap lengt
 pub kept-none : (cells : List Entry) (size : ℕ) → length cells ≡ 8 → IsBlockSize size → IsRing cells 0 0 size
 unfolding window
 kept-none cells size eight known = record { start_in = omega arith; few = omega arith; room = eight; known = known; fit = tt }
-
-pub window-none : (start : ℕ) (cells : List Entry) → window start 0 cells ≡ []
-unfolding window
-window-none start cells = refl

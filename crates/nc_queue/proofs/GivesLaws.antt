@@ -126,14 +126,6 @@ not_of_block {s = s} z a x b (Some c) fits is other at = gives-elsewhere {s = s}
 pub gives-other : {s : ℕ} → IsBlockSize s → (a : Entry) (x b : ℕ) → Fits s a → has_block s b a ≡ false → x / s ≡ b → entry_gives s a x ≡ None
 gives-other {s = s} z a x b fits other at = not_of_block {s = s} z a x b (block_of s a) fits refl other at
 
--- a queue without an entry of the block does not give its places
-pub gives-none_of_block : {s : ℕ} → IsBlockSize s → (q : List Entry) (x b : ℕ) → AllFit s q → list_any (has_block s b) q ≡ false → x / s ≡ b → gives s q x ≡ None
-unfolding gives
-gives-none_of_block {s = s} z [] x b fit lacks at = refl
-gives-none_of_block {s = s} z (a ∷ q) x b fit lacks at =
-    let parts = or_parts (has_block s b a) (list_any (has_block s b) q) lacks in
-    rw (gives-none_of_block {s = s} z q x b fit.1 parts.1 at) (gives-other {s = s} z a x b fit.0 parts.0 at)
-
 -- of two entries of different blocks one does not give x
 apart : {s : ℕ} → IsBlockSize s → (a e : Entry) (x b : ℕ) → Fits s a → Fits s e → block_of s e ≡ Some b → has_block s b a ≡ false → (entry_gives s a x ≡ None) ⊎ (entry_gives s e x ≡ None)
 apart {s = s} z a e x b fa fe is other =

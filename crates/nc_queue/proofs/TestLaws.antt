@@ -6,7 +6,6 @@ use Rattle.std.proofs.lemmas.Bool.{or_parts, or_from, or_left, or_right, or_case
 use Rattle.std.proofs.lemmas.List.Folds.{list_any-append}
 use Rattle.std.proofs.lemmas.List.Elements.{filter-append}
 use Rattle.nc_queue.specs.Entries.{is_w, is_o, in_set, has_w, has_o}
-use Rattle.nc_queue.specs.Rules.{any_in}
 use Rattle.nc_queue.specs.declared.entry.Entry.{Entry}
 
 pub none-push : (p : Entry → Bool) (q : List Entry) (e : Entry) → list_any p q ≡ false → p e ≡ false → list_any p (q ++ e ∷ []) ≡ false
@@ -24,21 +23,9 @@ none_at p [] i e lacks is = absurd cc
 none_at p (a ∷ q) zero e lacks is = let same : a ≡ e = cc in subst (λ (b : Entry). p b ≡ false) same (or_parts (p a) (list_any p q) lacks).0
 none_at p (a ∷ q) (suc i) e lacks is = none_at p q i e (or_parts (p a) (list_any p q) lacks).1 is
 
-pub none-take : (p : Entry → Bool) (q : List Entry) (i : ℕ) → list_any p q ≡ false → list_any p (take i q) ≡ false
-none-take p [] zero lacks = refl
-none-take p [] (suc i) lacks = refl
-none-take p (a ∷ q) zero lacks = refl
-none-take p (a ∷ q) (suc i) lacks = let parts = or_parts (p a) (list_any p q) lacks in or_from (p a) (list_any p (take i q)) parts.0 (none-take p q i parts.1)
-
 -- none before an entry and none behind it
 pub none-sides : (p : Entry → Bool) (q : List Entry) (i : ℕ) → list_any p (take i q) ≡ false → list_any p (drop (suc i) q) ≡ false → list_any p (remove q i) ≡ false
 none-sides p q i before behind = list_any-append p (take i q) (drop (suc i) q) ∙ or_from (list_any p (take i q)) (list_any p (drop (suc i) q)) before behind
-
-pub some-push : (p : Entry → Bool) (q : List Entry) (e : Entry) → list_any p q ≡ true → list_any p (q ++ e ∷ []) ≡ true
-some-push p q e is = list_any-append p q (e ∷ []) ∙ or_left (list_any p q) (list_any p (e ∷ [])) is
-
-pub some-last : (p : Entry → Bool) (q : List Entry) (e : Entry) → p e ≡ true → list_any p (q ++ e ∷ []) ≡ true
-some-last p q e is = list_any-append p q (e ∷ []) ∙ or_right (list_any p q) (list_any p (e ∷ [])) (or_left (p e) false is)
 
 -- an entry that is not of the test leaves the others there
 pub some-remove : (p : Entry → Bool) (q : List Entry) (i : ℕ) (e : Entry) → slice_get q i ≡ Some e → p e ≡ false → list_any p q ≡ true → list_any p (remove q i) ≡ true
@@ -68,13 +55,6 @@ in_set-w e set w has = or_left (is_w e && has_w set) (is_o e && has_o set) (and_
 
 pub in_set-o : (e : Entry) (set : ℕ) → is_o e ≡ true → has_o set ≡ true → in_set e set ≡ true
 in_set-o e set o has = or_right (is_w e && has_w set) (is_o e && has_o set) (and_from (is_o e) (has_o set) o has)
-
--- what a fence that waited leaves
-pub none-w : (q : List Entry) (set : ℕ) → has_w set ≡ true → any_in q set ≡ false → list_any is_w q ≡ false
-none-w q set has lacks = none_of_class is_w (λ e. in_set e set) (λ e w. in_set-w e set w has) q lacks
-
-pub none-o : (q : List Entry) (set : ℕ) → has_o set ≡ true → any_in q set ≡ false → list_any is_o q ≡ false
-none-o q set has lacks = none_of_class is_o (λ e. in_set e set) (λ e o. in_set-o e set o has) q lacks
 
 -- the entries of a test, in order
 pub filter-push : (p : Entry → Bool) (q : List Entry) (e : Entry) → p e ≡ true → filter p (q ++ e ∷ []) ≡ filter p q ++ e ∷ []

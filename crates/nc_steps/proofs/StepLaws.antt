@@ -16,9 +16,9 @@ use Rattle.nc_plan.specs.Registers.{regs_stores}
 use Rattle.nc_plan.specs.declared.access.At.{At}
 use Rattle.nc_plan.specs.declared.access.At.TheVariants.{Ram, Virtual}
 use Rattle.nc_plan.specs.declared.ops.HartOp.{HartOp}
-use Rattle.nc_steps.specs.Laws.{IsNatural, IsWithin, IsPlaced, LoadsArePieces, StoresArePieces, Faults, Stops, StepsStop, TablesServe, first, home, left}
+use Rattle.nc_steps.specs.Laws.{IsNatural, IsWithin, IsPlaced, LoadsArePieces, StoresArePieces, Faults, Stops, StepsStop, TablesServe, home}
 use Rattle.nc_steps.specs.Mapped.{IsFindable, IsMapped}
-use Rattle.nc_steps.proofs.PieceLaws.{IsOf, is_of, pieces_follow}
+use Rattle.nc_steps.proofs.PieceLaws.{IsOf, is_of}
 
 -- a step that is an operation: its piece, and what is found for it
 
@@ -237,13 +237,3 @@ in_hand to table len n r p is mapped e =
     })
 
 -- step n by what is left behind n pieces
-
-pub load_step_left : (to : At) (pbmte : Bool) (table : List ℕ) (len n : ℕ) → load_step to pbmte table len n ≡ step_of load_op to pbmte table (first (left (range to len) n))
-unfolding load_step
-load_step_left to pbmte table len n = ap (λ o. step_of load_op to pbmte table o) (pieces_follow (range to len) n).step
-
-pub store_step_left : (to : At) (pbmte : Bool) (table bytes : List ℕ) (n : ℕ)
-    → store_step to pbmte table bytes n ≡ step_of (store_op (range to (length bytes)).at bytes) to pbmte table (first (left (range to (length bytes)) n))
-unfolding store_step
-store_step_left to pbmte table bytes n =
-    ap (λ o. step_of (store_op (range to (length bytes)).at bytes) to pbmte table o) (pieces_follow (range to (length bytes)) n).step

@@ -53,10 +53,6 @@ pub either_make : (b : Bool) (p q : Type 0) → (b ≡ true → p) → (b ≡ fa
 either_make true p q first second = first refl
 either_make false p q first second = second refl
 
-pub either_end : (b : Bool) (p q r : Type 0) → (p → r) → (q → r) → Either b p q → r
-either_end true p q r first second row = first row
-either_end false p q r first second row = second row
-
 -- by the direction, with what is known of one that comes back
 pub dir_map : (d : Dir) (p q r s : Type 0) → (comes_back d ≡ false → p → r) → (comes_back d ≡ true → q → s) → ByDir d p q → ByDir d r s
 dir_map ToDev p q r s first second row = first refl row

@@ -24,11 +24,6 @@ in_got e [] i is = absurd cc
 in_got e (y ∷ q) zero is = let same : y ≡ e = cc in inl same
 in_got e (y ∷ q) (suc i) is = inr (in_got e q i is)
 
-pub in_all : {X : Type 0} (P : X → Type 0) (e : X) (q : List X) → All P q → In e q → P e
-in_all P e [] all k = elim k [ ]
-in_all P e (y ∷ q) all (inl same) = subst P same (All-head P y q all)
-in_all P e (y ∷ q) all (inr k) = in_all P e q (All-tail P y q all) k
-
 -- none of them passes
 pub in_none : {X : Type 0} (p : X → Bool) (e : X) (q : List X) → list_any p q ≡ false → In e q → p e ≡ false
 in_none p e [] none k = elim k [ ]
