@@ -3,7 +3,7 @@
 
 ghost use Rattle.std.specs.Prelude.{◌≡◌, ◌≤◌, ◌<◌, ◌+◌, ◌^◌, true, length, is_some, OnOk, OnErr, IfOk, IfErr, Some, None, vec_len, vec_capacity};
 ghost use Rattle.std.specs.FinMap as map;
-ghost use Rattle.nc_cache.specs.Cache.{with_line};
+ghost use Rattle.nc_cache.specs.Cache.{held_by, with_line};
 ghost use Rattle.nc_cache.specs.Facts.{IsHeld};
 ghost use Rattle.nc_cache.specs.Directory.{IsRising, IsDirectory, block_at, dirty_holder};
 ghost use Rattle.nc_cache.specs.Rows.{mask, harts_in, held_in, row_for, lines_of, IsAt, IsGap, AreRowsOf};
@@ -198,6 +198,17 @@ impl Directory {
                 })
             }
             Err(_) => None,
+        }
+    }
+
+    /// Returns whether hart h holds a block.
+    pub(crate) fn holds(&self, h: HartNo, block: Block) -> bool
+        requires { h.0 < 4 }
+        ensures { result ≡ held_by (map.get self.now.lines block.0) h.0 }
+    {
+        match place_of(&self.rows, block) {
+            Ok(at) => held_of(&self.rows[at]).holds(h),
+            Err(_) => false,
         }
     }
 

@@ -132,10 +132,7 @@ impl Domain {
         ensures value { result ≡ held_by (map.get self.now.lines b.0) h.0 }
         ensures domain { IsDomain self.now }
     {
-        match self.line(b) {
-            None => false,
-            Some(line) => line.held.holds(h),
-        }
+        self.directory.holds(h, b)
     }
 
     /// The bytes of a span that lies in one block of memory: the domain's, else memory's.
@@ -166,6 +163,9 @@ impl Domain {
         ensures harts { self.new.harts ≡ self.old.harts }
         ensures spare { self.old.spare ≤ self.new.spare + 1 }
     {
+        if self.holds(h, b) {
+            return BusList::new();
+        }
         let mut bus = BusList::new();
         let size = self.size();
         match self.line(b) {
@@ -181,9 +181,6 @@ impl Domain {
                 });
             }
             Some(line) => {
-                if line.held.holds(h) {
-                    return bus;
-                }
                 write_back(ram, size, b, &line, &mut bus);
                 let mut by = line.held.holders();
                 by[h.0 as usize] = true;
