@@ -37,6 +37,10 @@ pub record Tells (row : Row) (line : Line) : Type 0 where
   pub holders : (h : ℕ) → bit_at row.holders h ≡ bit (holds line.held h)
   pub dirty : row.dirty ≡ dirty_holder line.held
 
+-- a line of these bytes, whoever holds it
+abbrev pub HasBytes : Option Line → List ℕ → Type 0
+HasBytes line bytes = (held : Held) × (line ≡ Some (record { bytes = bytes; held = held }))
+
 -- the blocks rise from row to row
 abbrev pub IsRising : List Row → Type 0
 IsRising rows = (i j : ℕ) → i < j → j < length rows → block_at rows i < block_at rows j

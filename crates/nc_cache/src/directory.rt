@@ -1,16 +1,16 @@
 //! The directory of the domain: a sorted vector of rows, one for each block that some hart holds, beside the bytes of
 //! their lines.
 
-ghost use Rattle.std.specs.Prelude.{◌≡◌, ◌≤◌, ◌<◌, ◌+◌, ◌^◌, true, length, is_some, OnOk, OnErr, IfOk, IfErr, Some, None, vec_len, vec_capacity};
+ghost use Rattle.std.specs.Prelude.{◌≡◌, ◌≤◌, ◌<◌, ◌+◌, ◌^◌, true, length, is_some, OnOk, OnErr, IfOk, IfErr, IfSome, IfNone, Some, None, vec_len, vec_capacity};
 ghost use Rattle.std.specs.FinMap as map;
 ghost use Rattle.nc_cache.specs.Cache.{held_by, with_line};
 ghost use Rattle.nc_cache.specs.Facts.{IsHeld};
-ghost use Rattle.nc_cache.specs.Directory.{IsRising, IsDirectory, block_at, dirty_holder};
+ghost use Rattle.nc_cache.specs.Directory.{IsRising, IsDirectory, HasBytes, block_at, dirty_holder};
 ghost use Rattle.nc_cache.specs.Rows.{mask, harts_in, held_in, row_for, lines_of, IsAt, IsGap, AreRowsOf};
 
 use crate::line::{Held, Line};
 use crate::slab::Slab;
-use nc_num::{Block, HartNo, NoMemory};
+use nc_num::{Block, Bytes, HartNo, NoMemory};
 use std::alloc::Global;
 use std::marker::Model;
 
@@ -193,7 +193,7 @@ impl Directory {
             Ok(at) => {
                 let row = self.rows[at];
                 Some(Line {
-                    bytes: self.slab.get(row.line),
+                    bytes: *self.slab.get(row.line),
                     held: held_of(&row),
                 })
             }
@@ -209,6 +209,20 @@ impl Directory {
         match place_of(&self.rows, block) {
             Ok(at) => held_of(&self.rows[at]).holds(h),
             Err(_) => false,
+        }
+    }
+
+    /// Returns the bytes of a block that some hart holds.
+    pub(crate) fn bytes(&self, block: Block) -> Option<&Bytes>
+        ensures none { IfNone result (map.get self.now.lines block.0 ≡ None) }
+        ensures some { IfSome result (λ bytes. HasBytes (map.get self.now.lines block.0) bytes.now) }
+    {
+        match place_of(&self.rows, block) {
+            Ok(at) => {
+                let row = self.rows[at];
+                Some(self.slab.get(row.line))
+            }
+            Err(_) => None,
         }
     }
 

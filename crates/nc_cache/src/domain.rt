@@ -1,12 +1,12 @@
 //! The cache domain: the caches of all harts, which are coherent.
 
-ghost use Rattle.std.specs.Prelude.{◌≡◌, ◌+◌, ◌*◌, ◌/◌, ◌%◌, ◌≤◌, ◌<◌, ℕ, List, Option, Some, IfOk, OnOk, OnErr, length};
+ghost use Rattle.std.specs.Prelude.{◌≡◌, ◌+◌, ◌*◌, ◌/◌, ◌%◌, ◌≤◌, ◌<◌, ℕ, List, Option, Some, None, IfOk, IfSome, IfNone, OnOk, OnErr, length};
 ghost use Rattle.std.specs.FinMap as map;
 ghost use Rattle.nc_num.specs.Sizes.{IsBlockSize};
 ghost use Rattle.nc_cache.specs.Cache.{held_by, with_line, load, own, store, zero_block, clean, flush, inval, evict, bytes_at};
 ghost use Rattle.nc_cache.specs.Bus.{load_bus, fill_bus, own_bus, clean_bus, flush_bus, inval_bus, evict_bus};
 ghost use Rattle.nc_cache.specs.Facts.{IsLine, IsLineOf};
-ghost use Rattle.nc_cache.specs.Directory.{IsDirectory};
+ghost use Rattle.nc_cache.specs.Directory.{HasBytes, IsDirectory};
 ghost use Rattle.nc_cache.specs.State.{IsDomain, Stays};
 
 use crate::bus::BusList;
@@ -82,6 +82,16 @@ impl Domain {
         self.directory.line(b)
     }
 
+    /// Returns the bytes of a block's line, which are the whole block.
+    fn line_bytes(&self, b: Block) -> Option<&Bytes>
+        ensures none { IfNone result (map.get self.now.lines b.0 ≡ None) }
+        ensures some { IfSome result (λ bytes. HasBytes (map.get self.now.lines b.0) bytes.now) }
+        ensures whole { IfSome result (λ bytes. length bytes.now ≡ self.now.size) }
+        ensures domain { IsDomain self.now }
+    {
+        self.directory.bytes(b)
+    }
+
     /// Gives a block a line.
     #[tactic(auto, using(crate::proofs::Holders::held_in_four))]
     fn put(&mut self, b: Block, line: &Line)
@@ -143,9 +153,9 @@ impl Domain {
         ensures len { length result ≡ span.len }
     {
         let size = self.size();
-        match self.line(Block(span.at / size)) {
+        match self.line_bytes(Block(span.at / size)) {
             None => ram.read(span),
-            Some(line) => part_of(&line.bytes, span.at % size, span.len),
+            Some(bytes) => part_of(bytes, span.at % size, span.len),
         }
     }
 

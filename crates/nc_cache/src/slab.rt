@@ -56,11 +56,11 @@ impl Slab {
     }
 
     /// The bytes of a cell.
-    pub(crate) fn get(&self, cell: u32) -> Bytes
+    pub(crate) fn get(&self, cell: u32) -> &Bytes
         requires { cell < length self.now.cells }
-        ensures { result ≡ slice_index_or self.now.cells cell [] }
+        ensures { result.now ≡ slice_index_or self.now.cells cell [] }
     {
-        self.cells[cell as usize]
+        &self.cells[cell as usize]
     }
 
     /// Changes the bytes of a cell.
