@@ -14,4 +14,4 @@ mod words;
 pub use after::tail;
 pub use faults::refused;
 pub use lines::{event_line, line};
-pub use steps::step_out;
+pub use steps::{step_out, step_out_with};

@@ -267,32 +267,14 @@ fn put_line(text: &mut Vec<u8>, entry: &Record) -> Result<(), AllocError>
     }
 }
 
-/// More bytes than the lines of most events have.
-const ROOM: usize = 256;
-
-/// The lines of some records.
-#[derive(Drop)]
-pub(crate) struct Written {
-    text: Vec<u8>,
-}
-
-impl Written {
-    pub(crate) fn as_bytes(&self) -> &[u8]
-        ensures { result.now ≡ self.now.text.items }
-    {
-        self.text.as_slice()
-    }
-}
-
-/// Returns the lines of some records.
-pub(crate) fn lines(alloc: Global, records: &[Record]) -> Result<Written, AllocError>
-    ensures { IfOk result (λ s. s.text.items ≡ flat_map line records.now) }
+/// Puts the lines of some records.
+pub(crate) fn put_lines(text: &mut Vec<u8>, records: &[Record]) -> Result<(), AllocError>
+    ensures { OnOk result (text.new.items ≡ text.old.items ++ flat_map line records.now) }
 {
-    let mut text = Vec::with_capacity(alloc, ROOM)?;
     for entry in records {
-        put_line(&mut text, entry)?;
+        put_line(text, entry)?;
     }
-    Ok(Written { text })
+    Ok(())
 }
 
 /// Returns the line `e TOKEN` of an event.

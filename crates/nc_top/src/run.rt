@@ -11,7 +11,7 @@ ghost use Rattle.nc_top.specs.Due.{IsAnswer};
 
 use nc_io::{Sink, Stop, write_all};
 use nc_num::HartNo;
-use nc_report::{step_out, tail};
+use nc_report::{step_out_with, tail};
 use nc_scen::Scenario;
 use nc_sched::Sched;
 use nc_world::World;
@@ -61,8 +61,9 @@ pub fn run_out<K: Sink>(alloc: Global, sc: &Scenario, out: &mut K) -> Result<u8,
     };
     let mut sched = Sched::new(sc);
     let mut last = None;
+    let mut lines = Vec::new(alloc);
     'running: while let Some(e) = sched.next(sc, &w, last) {
-        let stepped = step_out(alloc, &mut w, e, out)?;
+        let stepped = step_out_with(&mut lines, &mut w, e, out)?;
         last = Some(stepped);
     }
     let Ok(text) = tail(alloc, sc, &w) else {

@@ -12,7 +12,7 @@ ghost use Rattle.nc_turns.specs.Played.{history_lines, live_text, token_line};
 
 use nc_io::{Sink, Stop, write_all};
 use nc_num::NoMemory;
-use nc_report::{event_line, step_out, tail};
+use nc_report::{event_line, step_out_with, tail};
 use nc_scen::{Event, Scenario};
 use nc_top::status_of;
 use nc_world::World;
@@ -85,8 +85,9 @@ fn replay_out<K: Sink>(
     let Ok(mut w) = World::new(alloc, sc) else {
         return Err(Stop::NoMemory);
     };
+    let mut lines = Vec::new(alloc);
     for e in history {
-        step_out(alloc, &mut w, *e, out)?;
+        step_out_with(&mut lines, &mut w, *e, out)?;
     }
     let Ok(text) = tail(alloc, sc, &w) else {
         return Err(Stop::NoMemory);

@@ -11,7 +11,7 @@ running-init g c =
 pub running-preserved : goal.running-preserved
 running-preserved g c =
     let held = g.K.Sink.held in (
-      go_on (held c.args.out.now) (held c.running.out) (held c.step_out.new.out) c.args.sc.now c.running.w c.step_out.new.w c.running.sched c.next.new.self c.running.last c.in_ok-stepped.stepped c.in-Some.e
+      go_on (held c.args.out.now) (held c.running.out) (held c.step_out_with.new.out) c.args.sc.now c.running.w c.step_out_with.new.w c.running.sched c.next.new.self c.running.last c.in_ok-stepped.stepped c.in-Some.e
           c.in-Some.ensures.event (ap (λ (s : WorldView). s.state) c.in_ok-stepped.ensures.world) (ap (λ (s : WorldView). s.records) c.in_ok-stepped.ensures.world) c.in_ok-stepped.ensures.shape
           c.in_ok-stepped.ensures.answer c.in_ok-stepped.ensures.written c.running.invariant.0,
       omega (arith, c.running.invariant.1, c.in_ok-stepped.ensures.later),
@@ -21,7 +21,7 @@ pub returns-in_err-stepped-clause-front : goal.returns-in_err-stepped-clause-fro
 returns-in_err-stepped-clause-front g c =
     let held = g.K.Sink.held in
     let p = err_from_is_err_and c.from_residual.result c.from_residual.ensures.1 in
-    rw p.1 (go_stopped (held c.args.out.now) (held c.running.out) (held c.step_out.new.out) c.args.sc.now c.running.w c.running.sched c.next.new.self c.running.last c.in-Some.e c.in-Some.ensures.event c.in_err-stepped.ensures.front c.running.invariant.0)
+    rw p.1 (go_stopped (held c.args.out.now) (held c.running.out) (held c.step_out_with.new.out) c.args.sc.now c.running.w c.running.sched c.next.new.self c.running.last c.in-Some.e c.in-Some.ensures.event c.in_err-stepped.ensures.front c.running.invariant.0)
 
 pub returns-in_default-tail-clause-front : goal.returns-in_default-tail-clause-front
 returns-in_default-tail-clause-front g c =

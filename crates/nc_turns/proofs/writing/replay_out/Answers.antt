@@ -12,17 +12,17 @@ loop-e-preserved g c =
     let held = g.K.Sink.held in
     let es = c.args.history.now in
     let here = drop_more es c.loop-e.e-index _ c.loop-e-test.true in (
-      replay_on (held c.args.out.now) (held c.loop-e.out) (held c.step_out.new.out) c.args.sc.now c.loop-e.w c.step_out.new.w es _ _ _ here
-          c.in_ok-step_out.ensures.world c.in_ok-step_out.ensures.shape c.in_ok-step_out.ensures.written c.loop-e.invariant.0,
-      omega (arith, c.loop-e.invariant.1, c.in_ok-step_out.ensures.later),
+      replay_on (held c.args.out.now) (held c.loop-e.out) (held c.step_out_with.new.out) c.args.sc.now c.loop-e.w c.step_out_with.new.w es _ _ _ here
+          c.in_ok-step_out_with.ensures.world c.in_ok-step_out_with.ensures.shape c.in_ok-step_out_with.ensures.written c.loop-e.invariant.0,
+      omega (arith, c.loop-e.invariant.1, c.in_ok-step_out_with.ensures.later),
     )
 
-pub returns-in_err-step_out-clause-front : goal.returns-in_err-step_out-clause-front
-returns-in_err-step_out-clause-front g c =
+pub returns-in_err-step_out_with-clause-front : goal.returns-in_err-step_out_with-clause-front
+returns-in_err-step_out_with-clause-front g c =
     let held = g.K.Sink.held in
     let es = c.args.history.now in
     let p = err_from_is_err_and c.from_residual.result c.from_residual.ensures.1 in
-    rw p.1 (replay_stopped (held c.args.out.now) (held c.loop-e.out) (held c.step_out.new.out) c.args.sc.now c.loop-e.w es _ _ _ (drop_more es c.loop-e.e-index _ c.loop-e-test.true) c.in_err-step_out.ensures.front c.loop-e.invariant.0)
+    rw p.1 (replay_stopped (held c.args.out.now) (held c.loop-e.out) (held c.step_out_with.new.out) c.args.sc.now c.loop-e.w es _ _ _ (drop_more es c.loop-e.e-index _ c.loop-e-test.true) c.in_err-step_out_with.ensures.front c.loop-e.invariant.0)
 
 pub returns-in_default-tail-clause-front : goal.returns-in_default-tail-clause-front
 returns-in_default-tail-clause-front g c =
