@@ -59,7 +59,6 @@ fn queued(queue: &Queue, x: Place, size: u32) -> Option<u8>
 }
 
 /// Bytes from a place on, each from the newest entry that gives it, else these.
-#[tactic(auto, using(crate::proofs::Loads::overlaid_by_none))]
 pub(crate) fn overlaid(queue: &Queue, at: u32, below: &Bytes, size: u32) -> Bytes
     requires size { queue.now.size ≡ size }
     requires short { length below.now ≤ 8 }
@@ -78,7 +77,6 @@ pub(crate) fn overlaid(queue: &Queue, at: u32, below: &Bytes, size: u32) -> Byte
 }
 
 /// Whether some byte of a span comes from no entry.
-#[tactic(auto, using(crate::proofs::Loads::none_gives))]
 pub(crate) fn reaches_below(queue: &Queue, span: Span, size: u32) -> bool
     requires size { queue.now.size ≡ size }
     requires ends { span.at + span.len < 2 ^ 32 }
