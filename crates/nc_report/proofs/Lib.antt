@@ -1,4 +1,4 @@
 pub mod Counts
 pub mod Padding
 pub mod Parts
-pub mod SixDigits
+pub mod HexDigits

@@ -1,4 +1,4 @@
-//! Numbers in hexadecimal digits.
+//! Numbers of more hexadecimal digits than a line has room for.
 
 ghost use Rattle.std.specs.Prelude.{Some};
 ghost use Rattle.nc_rules.specs.Lines.{hex_digits};
@@ -26,29 +26,5 @@ impl fmt::Display for Six {
 
     fn fmt<W: fmt::Write>(&self, f: &mut fmt::Formatter<W>) -> fmt::Result {
         write!(f, "{:06x}", self.0)
-    }
-}
-
-/// A number in at least eight hexadecimal digits.
-#[derive(Drop)]
-pub(crate) struct Eight(pub u32);
-
-impl fmt::Display for Eight {
-    ghost output = { λ n. Some (hex_digits 8 n.0) };
-
-    fn fmt<W: fmt::Write>(&self, f: &mut fmt::Formatter<W>) -> fmt::Result {
-        write!(f, "{:08x}", self.0)
-    }
-}
-
-/// A number in at least sixteen hexadecimal digits.
-#[derive(Drop)]
-pub(crate) struct Sixteen(pub u64);
-
-impl fmt::Display for Sixteen {
-    ghost output = { λ n. Some (hex_digits 16 n.0) };
-
-    fn fmt<W: fmt::Write>(&self, f: &mut fmt::Formatter<W>) -> fmt::Result {
-        write!(f, "{:016x}", self.0)
     }
 }

@@ -6,11 +6,10 @@ ghost use Rattle.hex.specs.Hex.{encode_lower};
 ghost use Rattle.nc_rules.specs.Lines.{line, words, place, origin, operation, target};
 ghost use Rattle.nc_rules.specs.declared.records.Record.{Record};
 
-use crate::digits::{Six, Sixteen};
 use crate::put;
 use crate::words::{
-    ActorWords, AnswerWords, HeardWords, KindWord, OwnerWords, TargetWords, TriedWords,
-    operation_word, put_token,
+    kind_word, operation_word, put_actor, put_answer, put_heard, put_owner, put_target, put_token,
+    put_tried,
 };
 use nc_cache::Origin;
 use nc_env::CboOp;
@@ -21,7 +20,6 @@ use nc_rules::{Answer, Record, ToldAnswer};
 use nc_scen::Event;
 use nc_slots::TryAnswer;
 use std::alloc::{AllocError, Global};
-use std::io::Write;
 
 fn event(text: &mut Vec<u8>, e: Event) -> Result<(), AllocError>
     ensures { OnOk result (text.new.items ≡ text.old.items ++ line (Record.Event e)) }
@@ -29,14 +27,6 @@ fn event(text: &mut Vec<u8>, e: Event) -> Result<(), AllocError>
     put::word(text, "e ")?;
     put_token(text, e)?;
     put::byte(text, b'\n')
-}
-
-/// Puts a word and a number.
-fn begin(text: &mut Vec<u8>, word: &str, n: u64) -> Result<(), AllocError>
-    ensures { OnOk result (text.new.items ≡ text.old.items ++ (word.now ++ 32 ∷ decimal n)) }
-{
-    put::word(text, word)?;
-    put::number_behind(text, b' ', n)
 }
 
 /// Puts a blank and a place.
@@ -50,18 +40,15 @@ fn at_place(text: &mut Vec<u8>, at: Place) -> Result<(), AllocError>
 fn touch(text: &mut Vec<u8>, t: Touch) -> Result<(), AllocError>
     ensures { OnOk result (text.new.items ≡ text.old.items ++ line (Record.Touched t)) }
 {
-    let Ok(()) = write!(
-        text,
-        "touch {} {} {} {} {}\n",
-        KindWord(t.kind),
-        ActorWords(t.who),
-        Six(t.span.at),
-        t.span.len,
-        OwnerWords(t.holder)
-    ) else {
-        return Err(AllocError);
-    };
-    Ok(())
+    put::word(text, "touch ")?;
+    put::word(text, kind_word(t.kind))?;
+    put::byte(text, b' ')?;
+    put_actor(text, t.who)?;
+    at_place(text, Place(t.span.at))?;
+    put::number_behind(text, b' ', t.span.len as u64)?;
+    put::byte(text, b' ')?;
+    put_owner(text, t.holder)?;
+    put::byte(text, b'\n')
 }
 
 /// Writes the bytes of a hart or a channel at a place, behind this word and its number.
@@ -69,7 +56,7 @@ fn piece(text: &mut Vec<u8>, word: &str, n: u8, at: Place, bytes: &Bytes) -> Res
     ensures { OnOk result (text.new.items ≡ text.old.items
         ++ words (word.now ∷ decimal n ∷ place at ∷ encode_lower bytes.now ∷ [])) }
 {
-    begin(text, word, n as u64)?;
+    put::counted(text, word, n as u64)?;
     at_place(text, at)?;
     put::byte(text, b' ')?;
     put::digits(text, bytes)?;
@@ -87,7 +74,7 @@ fn operation(
     ensures { OnOk result (text.new.items ≡ text.old.items
         ++ words (word.now ∷ decimal hart.0 ∷ operation op ∷ place at ∷ [])) }
 {
-    begin(text, word, hart.0 as u64)?;
+    put::counted(text, word, hart.0 as u64)?;
     put::byte(text, b' ')?;
     put::word(text, operation_word(op))?;
     at_place(text, at)?;
@@ -99,8 +86,7 @@ fn sets(text: &mut Vec<u8>, word: &str, hart: HartNo, pred: u8, succ: u8) -> Res
     ensures { OnOk result (text.new.items ≡ text.old.items
         ++ words (word.now ∷ decimal hart.0 ∷ decimal pred ∷ decimal succ ∷ [])) }
 {
-    begin(text, word, hart.0 as u64)?;
-    put::number_behind(text, b' ', pred as u64)?;
+    put::two_counted(text, word, hart.0 as u64, pred as u64)?;
     put::number_behind(text, b' ', succ as u64)?;
     put::byte(text, b'\n')
 }
@@ -110,16 +96,16 @@ fn target(text: &mut Vec<u8>, word: &str, hart: HartNo, to: IoTarget) -> Result<
     ensures { OnOk result (text.new.items ≡ text.old.items
         ++ words (word.now ∷ decimal hart.0 ∷ target to ∷ [])) }
 {
-    let Ok(()) = write!(text, "{word} {} {}\n", hart.0, TargetWords(to)) else {
-        return Err(AllocError);
-    };
-    Ok(())
+    put::counted(text, word, hart.0 as u64)?;
+    put::byte(text, b' ')?;
+    put_target(text, to)?;
+    put::byte(text, b'\n')
 }
 
 fn drained_mark(text: &mut Vec<u8>, hart: HartNo) -> Result<(), AllocError>
     ensures { OnOk result (text.new.items ≡ text.old.items ++ line (Record.DrMark hart)) }
 {
-    begin(text, "dr", hart.0 as u64)?;
+    put::counted(text, "dr", hart.0 as u64)?;
     put::word(text, " mark\n")
 }
 
@@ -134,7 +120,7 @@ fn origin(text: &mut Vec<u8>, from: &Origin) -> Result<(), AllocError>
             put::byte(text, b'\n')
         }
         Origin::Hart(g) => {
-            begin(text, "hart", g.0 as u64)?;
+            put::counted(text, "hart", g.0 as u64)?;
             put::byte(text, b'\n')
         }
         Origin::Held => put::word(text, "held\n"),
@@ -152,7 +138,7 @@ fn copy(
     ensures { OnOk result (text.new.items ≡ text.old.items
         ++ words (word.now ∷ decimal hart.0 ∷ place at ∷ origin from.now ∷ [])) }
 {
-    begin(text, word, hart.0 as u64)?;
+    put::counted(text, word, hart.0 as u64)?;
     at_place(text, at)?;
     put::byte(text, b' ')?;
     origin(text, from)
@@ -161,7 +147,7 @@ fn copy(
 fn dropped(text: &mut Vec<u8>, hart: HartNo, at: Place) -> Result<(), AllocError>
     ensures { OnOk result (text.new.items ≡ text.old.items ++ line (Record.Drop hart at)) }
 {
-    begin(text, "drop", hart.0 as u64)?;
+    put::counted(text, "drop", hart.0 as u64)?;
     at_place(text, at)?;
     put::byte(text, b'\n')
 }
@@ -169,67 +155,63 @@ fn dropped(text: &mut Vec<u8>, hart: HartNo, at: Place) -> Result<(), AllocError
 fn chan_done(text: &mut Vec<u8>, chan: ChanNo) -> Result<(), AllocError>
     ensures { OnOk result (text.new.items ≡ text.old.items ++ line (Record.Cd chan)) }
 {
-    begin(text, "cd", chan.0 as u64)?;
+    put::counted(text, "cd", chan.0 as u64)?;
     put::byte(text, b'\n')
 }
 
 fn chan_error(text: &mut Vec<u8>, chan: ChanNo, bus: u64, len: u32) -> Result<(), AllocError>
     ensures { OnOk result (text.new.items ≡ text.old.items ++ line (Record.Ce chan bus len)) }
 {
-    let Ok(()) = write!(text, "ce {} {} {len}\n", chan.0, Sixteen(bus)) else {
-        return Err(AllocError);
-    };
-    Ok(())
+    put::counted(text, "ce", chan.0 as u64)?;
+    put::byte(text, b' ')?;
+    put::sixteen(text, bus)?;
+    put::number_behind(text, b' ', len as u64)?;
+    put::byte(text, b'\n')
 }
 
 fn owned(text: &mut Vec<u8>, span: Span, owner: Owner) -> Result<(), AllocError>
     ensures { OnOk result (text.new.items ≡ text.old.items ++ line (Record.Ow span owner)) }
 {
-    let Ok(()) = write!(
-        text,
-        "ow {} {} {}\n",
-        Six(span.at),
-        span.len,
-        OwnerWords(owner)
-    ) else {
-        return Err(AllocError);
-    };
-    Ok(())
+    put::word(text, "ow")?;
+    at_place(text, Place(span.at))?;
+    put::number_behind(text, b' ', span.len as u64)?;
+    put::byte(text, b' ')?;
+    put_owner(text, owner)?;
+    put::byte(text, b'\n')
 }
 
 fn tried(text: &mut Vec<u8>, hart: HartNo, word: u32, found: TryAnswer) -> Result<(), AllocError>
     ensures { OnOk result (text.new.items ≡ text.old.items ++ line (Record.Try hart word found)) }
 {
-    let Ok(()) = write!(text, "try {} {word} {}\n", hart.0, TriedWords(found)) else {
-        return Err(AllocError);
-    };
-    Ok(())
+    put::two_counted(text, "try", hart.0 as u64, word as u64)?;
+    put::byte(text, b' ')?;
+    put_tried(text, found)?;
+    put::byte(text, b'\n')
 }
 
 fn told(text: &mut Vec<u8>, hart: HartNo, word: u32, found: ToldAnswer) -> Result<(), AllocError>
     ensures { OnOk result (text.new.items ≡ text.old.items ++ line (Record.Told hart word found)) }
 {
-    let Ok(()) = write!(text, "told {} {word} {}\n", hart.0, HeardWords(found)) else {
-        return Err(AllocError);
-    };
-    Ok(())
+    put::two_counted(text, "told", hart.0 as u64, word as u64)?;
+    put::byte(text, b' ')?;
+    put_heard(text, found)?;
+    put::byte(text, b'\n')
 }
 
 fn given_back(text: &mut Vec<u8>, hart: HartNo, word: u32) -> Result<(), AllocError>
     ensures { OnOk result (text.new.items ≡ text.old.items ++ line (Record.Back hart word)) }
 {
-    begin(text, "back", hart.0 as u64)?;
-    put::number_behind(text, b' ', word as u64)?;
+    put::two_counted(text, "back", hart.0 as u64, word as u64)?;
     put::byte(text, b'\n')
 }
 
 fn answered(text: &mut Vec<u8>, hart: HartNo, op: u32, answer: &Answer) -> Result<(), AllocError>
     ensures { OnOk result (text.new.items ≡ text.old.items ++ line (Record.Ans hart op answer.now)) }
 {
-    let Ok(()) = write!(text, "ans {} {op} {}\n", hart.0, AnswerWords(*answer)) else {
-        return Err(AllocError);
-    };
-    Ok(())
+    put::two_counted(text, "ans", hart.0 as u64, op as u64)?;
+    put::byte(text, b' ')?;
+    put_answer(text, answer)?;
+    put::byte(text, b'\n')
 }
 
 /// Writes the line of a record behind a text.

@@ -5,7 +5,7 @@ ghost use Rattle.std.specs.Fmt.{digit_glyph};
 ghost use Rattle.hex.specs.Hex.{encode_lower};
 ghost use Rattle.nc_rules.specs.Lines.{hex_digits};
 
-use crate::digits::Six;
+use crate::digits::{Six, Three};
 use itoa::Buffer;
 use nc_num::Bytes;
 use std::alloc::AllocError;
@@ -33,6 +33,22 @@ pub(crate) fn number(text: &mut Vec<u8>, n: u64) -> Result<(), AllocError>
     }
     let mut buffer = Buffer::new();
     text.extend_from_slice(buffer.format(n).as_bytes())
+}
+
+/// Puts a word, a blank and a number.
+pub(crate) fn counted(text: &mut Vec<u8>, word: &str, n: u64) -> Result<(), AllocError>
+    ensures { OnOk result (text.new.items ≡ text.old.items ++ (word.now ++ 32 ∷ decimal n)) }
+{
+    self::word(text, word)?;
+    number_behind(text, b' ', n)
+}
+
+/// Puts a word and two numbers, with blanks between.
+pub(crate) fn two_counted(text: &mut Vec<u8>, word: &str, m: u64, n: u64) -> Result<(), AllocError>
+    ensures { OnOk result (text.new.items ≡ text.old.items ++ (word.now ++ 32 ∷ decimal m ++ 32 ∷ decimal n)) }
+{
+    counted(text, word, m)?;
+    number_behind(text, b' ', n)
 }
 
 /// Puts a byte, and then a number.
@@ -87,6 +103,71 @@ pub(crate) fn six(text: &mut Vec<u8>, n: u32) -> Result<(), AllocError>
         return Err(AllocError);
     };
     Ok(())
+}
+
+/// Puts the last three hexadecimal digits of a number.
+fn last_three(text: &mut Vec<u8>, n: u32) -> Result<(), AllocError>
+    ensures { OnOk result (text.new.items ≡ text.old.items
+        ++ (digit_glyph false (n / 16 / 16 % 16) ∷ digit_glyph false (n / 16 % 16) ∷ digit_glyph false (n % 16) ∷ [])) }
+{
+    let n1 = n / 16;
+    let n2 = n1 / 16;
+    text.extend_from_slice(&[glyph(n2 % 16), glyph(n1 % 16), glyph(n % 16)])
+}
+
+/// Puts a number in at least three hexadecimal digits.
+pub(crate) fn three(text: &mut Vec<u8>, n: u16) -> Result<(), AllocError>
+    ensures { OnOk result (text.new.items ≡ text.old.items ++ hex_digits 3 n) }
+{
+    if n < 4096 {
+        return last_three(text, n as u32);
+    }
+    let Ok(()) = write!(text, "{}", Three(n)) else {
+        return Err(AllocError);
+    };
+    Ok(())
+}
+
+/// Puts the last eight hexadecimal digits of a number.
+fn last_eight(text: &mut Vec<u8>, n: u64) -> Result<(), AllocError>
+    ensures { OnOk result (text.new.items ≡ text.old.items
+        ++ (digit_glyph false (n / 16 / 16 / 16 / 16 / 16 / 16 / 16 % 16) ∷ digit_glyph false (n / 16 / 16 / 16 / 16 / 16 / 16 % 16)
+        ∷ digit_glyph false (n / 16 / 16 / 16 / 16 / 16 % 16) ∷ digit_glyph false (n / 16 / 16 / 16 / 16 % 16)
+        ∷ digit_glyph false (n / 16 / 16 / 16 % 16) ∷ digit_glyph false (n / 16 / 16 % 16)
+        ∷ digit_glyph false (n / 16 % 16) ∷ digit_glyph false (n % 16) ∷ [])) }
+{
+    let n1 = n / 16;
+    let n2 = n1 / 16;
+    let n3 = n2 / 16;
+    let n4 = n3 / 16;
+    let n5 = n4 / 16;
+    let n6 = n5 / 16;
+    let n7 = n6 / 16;
+    text.extend_from_slice(&[
+        glyph((n7 % 16) as u32),
+        glyph((n6 % 16) as u32),
+        glyph((n5 % 16) as u32),
+        glyph((n4 % 16) as u32),
+        glyph((n3 % 16) as u32),
+        glyph((n2 % 16) as u32),
+        glyph((n1 % 16) as u32),
+        glyph((n % 16) as u32),
+    ])
+}
+
+/// Puts a number in eight hexadecimal digits.
+pub(crate) fn eight(text: &mut Vec<u8>, n: u32) -> Result<(), AllocError>
+    ensures { OnOk result (text.new.items ≡ text.old.items ++ hex_digits 8 n) }
+{
+    last_eight(text, n as u64)
+}
+
+/// Puts a number in sixteen hexadecimal digits.
+pub(crate) fn sixteen(text: &mut Vec<u8>, n: u64) -> Result<(), AllocError>
+    ensures { OnOk result (text.new.items ≡ text.old.items ++ hex_digits 16 n) }
+{
+    last_eight(text, n / 4294967296)?;
+    last_eight(text, n)
 }
 
 /// Puts some bytes in two hexadecimal digits each, which are made in these cells.

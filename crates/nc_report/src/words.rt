@@ -1,19 +1,18 @@
-//! The words of a line: those of most lines are put behind a text, the others are as `{}` writes them.
+//! The words of a line, put behind a text.
 
-ghost use Rattle.std.specs.Prelude.{◌≡◌, ◌++◌, ◌∷◌, decimal, Some, OnOk};
+ghost use Rattle.std.specs.Prelude.{◌≡◌, ◌++◌, ◌∷◌, decimal, OnOk};
 ghost use Rattle.std.specs.List.{flat_map};
-ghost use Rattle.nc_rules.specs.Lines.{token, kind, actor, owner, operation, field, refusal, segment, answer, target, tried, heard};
+ghost use Rattle.nc_rules.specs.Lines.{hex_digits, token, kind, actor, mapping, owner, operation, field, refusal, segment, answer, target, tried, heard};
 
-use crate::digits::{Eight, Sixteen, Three};
 use crate::put;
 use nc_env::{CboOp, Field};
 use nc_model::{Actor, Owner, TouchKind};
+use nc_num::MapId;
 use nc_plan::{IoTarget, SegList};
 use nc_rules::{Answer, Refusal, ToldAnswer};
 use nc_scen::Event;
 use nc_slots::TryAnswer;
 use std::alloc::AllocError;
-use std::fmt;
 
 /// Puts the token of an event.
 pub(crate) fn put_token(text: &mut Vec<u8>, e: Event) -> Result<(), AllocError>
@@ -40,61 +39,54 @@ fn put_two(text: &mut Vec<u8>, letter: u8, m: u64, n: u64) -> Result<(), AllocEr
     put::number_behind(text, b'.', n)
 }
 
-/// A kind of touch.
-#[derive(Drop)]
-pub(crate) struct KindWord(pub TouchKind);
-
-impl fmt::Display for KindWord {
-    ghost output = { λ k. Some (kind k.0) };
-
-    fn fmt<W: fmt::Write>(&self, f: &mut fmt::Formatter<W>) -> fmt::Result {
-        match self.0 {
-            TouchKind::Load => write!(f, "load"),
-            TouchKind::Store => write!(f, "store"),
-            TouchKind::Channel => write!(f, "channel"),
-            TouchKind::Register => write!(f, "register"),
-            TouchKind::Alias => write!(f, "alias"),
-            TouchKind::Discard => write!(f, "discard"),
-        }
+/// Returns the word of a kind of touch.
+pub(crate) fn kind_word(k: TouchKind) -> &'static str
+    ensures { result.now ≡ kind k }
+{
+    match k {
+        TouchKind::Load => "load",
+        TouchKind::Store => "store",
+        TouchKind::Channel => "channel",
+        TouchKind::Register => "register",
+        TouchKind::Alias => "alias",
+        TouchKind::Discard => "discard",
     }
 }
 
-/// Who acts.
-#[derive(Drop)]
-pub(crate) struct ActorWords(pub Actor);
-
-impl fmt::Display for ActorWords {
-    ghost output = { λ a. Some (actor a.0) };
-
-    fn fmt<W: fmt::Write>(&self, f: &mut fmt::Formatter<W>) -> fmt::Result {
-        match self.0 {
-            Actor::Hart(h) => write!(f, "hart {}", h.0),
-            Actor::Chan(c) => write!(f, "chan {}", c.0),
-        }
+/// Puts who acts.
+pub(crate) fn put_actor(text: &mut Vec<u8>, a: Actor) -> Result<(), AllocError>
+    ensures { OnOk result (text.new.items ≡ text.old.items ++ actor a) }
+{
+    match a {
+        Actor::Hart(h) => put::counted(text, "hart", h.0 as u64),
+        Actor::Chan(c) => put::counted(text, "chan", c.0 as u64),
     }
 }
 
-/// An owner.
-#[derive(Drop)]
-pub(crate) struct OwnerWords(pub Owner);
+/// Puts a word and the name of a mapping.
+fn put_mapping(text: &mut Vec<u8>, word: &str, m: MapId) -> Result<(), AllocError>
+    ensures { OnOk result (text.new.items ≡ text.old.items ++ mapping word.now m) }
+{
+    put::two_counted(text, word, m.hart.0 as u64, m.label.0 as u64)?;
+    put::number_behind(text, b' ', m.entry as u64)
+}
 
-impl fmt::Display for OwnerWords {
-    ghost output = { λ o. Some (owner o.0) };
-
-    fn fmt<W: fmt::Write>(&self, f: &mut fmt::Formatter<W>) -> fmt::Result {
-        match self.0 {
-            Owner::Thread(h) => write!(f, "thread {}", h.0),
-            Owner::Passing(h, g) => write!(f, "passing {} {}", h.0, g.0),
-            Owner::Lending(m) => write!(f, "lending {} {} {}", m.hart.0, m.label.0, m.entry),
-            Owner::Device(m) => write!(f, "device {} {} {}", m.hart.0, m.label.0, m.entry),
-            Owner::Returning(m) => write!(f, "returning {} {} {}", m.hart.0, m.label.0, m.entry),
-            Owner::Synced(m) => write!(f, "synced {} {} {}", m.hart.0, m.label.0, m.entry),
-            Owner::Pool => write!(f, "pool"),
-        }
+/// Puts an owner.
+pub(crate) fn put_owner(text: &mut Vec<u8>, o: Owner) -> Result<(), AllocError>
+    ensures { OnOk result (text.new.items ≡ text.old.items ++ owner o) }
+{
+    match o {
+        Owner::Thread(h) => put::counted(text, "thread", h.0 as u64),
+        Owner::Passing(h, g) => put::two_counted(text, "passing", h.0 as u64, g.0 as u64),
+        Owner::Lending(m) => put_mapping(text, "lending", m),
+        Owner::Device(m) => put_mapping(text, "device", m),
+        Owner::Returning(m) => put_mapping(text, "returning", m),
+        Owner::Synced(m) => put_mapping(text, "synced", m),
+        Owner::Pool => put::word(text, "pool"),
     }
 }
 
-/// The word of a cache operation, by its effect.
+/// Returns the word of a cache operation, by its effect.
 pub(crate) fn operation_word(op: CboOp) -> &'static str
     ensures { result.now ≡ operation op }
 {
@@ -106,159 +98,169 @@ pub(crate) fn operation_word(op: CboOp) -> &'static str
     }
 }
 
-/// A field of an environment configuration register.
-#[derive(Drop)]
-pub(crate) struct FieldWord(pub Field);
+/// Returns the word of a field of an environment configuration register.
+fn field_word(x: Field) -> &'static str
+    ensures { result.now ≡ field x }
+{
+    match x {
+        Field::MCbie => "menvcfg.cbie",
+        Field::MCbcfe => "menvcfg.cbcfe",
+        Field::MCbze => "menvcfg.cbze",
+        Field::SCbie => "senvcfg.cbie",
+        Field::SCbcfe => "senvcfg.cbcfe",
+        Field::SCbze => "senvcfg.cbze",
+    }
+}
 
-impl fmt::Display for FieldWord {
-    ghost output = { λ x. Some (field x.0) };
-
-    fn fmt<W: fmt::Write>(&self, f: &mut fmt::Formatter<W>) -> fmt::Result {
-        match self.0 {
-            Field::MCbie => write!(f, "menvcfg.cbie"),
-            Field::MCbcfe => write!(f, "menvcfg.cbcfe"),
-            Field::MCbze => write!(f, "menvcfg.cbze"),
-            Field::SCbie => write!(f, "senvcfg.cbie"),
-            Field::SCbcfe => write!(f, "senvcfg.cbcfe"),
-            Field::SCbze => write!(f, "senvcfg.cbze"),
+/// Puts why an operation is refused.
+fn put_refusal(text: &mut Vec<u8>, r: Refusal) -> Result<(), AllocError>
+    ensures { OnOk result (text.new.items ≡ text.old.items ++ refusal r) }
+{
+    match r {
+        Refusal::Empty => put::word(text, "empty"),
+        Refusal::BadRange => put::word(text, "badrange"),
+        Refusal::LabelUsed => put::word(text, "labelused"),
+        Refusal::NoLabel => put::word(text, "nolabel"),
+        Refusal::NotYours(o) => {
+            put::word(text, "notyours ")?;
+            put_owner(text, o)
+        }
+        Refusal::CboOff(x) => put_two_words(text, "cbooff", field_word(x)),
+        Refusal::TooBig => put::word(text, "toobig"),
+        Refusal::NoSlot => put::word(text, "noslot"),
+        Refusal::ChannelBusy(g) => put::counted(text, "channelbusy", g.0 as u64),
+        Refusal::NoPbmt => put::word(text, "nopbmt"),
+        Refusal::NoPage => put::word(text, "nopage"),
+        Refusal::BadCount(n) => put::counted(text, "badcount", n as u64),
+        Refusal::IllegalCbo(x) => put_two_words(text, "illegal", field_word(x)),
+        Refusal::PageFault(va, bits) => {
+            put_wide(text, "pagefault", va)?;
+            put::number_behind(text, b' ', bits as u64)
+        }
+        Refusal::BadMmio(off, width) => {
+            put::word(text, "badmmio ")?;
+            put::three(text, off)?;
+            put::number_behind(text, b' ', width as u64)
         }
     }
 }
 
-/// Why an operation is refused.
-#[derive(Drop)]
-pub(crate) struct RefusalWords(pub Refusal);
+/// Puts two words with a blank between.
+fn put_two_words(text: &mut Vec<u8>, first: &str, second: &str) -> Result<(), AllocError>
+    ensures { OnOk result (text.new.items ≡ text.old.items ++ (first.now ++ 32 ∷ second.now)) }
+{
+    put::word(text, first)?;
+    put::byte(text, b' ')?;
+    put::word(text, second)
+}
 
-impl fmt::Display for RefusalWords {
-    ghost output = { λ r. Some (refusal r.0) };
+/// Puts a word, a blank, and a bus address or the value of Control in eight hexadecimal digits.
+fn put_wide(text: &mut Vec<u8>, word: &str, n: u32) -> Result<(), AllocError>
+    ensures { OnOk result (text.new.items ≡ text.old.items ++ (word.now ++ 32 ∷ hex_digits 8 n)) }
+{
+    put::word(text, word)?;
+    put::byte(text, b' ')?;
+    put::eight(text, n)
+}
 
-    fn fmt<W: fmt::Write>(&self, f: &mut fmt::Formatter<W>) -> fmt::Result {
-        match self.0 {
-            Refusal::Empty => write!(f, "empty"),
-            Refusal::BadRange => write!(f, "badrange"),
-            Refusal::LabelUsed => write!(f, "labelused"),
-            Refusal::NoLabel => write!(f, "nolabel"),
-            Refusal::NotYours(o) => write!(f, "notyours {}", OwnerWords(o)),
-            Refusal::CboOff(x) => write!(f, "cbooff {}", FieldWord(x)),
-            Refusal::TooBig => write!(f, "toobig"),
-            Refusal::NoSlot => write!(f, "noslot"),
-            Refusal::ChannelBusy(g) => write!(f, "channelbusy {}", g.0),
-            Refusal::NoPbmt => write!(f, "nopbmt"),
-            Refusal::NoPage => write!(f, "nopage"),
-            Refusal::BadCount(n) => write!(f, "badcount {n}"),
-            Refusal::IllegalCbo(x) => write!(f, "illegal {}", FieldWord(x)),
-            Refusal::PageFault(va, bits) => write!(f, "pagefault {} {bits}", Eight(va)),
-            Refusal::BadMmio(off, width) => write!(f, "badmmio {} {width}", Three(off)),
+/// Puts segments, each behind a blank.
+fn put_segments(text: &mut Vec<u8>, list: &SegList) -> Result<(), AllocError>
+    ensures { OnOk result (text.new.items ≡ text.old.items ++ flat_map segment list.now) }
+{
+    for s in list.as_slice() {
+        put::byte(text, b' ')?;
+        put::eight(text, s.bus)?;
+        put::number_behind(text, b':', s.len as u64)?;
+    }
+    Ok(())
+}
+
+/// Puts the answer of an operation.
+pub(crate) fn put_answer(text: &mut Vec<u8>, a: &Answer) -> Result<(), AllocError>
+    ensures { OnOk result (text.new.items ≡ text.old.items ++ answer a.now) }
+{
+    match a {
+        Answer::Mapped(bus) => put_wide(text, "mapped", *bus),
+        Answer::Unmapped => put::word(text, "unmapped"),
+        Answer::Cpu => put::word(text, "cpu"),
+        Answer::Dev => put::word(text, "dev"),
+        Answer::Segments(list) => {
+            put::counted(text, "segments", list.as_slice().len() as u64)?;
+            put_segments(text, list)
+        }
+        Answer::NoSegments(r) => {
+            put::word(text, "segments 0 ")?;
+            put_refusal(text, *r)
+        }
+        Answer::Allocated(bus) => put_wide(text, "allocated", *bus),
+        Answer::Freed => put::word(text, "freed"),
+        Answer::Given => put::word(text, "given"),
+        Answer::Taken => put::word(text, "taken"),
+        Answer::Handed => put::word(text, "handed"),
+        Answer::Took => put::word(text, "took"),
+        Answer::Claimed => put::word(text, "claimed"),
+        Answer::Released => put::word(text, "released"),
+        Answer::Set => put::word(text, "set"),
+        Answer::Started => put::word(text, "started"),
+        Answer::Done(control) => put_wide(text, "done", *control),
+        Answer::Error(control) => put_wide(text, "error", *control),
+        Answer::Value(value) => {
+            put::word(text, "value ")?;
+            put::sixteen(text, *value)
+        }
+        Answer::Wrote => put::word(text, "wrote"),
+        Answer::CopyDone => put::word(text, "copydone"),
+        Answer::CopyFailed(control) => put_wide(text, "copyfailed", *control),
+        Answer::Refused(r) => put_refusal(text, *r),
+    }
+}
+
+/// Puts what an IO store stores to.
+pub(crate) fn put_target(text: &mut Vec<u8>, t: IoTarget) -> Result<(), AllocError>
+    ensures { OnOk result (text.new.items ≡ text.old.items ++ target t) }
+{
+    match t {
+        IoTarget::Reg {
+            chan,
+            off,
+            value,
+            ..
+        } => {
+            put::counted(text, "reg", chan.0 as u64)?;
+            put::byte(text, b' ')?;
+            put::three(text, off)?;
+            put::byte(text, b' ')?;
+            put::sixteen(text, value)
+        }
+        IoTarget::Mail { buf, to } => put::two_counted(text, "mail", buf as u64, to.0 as u64),
+        IoTarget::Lend {
+            label,
+            first,
+            count,
+        } => {
+            put::two_counted(text, "lend", label.0 as u64, first as u64)?;
+            put::number_behind(text, b' ', count as u64)
         }
     }
 }
 
-/// Segments, each with a blank before it.
-#[derive(Drop)]
-pub(crate) struct SegmentWords(pub SegList);
-
-impl fmt::Display for SegmentWords {
-    ghost output = { λ s. Some (flat_map segment s.0) };
-
-    fn fmt<W: fmt::Write>(&self, f: &mut fmt::Formatter<W>) -> fmt::Result {
-        for s in self.0.as_slice() {
-            write!(f, " {}:{}", Eight(s.bus), s.len)?;
-        }
-        Ok(())
+/// Puts what a try of a slot word found.
+pub(crate) fn put_tried(text: &mut Vec<u8>, t: TryAnswer) -> Result<(), AllocError>
+    ensures { OnOk result (text.new.items ≡ text.old.items ++ tried t) }
+{
+    match t {
+        TryAnswer::Got => put::word(text, "got"),
+        TryAnswer::Held(g) => put::counted(text, "held", g.0 as u64),
     }
 }
 
-/// The answer of an operation.
-#[derive(Drop)]
-pub(crate) struct AnswerWords(pub Answer);
-
-impl fmt::Display for AnswerWords {
-    ghost output = { λ a. Some (answer a.0) };
-
-    fn fmt<W: fmt::Write>(&self, f: &mut fmt::Formatter<W>) -> fmt::Result {
-        match self.0 {
-            Answer::Mapped(bus) => write!(f, "mapped {}", Eight(bus)),
-            Answer::Unmapped => write!(f, "unmapped"),
-            Answer::Cpu => write!(f, "cpu"),
-            Answer::Dev => write!(f, "dev"),
-            Answer::Segments(list) => {
-                let count = list.as_slice().len();
-                write!(f, "segments {count}{}", SegmentWords(list))
-            }
-            Answer::NoSegments(r) => write!(f, "segments 0 {}", RefusalWords(r)),
-            Answer::Allocated(bus) => write!(f, "allocated {}", Eight(bus)),
-            Answer::Freed => write!(f, "freed"),
-            Answer::Given => write!(f, "given"),
-            Answer::Taken => write!(f, "taken"),
-            Answer::Handed => write!(f, "handed"),
-            Answer::Took => write!(f, "took"),
-            Answer::Claimed => write!(f, "claimed"),
-            Answer::Released => write!(f, "released"),
-            Answer::Set => write!(f, "set"),
-            Answer::Started => write!(f, "started"),
-            Answer::Done(control) => write!(f, "done {}", Eight(control)),
-            Answer::Error(control) => write!(f, "error {}", Eight(control)),
-            Answer::Value(value) => write!(f, "value {}", Sixteen(value)),
-            Answer::Wrote => write!(f, "wrote"),
-            Answer::CopyDone => write!(f, "copydone"),
-            Answer::CopyFailed(control) => write!(f, "copyfailed {}", Eight(control)),
-            Answer::Refused(r) => write!(f, "{}", RefusalWords(r)),
-        }
-    }
-}
-
-/// What an IO store stores to.
-#[derive(Drop)]
-pub(crate) struct TargetWords(pub IoTarget);
-
-impl fmt::Display for TargetWords {
-    ghost output = { λ t. Some (target t.0) };
-
-    fn fmt<W: fmt::Write>(&self, f: &mut fmt::Formatter<W>) -> fmt::Result {
-        match self.0 {
-            IoTarget::Reg {
-                chan,
-                off,
-                value,
-                ..
-            } => write!(f, "reg {} {} {}", chan.0, Three(off), Sixteen(value)),
-            IoTarget::Mail { buf, to } => write!(f, "mail {buf} {}", to.0),
-            IoTarget::Lend {
-                label,
-                first,
-                count,
-            } => write!(f, "lend {} {first} {count}", label.0),
-        }
-    }
-}
-
-/// What a try of a slot word found.
-#[derive(Drop)]
-pub(crate) struct TriedWords(pub TryAnswer);
-
-impl fmt::Display for TriedWords {
-    ghost output = { λ t. Some (tried t.0) };
-
-    fn fmt<W: fmt::Write>(&self, f: &mut fmt::Formatter<W>) -> fmt::Result {
-        match self.0 {
-            TryAnswer::Got => write!(f, "got"),
-            TryAnswer::Held(g) => write!(f, "held {}", g.0),
-        }
-    }
-}
-
-/// What became of a told answer.
-#[derive(Drop)]
-pub(crate) struct HeardWords(pub ToldAnswer);
-
-impl fmt::Display for HeardWords {
-    ghost output = { λ t. Some (heard t.0) };
-
-    fn fmt<W: fmt::Write>(&self, f: &mut fmt::Formatter<W>) -> fmt::Result {
-        match self.0 {
-            ToldAnswer::Got => write!(f, "got"),
-            ToldAnswer::Miss => write!(f, "miss"),
-            ToldAnswer::Held(g) => write!(f, "held {}", g.0),
-        }
+/// Puts what became of an answer that was told.
+pub(crate) fn put_heard(text: &mut Vec<u8>, t: ToldAnswer) -> Result<(), AllocError>
+    ensures { OnOk result (text.new.items ≡ text.old.items ++ heard t) }
+{
+    match t {
+        ToldAnswer::Got => put::word(text, "got"),
+        ToldAnswer::Miss => put::word(text, "miss"),
+        ToldAnswer::Held(g) => put::counted(text, "held", g.0 as u64),
     }
 }

@@ -1,4 +1,4 @@
-use Rattle.nc_report.proofs.SixDigits.{six_digits}
+use Rattle.nc_report.proofs.HexDigits.{six_digits}
 use Rattle.nc_report.proofs.put.six.Goals as goal
 
 pub returns-then-n-lt16777216 : goal.returns-then-n-lt16777216

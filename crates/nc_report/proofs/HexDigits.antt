@@ -1,4 +1,4 @@
--- A number below 16 ^ 6 in six hexadecimal digits.
+-- Numbers in so many hexadecimal digits: three, six, eight and sixteen.
 use Rattle.std.proofs.Common.{◌≡◌, ℕ, zero, suc, ◌+◌, ◌-◌, ◌/◌, ◌%◌, ◌^◌, ◌<◌, ◌≤◌, Bool, false, List, [], ◌∷◌, ◌++◌, length, inl, inr, refl, sym, ap, ◌∙◌, arith}
 use Rattle.std.specs.Prelude.{replicate}
 use Rattle.std.proofs.Math.Bool.{cond}
@@ -57,3 +57,24 @@ pub six_digits : (n : ℕ) → n < 16777216 → hex_digits 6 n
     ∷ digit_glyph false (n / 16 / 16 % 16) ∷ digit_glyph false (n / 16 % 16) ∷ digit_glyph false (n % 16) ∷ []
 unfolding digits padded
 six_digits n h = digits_exactly 5 63 n [] (omega arith) (omega arith)
+
+pub three_digits : (n : ℕ) → n < 4096 → hex_digits 3 n ≡ digit_glyph false (n / 16 / 16 % 16) ∷ digit_glyph false (n / 16 % 16) ∷ digit_glyph false (n % 16) ∷ []
+unfolding digits padded
+three_digits n h = digits_exactly 2 63 n [] (omega arith) (omega arith)
+
+-- the last eight digits of a number
+abbrev pub last_eight : ℕ → List ℕ
+last_eight n = digit_glyph false (n / 16 / 16 / 16 / 16 / 16 / 16 / 16 % 16) ∷ digit_glyph false (n / 16 / 16 / 16 / 16 / 16 / 16 % 16)
+    ∷ digit_glyph false (n / 16 / 16 / 16 / 16 / 16 % 16) ∷ digit_glyph false (n / 16 / 16 / 16 / 16 % 16) ∷ digit_glyph false (n / 16 / 16 / 16 % 16)
+    ∷ digit_glyph false (n / 16 / 16 % 16) ∷ digit_glyph false (n / 16 % 16) ∷ digit_glyph false (n % 16) ∷ []
+
+pub eight_digits : (n : ℕ) → n < 4294967296 → hex_digits 8 n ≡ last_eight n
+unfolding digits padded
+eight_digits n h = digits_exactly 7 63 n [] (omega arith) (omega arith)
+
+upper : (n : ℕ) → n / 16 / 16 / 16 / 16 / 16 / 16 / 16 / 16 ≡ n / 4294967296
+upper n = omega arith
+
+pub sixteen_digits : (n : ℕ) → n < 18446744073709551616 → hex_digits 16 n ≡ last_eight (n / 4294967296) ++ last_eight n
+unfolding digits padded
+sixteen_digits n h = digits_exactly 15 63 n [] (omega arith) (omega arith) ∙ ap (λ (m : ℕ). last_eight m ++ last_eight n) (upper n)
