@@ -59,7 +59,7 @@ impl fmt::Display for KindWord {
     }
 }
 
-/// Who acts.
+/// The actor of a touch, a hart or a channel.
 #[derive(Drop)]
 pub(crate) struct ActorWords(pub Actor);
 
@@ -94,7 +94,7 @@ impl fmt::Display for OwnerWords {
     }
 }
 
-/// The word of a cache operation, by its effect.
+/// Returns the word of a cache operation, by its effect.
 pub(crate) fn operation_word(op: CboOp) -> &'static str
     ensures { result.now ≡ operation op }
 {
@@ -125,7 +125,7 @@ impl fmt::Display for FieldWord {
     }
 }
 
-/// Why an operation is refused.
+/// The reason for which an operation is refused.
 #[derive(Drop)]
 pub(crate) struct RefusalWords(pub Refusal);
 
@@ -207,7 +207,7 @@ impl fmt::Display for AnswerWords {
     }
 }
 
-/// What an IO store stores to.
+/// The target of an IO store.
 #[derive(Drop)]
 pub(crate) struct TargetWords(pub IoTarget);
 
@@ -232,7 +232,7 @@ impl fmt::Display for TargetWords {
     }
 }
 
-/// What a try of a slot word found.
+/// The finding of a try of a slot word.
 #[derive(Drop)]
 pub(crate) struct TriedWords(pub TryAnswer);
 
@@ -247,7 +247,7 @@ impl fmt::Display for TriedWords {
     }
 }
 
-/// What became of a told answer.
+/// The outcome of an answer that a search was told.
 #[derive(Drop)]
 pub(crate) struct HeardWords(pub ToldAnswer);
 
