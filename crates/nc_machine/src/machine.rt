@@ -284,7 +284,7 @@ impl Machine {
         self.mail.waits(buf)
     }
 
-    // ---- looks
+    // ---- queries
 
     /// Returns the number of entries of hart h's queue, 0 to 8.
     pub fn queued(&self, h: HartNo) -> u8
@@ -371,7 +371,7 @@ impl Machine {
         let _ = &self.size;
     }
 
-    // ---- what the calls are made of
+    // ---- the parts of the calls
 
     /// Returns the store queue of hart h.
     fn queue(&self, h: HartNo) -> &Queue

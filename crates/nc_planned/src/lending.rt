@@ -22,7 +22,7 @@ fn lot_parts(alloc: Global, by: &Lender, lot: &Lot) -> Result<Vec<Part>, NoMemor
     ensures value { IfOk result (λ ps. ps.items ≡ parts (fixed_by by.now) lot.now) }
     ensures each { IfOk result (λ ps. All IsPart ps.items) }
 {
-    // they say that each part is one
+    // the clauses of `entries` say that each part is one
     let _entries = lot.list.entries();
     lot.list.parts(alloc, by.slots_at)
 }

@@ -1,4 +1,4 @@
-//! The words of a line: those of most lines are put behind a text, the others are as `{}` writes them.
+//! The words of a line: those of most lines are put at the end of a text, the others are as `{}` writes them.
 
 ghost use Rattle.std.specs.Prelude.{◌≡◌, ◌++◌, ◌∷◌, decimal, Some, OnOk};
 ghost use Rattle.std.specs.List.{flat_map};

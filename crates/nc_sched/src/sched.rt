@@ -24,7 +24,7 @@ pub const STREAM: u64 = 54;
 pub enum Phase {
     /// In the list, before the event of this index.
     List(usize),
-    /// Before a draw, with so many draws left.
+    /// Before a draw, with this many draws left.
     Drawn(u64),
     /// In a finishing round.
     Round {
