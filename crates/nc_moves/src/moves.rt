@@ -72,12 +72,12 @@ impl Moves {
         Ok(moves)
     }
 
-    /// Returns what an operation changes that gives up before it has lent anything: the slots of its lots are given
-    /// back, and it has this answer.
+    /// Returns what an operation changes that gives up before it has lent anything: the slots of the lots that are not
+    /// lent yet are given back, and the operation has this answer.
     ///
     /// # Errors
     ///
-    /// `NoMemory` where memory runs out; only lots that hold slots take memory.
+    /// `NoMemory` where memory runs out; only such slots take memory.
     pub fn given_up(alloc: Global, lots: &[Lot], answer: Answer) -> Result<Moves, NoMemory>
         requires few { length (slots_wanted lots.now) ≤ 32 }
         ensures { IfOk result (λ m. moves_view m ≡ given_up lots.now answer) }
