@@ -19,7 +19,7 @@ use nc_rules::{Kind, Lot, Refusal, Step};
 use nc_scen::Spot;
 use nc_steps::{At, load_step, store_step};
 
-/// A piece of an access, or its page fault (Svpbmt).
+/// Returns the step of a piece of an access, or the refusal by its page fault (Svpbmt).
 fn piece_step(piece: Result<Option<HartOp>, PageFault>) -> Result<Option<Step>, Refusal>
     ensures { result ≡ rules.piece_step piece }
 {
@@ -31,7 +31,7 @@ fn piece_step(piece: Result<Option<HartOp>, PageFault>) -> Result<Option<Step>, 
 }
 
 impl DriverConfig {
-    /// Where an access of so many bytes starts. One of a coherent area is of type NC (Svpbmt).
+    /// Returns where an access of `len` bytes starts. An access to a coherent area is of type NC (Svpbmt).
     fn spot_at(&self, lots: &[Lot], spot: Spot, off: u32, len: u32) -> Result<At, Refusal>
         requires { IsSafe self.now }
         ensures value { result ≡ rules.spot_at self.now lots.now spot off len }
@@ -64,7 +64,7 @@ impl DriverConfig {
         }
     }
 
-    /// Piece n of a load.
+    /// Returns piece n of a load.
     #[tactic(auto, unfolding(nc_rules::specs::Operations::step_at, nc_rules::specs::Operations::meaning, nc_rules::specs::Accesses::load))]
     pub(crate) fn load(
         &self,
@@ -81,7 +81,7 @@ impl DriverConfig {
         piece_step(load_step(to, self.pbmte(), self.table(), len, n))
     }
 
-    /// Piece n of a store.
+    /// Returns piece n of a store.
     #[tactic(auto, unfolding(nc_rules::specs::Operations::step_at, nc_rules::specs::Operations::meaning, nc_rules::specs::Accesses::store))]
     pub(crate) fn store(
         &self,

@@ -27,7 +27,7 @@ use nc_rules::{Kind, Lot, LotId, Refusal, Side, Turn};
 use nc_sg::SgList;
 use std::alloc::Global;
 
-/// Whether an operation that a plan needs is enabled (RISC-V CMO 1.0).
+/// Tests that an operation that a plan needs is enabled (RISC-V CMO 1.0).
 fn enabled(effect: Result<CboOp, Illegal>) -> Result<(), CboOff>
     ensures { result ≡ effect_rules.legal effect }
 {
@@ -37,7 +37,7 @@ fn enabled(effect: Result<CboOp, Illegal>) -> Result<(), CboOff>
     }
 }
 
-/// The first of two refusals.
+/// Returns the first of two refusals.
 fn both_enabled(first: Result<(), CboOff>, then: Result<(), CboOff>) -> Result<(), CboOff>
     ensures { result ≡ both first then }
 {
@@ -45,7 +45,7 @@ fn both_enabled(first: Result<(), CboOff>, then: Result<(), CboOff>) -> Result<(
     then
 }
 
-/// The lowest run of so many free pages.
+/// Returns the lowest run of `count` free pages.
 fn lowest_pages(pages: &PagePool, count: u32) -> Result<Span, Refusal>
     requires { 0 < count }
     ensures value { result ≡ refusal_rules.some_or refusals.NoPage (lowest_span pages.now count) }
@@ -110,7 +110,7 @@ pub(crate) fn free_opening(lots: &[Lot], label: Label) -> Turn
 }
 
 impl DriverConfig {
-    /// The tests of an allocation.
+    /// Makes the tests of an allocation, and returns its pages.
     fn calloc_tests(
         &self,
         lots: &[Lot],
@@ -133,7 +133,7 @@ impl DriverConfig {
         lowest_pages(pages, count)
     }
 
-    /// The tests of an allocation, and the lot that it makes. The error is want of memory.
+    /// Makes the tests of an allocation, and returns the lot that it makes. Fails where memory runs out.
     pub(crate) fn calloc_begin(
         &self,
         alloc: Global,
@@ -155,7 +155,7 @@ impl DriverConfig {
         Ok(Ok(new))
     }
 
-    /// The tests of the end of an area.
+    /// Makes the tests of the end of an area.
     pub(crate) fn cfree_tests(&self, lots: &[Lot], book: &Book, label: Label) -> Result<(), Refusal>
         requires { All (λ lot. All (λ e. e.span.at + e.span.len ≤ length book.now.owners) lot.list.entries) lots.now }
         ensures { makes_none result ≡ rules.cfree_begin self.now lots.now label book.now.owners }

@@ -15,14 +15,14 @@ use nc_num::Block;
 use nc_plan::HartOp;
 use nc_rules::{Refusal, Step};
 
-/// The effect on a block.
+/// Returns the step that has an effect on a block.
 fn cbo_step(effect: CboOp, block: Block) -> Step
     ensures { result ≡ rules.cbo_step effect block.0 }
 {
     hart_step(HartOp::Cbo { op: effect, block })
 }
 
-/// A fence.
+/// Returns the step of a fence.
 pub(crate) fn fence_step(pred: u8, succ: u8) -> Step
     ensures { result ≡ plans.hart_step (hart.Fence pred succ) }
 {
@@ -30,7 +30,7 @@ pub(crate) fn fence_step(pred: u8, succ: u8) -> Step
 }
 
 impl DriverConfig {
-    /// Block n of a cache operation on the byte at a place.
+    /// Returns block n of a cache operation on the byte at a place.
     fn cbo_block(&self, op: CboOp, at: u32, n: u32) -> Option<Block>
         requires { IsSafe self.now }
         ensures { option_map (λ b. b.0) result ≡ slice_get (rules.cbo_blocks self.now op at) n }
@@ -49,7 +49,7 @@ impl DriverConfig {
         }
     }
 
-    /// Block n of a cache operation.
+    /// Returns the step on block n of a cache operation.
     #[tactic(auto, unfolding(nc_rules::specs::CacheOps::cache_operation))]
     pub(crate) fn cbo(&self, op: CboOp, buf: u8, off: u32, n: u32) -> Result<Option<Step>, Refusal>
         requires { IsSafe self.now }

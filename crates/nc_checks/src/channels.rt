@@ -1,4 +1,4 @@
-//! A channel by its registers.
+//! Operations on a channel by its registers.
 
 ghost use Rattle.std.specs.Prelude.{◌≡◌, ◌≤◌, false, All, slice_get};
 ghost use Rattle.nc_ops.specs.declared.ops.Op.TheVariants as ops;
@@ -22,7 +22,7 @@ use nc_rules::{Kind, Lot, Refusal, Step};
 use nc_scen::BusArg;
 use nc_steps::regs_step;
 
-/// A register has this offset and width.
+/// Tests that a register has this offset and width.
 fn known(off: u16, width: u8) -> Result<(), Refusal>
     ensures { result ≡ rules.known off width }
 {
@@ -32,7 +32,7 @@ fn known(off: u16, width: u8) -> Result<(), Refusal>
     }
 }
 
-/// The segment of this number of a list, as its channel sees it.
+/// Returns the segment of a list with this index, as its channel sees it.
 fn segment(slots_at: u32, lot: &Lot, number: u32) -> Result<Segment, Refusal>
     requires slots { slots_at ≤ 1048576 }
     requires placed { lot_waits lot.now ≡ false }
@@ -45,7 +45,7 @@ fn segment(slots_at: u32, lot: &Lot, number: u32) -> Result<Segment, Refusal>
 }
 
 impl DriverConfig {
-    /// What a channel's address register is set to. Each entry that bounces has its slot.
+    /// Returns the value to which a channel's address register is set. Each entry that bounces has its slot.
     fn bus_of(&self, lots: &[Lot], arg: BusArg) -> Result<u64, Refusal>
         requires safe { IsSafe self.now }
         requires placed { All (λ lot. lot_waits lot ≡ false) lots.now }
@@ -69,7 +69,7 @@ impl DriverConfig {
         }
     }
 
-    /// Store n of a channel's set-up.
+    /// Returns store n of a channel's set-up.
     #[tactic(auto, unfolding(nc_rules::specs::Operations::step_at, nc_rules::specs::Operations::meaning, nc_rules::specs::Channels::set_up))]
     pub(crate) fn set_up(
         &self,
@@ -93,7 +93,7 @@ impl DriverConfig {
         }
     }
 
-    /// The load of a register.
+    /// Returns the load of a register, as step n.
     #[tactic(auto, unfolding(nc_rules::specs::Channels::read_register))]
     pub(crate) fn read_register(
         &self,
@@ -108,7 +108,7 @@ impl DriverConfig {
         Ok(single(hart_step(HartOp::IoLoad { chan, off, width }), n))
     }
 
-    /// The store to a register.
+    /// Returns the store to a register, as step n.
     #[tactic(auto, unfolding(nc_rules::specs::Channels::write_register))]
     pub(crate) fn write_register(
         &self,

@@ -19,7 +19,7 @@ use std::alloc::Global;
 const ENDS: Label = Label(1000);
 
 impl DriverConfig {
-    /// The tests of a copy, and its two ends as lots. The error is want of memory.
+    /// Makes the tests of a copy, and returns its two ends as lots. Fails where memory runs out.
     pub(crate) fn copy_begin(
         &self,
         alloc: Global,
@@ -47,7 +47,7 @@ impl DriverConfig {
         Ok(placeable(self.slots(), ends))
     }
 
-    /// The ranges of a copy are the hart's own, and the plans of both ends are enabled.
+    /// Tests that the ranges of a copy are the hart's own, and that the plans of both ends are enabled.
     fn may_copy(&self, book: &Book, ranges: &[Span]) -> Result<(), Refusal>
         requires few { length ranges.now ≤ 16 }
         requires inside { All (λ range. range.at + range.len ≤ length book.now.owners) ranges.now }
@@ -63,7 +63,7 @@ impl DriverConfig {
         lendable(self.effects(), Dir::FromDev)
     }
 
-    /// The two ends: the device reads the first range and writes the second. The error is want of memory.
+    /// Returns the two ends: the device reads the first range and writes the second. Fails where memory runs out.
     fn ends_of(
         &self,
         alloc: Global,

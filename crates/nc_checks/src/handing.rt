@@ -10,7 +10,7 @@ use nc_num::HartNo;
 use nc_rules::{Act, Step, Turn};
 
 impl DriverConfig {
-    /// A take of a buffer, which makes it the hart's own.
+    /// Returns the step that takes a buffer, which makes it the hart's own.
     pub(crate) fn take_step(&self, buf: u8) -> Step
         ensures { result ≡ rules.take_step self.now buf }
     {

@@ -1,9 +1,9 @@
-//! What a driver knows of its script from the start, and the steps of the operations by their number.
+//! What a driver knows of its script from the start, and the steps of the operations by their index.
 //!
-//! The contract for the crates above: `DriverConfig` is that of nc_rules, of a hart of the scenario; `step_due` is the step
-//! that is due in the script, or its refusal; `begin` is the definition of that name, the tests of a start step and the
-//! lots that it makes, and `opening` its first turn. A file holds a family of operations, as in nc_rules; `operations`
-//! alone names them all. The driver stands above.
+//! The contract for the crates above: `DriverConfig` is that of nc_rules, for a hart of the scenario. `step_due` is the
+//! step that is due in the script, or its refusal. `begin` is the definition of that name, the tests of a start step
+//! and the lots that it makes, and `opening` its first turn. A file holds a family of operations, as in nc_rules;
+//! `operations` alone names them all. The driver stands above.
 #![tactic(auto)]
 
 mod accesses;

@@ -18,7 +18,7 @@ use nc_rules::{Kind, Lot, Refusal, Side, Turn};
 use nc_scen::SgEntry;
 use std::alloc::Global;
 
-/// There is a lot of this label and kind.
+/// Tests that a lot of this label and kind exists.
 pub(crate) fn needs_lot(lots: &[Lot], label: Label, kind: Kind) -> Result<(), Refusal>
     ensures { makes_none result ≡ rules.needs_lot (refusal_rules.named lots.now label kind) }
 {
@@ -85,7 +85,7 @@ pub(crate) fn to_dev_opening(lots: &[Lot], label: Label) -> Turn
 }
 
 impl DriverConfig {
-    /// The tests of a map, and the lot that it makes. The error is want of memory.
+    /// Makes the tests of a map, and returns the lot that it makes. Fails where memory runs out.
     pub(crate) fn map_begin(
         &self,
         alloc: Global,

@@ -1,4 +1,4 @@
-//! All operations: the step of each by its number, and the tests and the turn of a start step.
+//! All operations: the steps of each by their index, and the tests and the turn of a start step.
 
 ghost use Rattle.std.specs.Prelude.{true, false, ◌≡◌, ◌+◌, ◌≤◌, length, All, IfOk};
 ghost use Rattle.nc_rules.specs.Operations as rules;
@@ -21,7 +21,7 @@ use nc_rules::{Act, Kind, Lot, LotId, Refusal, Step, Turn};
 use nc_scen::{Op, SgEntry};
 use std::alloc::Global;
 
-/// Whether an operation has a start step.
+/// Returns whether an operation has a start step.
 pub fn has_start(op: &Op) -> bool
     ensures { result ≡ rules.has_start op.now }
 {
@@ -69,9 +69,13 @@ fn lend(label: Label) -> Turn
 }
 
 impl DriverConfig {
-    /// The step that is due where n steps of operation k of the script are done and the hart has these lots, whose
-    /// entries that bounce all have their slots: None where the operation has no step n or there is no operation k, or
-    /// the refusal of the step. An operation with a start step has none.
+    /// Returns the step that is due once `n` steps of operation `k` of the script are done. The hart has these lots,
+    /// and each of their entries that bounces has its slot. None where `k` is out of range, and where operation `k` has
+    /// no step `n`, counted from 0; an operation with a start step has none.
+    ///
+    /// # Errors
+    ///
+    /// The refusal of the step, where it is refused.
     pub fn step_due(&self, lots: &[Lot], k: u32, n: u32) -> Result<Option<Step>, Refusal>
         requires safe { IsSafe self.now }
         requires placed { All (λ lot. lot_waits lot ≡ false) lots.now }
@@ -83,7 +87,8 @@ impl DriverConfig {
         }
     }
 
-    /// Step n of an operation without a start step, counted from 0: None where it has no such step, or its refusal.
+    /// Returns step n, counted from 0, of an operation without a start step: None where it has no such step, or its
+    /// refusal.
     #[tactic(auto, unfolding(nc_rules::specs::Operations::step_at, nc_rules::specs::Operations::meaning, nc_rules::specs::Accesses::load, nc_rules::specs::Accesses::store, nc_rules::specs::CacheOps::cache_operation, nc_rules::specs::CacheOps::fence, nc_rules::specs::Mappings::map_single, nc_rules::specs::Mappings::unmap_single, nc_rules::specs::Mappings::sync_for_cpu, nc_rules::specs::Mappings::sync_for_device, nc_rules::specs::ScatterLists::map_sg, nc_rules::specs::ScatterLists::unmap_sg, nc_rules::specs::Areas::calloc, nc_rules::specs::Areas::give_area, nc_rules::specs::Areas::take_area, nc_rules::specs::Areas::free_area, nc_rules::specs::Handing::hand, nc_rules::specs::Handing::take, nc_rules::specs::Channels::claim, nc_rules::specs::Channels::free, nc_rules::specs::Channels::set_up, nc_rules::specs::Channels::run, nc_rules::specs::Channels::poll, nc_rules::specs::Channels::read_register, nc_rules::specs::Channels::write_register, nc_rules::specs::Copies::copy))]
     fn step_at(&self, lots: &[Lot], op: &Op, n: u32) -> Result<Option<Step>, Refusal>
         requires safe { IsSafe self.now }
@@ -130,8 +135,12 @@ impl DriverConfig {
         }
     }
 
-    /// The tests of a start step, by the lots that the hart has and the owners and the pages of now, and the lots that
-    /// the operation makes, or its refusal. The error is want of memory.
+    /// Makes the tests of a start step, by the lots that the hart has and the current owners and pages. Returns the
+    /// lots that the operation makes, or its refusal. An operation without a start step makes no lots.
+    ///
+    /// # Errors
+    ///
+    /// `NoMemory` where memory runs out.
     #[tactic(auto, unfolding(nc_rules::specs::Operations::begin, nc_rules::specs::Operations::meaning, nc_rules::specs::Accesses::load, nc_rules::specs::Accesses::store, nc_rules::specs::CacheOps::cache_operation, nc_rules::specs::CacheOps::fence, nc_rules::specs::Mappings::map_single, nc_rules::specs::Mappings::unmap_single, nc_rules::specs::Mappings::sync_for_cpu, nc_rules::specs::Mappings::sync_for_device, nc_rules::specs::ScatterLists::map_sg, nc_rules::specs::ScatterLists::unmap_sg, nc_rules::specs::Areas::calloc, nc_rules::specs::Areas::give_area, nc_rules::specs::Areas::take_area, nc_rules::specs::Areas::free_area, nc_rules::specs::Handing::hand, nc_rules::specs::Handing::take, nc_rules::specs::Channels::claim, nc_rules::specs::Channels::free, nc_rules::specs::Channels::set_up, nc_rules::specs::Channels::run, nc_rules::specs::Channels::poll, nc_rules::specs::Channels::read_register, nc_rules::specs::Channels::write_register, nc_rules::specs::Copies::copy))]
     pub fn begin(
         &self,
@@ -223,8 +232,8 @@ impl DriverConfig {
         }
     }
 
-    /// What comes with the last slot that was wanted, or with the start where none was. An operation without a start
-    /// step has no such turn: it stays.
+    /// Returns the opening turn of an operation: it comes with the last slot that the operation waits for, or with its
+    /// start where it waits for none. An operation without a start step has the turn Stay.
     #[tactic(auto, unfolding(nc_rules::specs::Operations::opening, nc_rules::specs::Operations::meaning, nc_rules::specs::Accesses::load, nc_rules::specs::Accesses::store, nc_rules::specs::CacheOps::cache_operation, nc_rules::specs::CacheOps::fence, nc_rules::specs::Mappings::map_single, nc_rules::specs::Mappings::unmap_single, nc_rules::specs::Mappings::sync_for_cpu, nc_rules::specs::Mappings::sync_for_device, nc_rules::specs::ScatterLists::map_sg, nc_rules::specs::ScatterLists::unmap_sg, nc_rules::specs::Areas::calloc, nc_rules::specs::Areas::give_area, nc_rules::specs::Areas::take_area, nc_rules::specs::Areas::free_area, nc_rules::specs::Handing::hand, nc_rules::specs::Handing::take, nc_rules::specs::Channels::claim, nc_rules::specs::Channels::free, nc_rules::specs::Channels::set_up, nc_rules::specs::Channels::run, nc_rules::specs::Channels::poll, nc_rules::specs::Channels::read_register, nc_rules::specs::Channels::write_register, nc_rules::specs::Copies::copy))]
     pub fn opening(&self, lots: &[Lot], op: &Op) -> Turn
         ensures { result ≡ rules.opening self.now lots.now op.now }

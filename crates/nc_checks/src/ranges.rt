@@ -16,7 +16,7 @@ use nc_scen::SgEntry;
 use nc_sg::SgList;
 use std::alloc::Global;
 
-/// Each of these entries has bytes.
+/// Tests that each of these entries has bytes.
 pub(crate) fn all_some(entries: &[SgEntry]) -> Result<(), Refusal>
     ensures value { result ≡ rules.all_some entries.now }
     ensures some { IfOk result (λ _. All (λ e. 0 < e.len) entries.now) }
@@ -27,7 +27,7 @@ pub(crate) fn all_some(entries: &[SgEntry]) -> Result<(), Refusal>
     Ok(())
 }
 
-/// A lot that is not lent yet.
+/// Makes a lot that is not lent yet.
 pub(crate) fn wanted_lot(id: LotId, kind: Kind, chan: ChanNo, list: SgList) -> Lot
     ensures { result ≡ lot_rules.wanted_lot id kind chan list }
 {
@@ -41,7 +41,7 @@ pub(crate) fn wanted_lot(id: LotId, kind: Kind, chan: ChanNo, list: SgList) -> L
 }
 
 impl DriverConfig {
-    /// The ranges of entries, each of which has bytes. The error is want of memory.
+    /// Returns the ranges of entries, each of which has bytes. Fails where memory runs out.
     pub(crate) fn ranges_of(
         &self,
         alloc: Global,
@@ -62,7 +62,7 @@ impl DriverConfig {
         Ok(Ok(ranges))
     }
 
-    /// A lot of these ranges, of which those bounce that the rule says. The error is want of memory.
+    /// Makes a lot of these ranges, of which those bounce that the rule names. Fails where memory runs out.
     pub(crate) fn ranges_lot(
         &self,
         alloc: Global,
@@ -81,7 +81,8 @@ impl DriverConfig {
         Ok(wanted_lot(id, kind, chan, list))
     }
 
-    /// The tests of ranges that are to be lent together, and the lot that they make. The error is want of memory.
+    /// Makes the tests of ranges that are to be lent together, and returns the lot that they make. Fails where memory
+    /// runs out.
     pub(crate) fn list_begin(
         &self,
         alloc: Global,
@@ -114,7 +115,7 @@ impl DriverConfig {
         Ok(placeable(self.slots(), new))
     }
 
-    /// The label of a lot is not in use, its ranges are the hart's own, and its plans are enabled.
+    /// Tests that the label of a lot is not in use, that its ranges are the hart's own, and that its plans are enabled.
     fn may_lend(
         &self,
         lots: &[Lot],
@@ -135,7 +136,7 @@ impl DriverConfig {
     }
 }
 
-/// One lot. The error is want of memory.
+/// Returns one lot in a vector. Fails where memory runs out.
 pub(crate) fn one_lot(alloc: Global, lot: Lot) -> Result<Vec<Lot>, NoMemory>
     ensures { IfOk result (λ v. v.items ≡ lot ∷ []) }
 {

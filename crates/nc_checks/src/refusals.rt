@@ -1,4 +1,4 @@
-//! The tests of which each can refuse an operation.
+//! The tests, each of which can refuse an operation.
 
 ghost use Rattle.std.specs.Prelude.{◌≡◌, ◌+◌, ◌<◌, ◌≤◌, ◌^◌, true, false, List, length, All, IfOk, IfSome, IsSome};
 ghost use Rattle.std.specs.List.{Contains, list_any};
@@ -21,7 +21,7 @@ use nc_own::Book;
 use nc_plan::{CboOff, Effects, needs};
 use nc_rules::{Kind, Lot, LotId, Refusal};
 
-/// There are some bytes.
+/// Tests that a length is not 0.
 pub(crate) fn some_bytes(len: u32) -> Result<(), Refusal>
     ensures { result ≡ rules.some_bytes len }
 {
@@ -32,7 +32,7 @@ pub(crate) fn some_bytes(len: u32) -> Result<(), Refusal>
     }
 }
 
-/// So many bytes of a range, from an offset in it on.
+/// Returns the `len` bytes of a range from the offset `off` in it on, as a range.
 pub(crate) fn part_of(range: Span, off: u32, len: u32) -> Result<Span, Refusal>
     requires { range.at + range.len < 2 ^ 32 }
     ensures value { result ≡ rules.part_of range off len }
@@ -49,7 +49,7 @@ pub(crate) fn part_of(range: Span, off: u32, len: u32) -> Result<Span, Refusal>
     }
 }
 
-/// No lot has this label.
+/// Tests that no lot has this label.
 pub(crate) fn unused(lots: &[Lot], label: Label) -> Result<(), Refusal>
     ensures { result ≡ rules.unused lots.now label }
 {
@@ -78,7 +78,7 @@ fn some_big(lots: &[Lot]) -> bool
     lots.iter().any(|lot| has_big(lot))
 }
 
-/// Each entry that bounces finds room in a slot.
+/// Tests that each entry that bounces fits into a slot.
 fn small_enough(lots: &[Lot]) -> Result<(), Refusal>
     ensures { result ≡ rules.small_enough lots.now }
 {
@@ -89,7 +89,7 @@ fn small_enough(lots: &[Lot]) -> Result<(), Refusal>
     }
 }
 
-/// Where a slot is wanted there are slots.
+/// Tests that some slots exist where an entry needs one.
 fn slots_there(slots: u32, lots: &[Lot]) -> Result<(), Refusal>
     ensures { (f : DriverConfig) → f.slots ≡ slots → result ≡ rules.slots_there f lots.now }
 {
@@ -100,7 +100,7 @@ fn slots_there(slots: u32, lots: &[Lot]) -> Result<(), Refusal>
     }
 }
 
-/// New lots, where each entry that bounces may get one of so many slots.
+/// Returns the new lots where each entry that bounces may get one of `slots` slots.
 pub(crate) fn placeable(slots: u32, lots: Vec<Lot>) -> Result<Vec<Lot>, Refusal>
     ensures { (f : DriverConfig) → f.slots ≡ slots → ok_as result (λ v. v.items) ≡ rules.placeable f lots.items }
 {
@@ -109,7 +109,7 @@ pub(crate) fn placeable(slots: u32, lots: Vec<Lot>) -> Result<Vec<Lot>, Refusal>
     Ok(lots)
 }
 
-/// The effect of a cache operation that the hart may do (RISC-V CMO 1.0).
+/// Returns the effect of a cache operation that the hart may do (RISC-V CMO 1.0).
 pub(crate) fn legal(effect: Result<CboOp, Illegal>) -> Result<CboOp, Refusal>
     ensures { result ≡ rules.legal effect }
 {
@@ -119,14 +119,14 @@ pub(crate) fn legal(effect: Result<CboOp, Illegal>) -> Result<CboOp, Refusal>
     }
 }
 
-/// The operations of both plans of a direction are enabled (RISC-V CMO 1.0).
+/// Tests that the operations of both plans of a direction are enabled (RISC-V CMO 1.0).
 pub(crate) fn lendable(effects: &Effects, dir: Dir) -> Result<(), Refusal>
     ensures { result ≡ rules.lendable effects.now dir }
 {
     planned(needs(effects, dir))
 }
 
-/// The operations that a plan needs are enabled (RISC-V CMO 1.0).
+/// Tests that the operations that a plan needs are enabled (RISC-V CMO 1.0).
 pub(crate) fn planned(needed: Result<(), CboOff>) -> Result<(), Refusal>
     ensures { result ≡ rules.planned needed }
 {
@@ -136,7 +136,7 @@ pub(crate) fn planned(needed: Result<(), CboOff>) -> Result<(), Refusal>
     }
 }
 
-/// Each byte of a range is the hart's own.
+/// Tests that each byte of a range is the hart's own.
 pub(crate) fn owned(me: HartNo, book: &Book, range: Span) -> Result<(), Refusal>
     requires { range.at + range.len ≤ length book.now.owners }
     ensures { result ≡ rules.owned me book.now.owners range }
@@ -144,7 +144,7 @@ pub(crate) fn owned(me: HartNo, book: &Book, range: Span) -> Result<(), Refusal>
     told(book.first_other(me, range))
 }
 
-/// The first other owner that was found is told.
+/// Returns the refusal by the first other owner that was found.
 fn told(found: Option<(Place, Owner)>) -> Result<(), Refusal>
     ensures { (me : HartNo) (owners : List Owner) (range : Span) → IsOther me owners range found → result ≡ rules.owned me owners range }
 {
@@ -154,8 +154,8 @@ fn told(found: Option<(Place, Owner)>) -> Result<(), Refusal>
     }
 }
 
-/// The same of several ranges that are to be lent together as the entries of a lot: those before a range are taken as
-/// lent already.
+/// Tests that each byte of several ranges, which are to be lent together as the entries of a lot, is the hart's own.
+/// The ranges before a range count as lent already.
 pub(crate) fn owned_from(me: HartNo, id: LotId, book: &Book, ranges: &[Span]) -> Result<(), Refusal>
     requires few { length ranges.now ≤ 16 }
     requires first { id.first ≤ 1 }
@@ -219,7 +219,7 @@ fn nearer(
     }
 }
 
-/// Whether a place that was found lies at another or behind it; true where none was found.
+/// Returns whether a place that was found is at or after another; true where none was found.
 fn is_behind(found: Option<(Place, Owner)>, at: u32) -> bool
     ensures behind { result ≡ true → IsBehind at found }
     ensures before { result ≡ false → IfSome found (λ p. p.0.0 < at) }

@@ -18,7 +18,7 @@ use nc_rules::{Kind, Lot, Refusal, Turn};
 use nc_scen::SgEntry;
 use std::alloc::Global;
 
-/// The tests of an unmap of a list: it names the number of entries that were mapped.
+/// Makes the tests of an unmap of a list, which names the number of entries that were mapped.
 pub(crate) fn unmap_sg_tests(lots: &[Lot], label: Label, count: u32) -> Result<(), Refusal>
     ensures { makes_none result ≡ rules.unmap_sg_begin lots.now label count }
 {
@@ -42,7 +42,7 @@ pub(crate) fn unmap_sg_opening(lots: &[Lot], label: Label) -> Turn
 }
 
 impl DriverConfig {
-    /// The tests of a list's map, and the lot that it makes. The error is want of memory.
+    /// Makes the tests of a list's map, and returns the lot that it makes. Fails where memory runs out.
     pub(crate) fn map_sg_begin(
         &self,
         alloc: Global,

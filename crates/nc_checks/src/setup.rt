@@ -15,9 +15,9 @@ use nc_scen::{BufferSpec, HartSpec, Op, Scenario};
 use std::alloc::Global;
 use std::marker::Model;
 
-/// A hart's number and what its cache operations do, whether it has memory types, the table of pages, the buffers, the
-/// bytes of a block and of a zeroed range, how far each channel reaches, the bounce slots, the coherent pool, whether
-/// fences are light, and the script.
+/// What the driver of a hart knows from the start: the hart's index, the effects of its cache operations, whether it
+/// has memory types, the page table, the buffers, the sizes of a block and of a zeroed range in bytes, how far each
+/// channel reaches, the bounce slots, the coherent pool, whether fences are light, and the script.
 #[derive(Drop)]
 pub struct DriverConfig {
     me: HartNo,
@@ -44,7 +44,11 @@ impl Model for DriverConfig {
 }
 
 impl DriverConfig {
-    /// That of hart `me` of a scenario. The error is want of memory.
+    /// Makes the configuration of hart `me` of a scenario.
+    ///
+    /// # Errors
+    ///
+    /// `NoMemory` where memory runs out.
     pub fn of(alloc: Global, me: HartNo, sc: &Scenario) -> Result<DriverConfig, NoMemory>
         requires hart { me.0 < length sc.now.harts }
         requires accepted { IsAccepted sc.now }
@@ -72,7 +76,7 @@ impl DriverConfig {
         })
     }
 
-    /// The hart.
+    /// Returns the index of the hart.
     pub fn me(&self) -> HartNo
         ensures { result ≡ self.now.me }
     {
@@ -93,7 +97,7 @@ impl DriverConfig {
         &self.table
     }
 
-    /// The range of a buffer; an empty one where there is no such buffer.
+    /// Returns the range of a buffer, or an empty one where there is no such buffer.
     pub(crate) fn buffer(&self, buf: u8) -> Span
         ensures { result ≡ buffer_of self.now buf }
     {
@@ -103,14 +107,15 @@ impl DriverConfig {
         }
     }
 
-    /// What the cache operations of the hart are performed as, or by which field each is illegal (RISC-V CMO 1.0).
+    /// Returns, for each cache operation of the hart, the operation that is performed, or the field by which it is
+    /// illegal (RISC-V CMO 1.0).
     pub fn effects(&self) -> &Effects
         ensures { result.now ≡ self.now.effects }
     {
         &self.effects
     }
 
-    /// The bytes of a cache block.
+    /// Returns the size of a cache block in bytes.
     pub fn size(&self) -> u32
         ensures { result ≡ self.now.size }
     {
@@ -124,7 +129,7 @@ impl DriverConfig {
         self.zero_size
     }
 
-    /// Where a channel's reach ends, in bytes of RAM; 0 where there is no such channel.
+    /// Returns where a channel's reach ends, in bytes of RAM; 0 where there is no such channel.
     pub(crate) fn reach(&self, chan: ChanNo) -> u32
         ensures { result ≡ reach_of self.now chan }
     {
@@ -134,28 +139,29 @@ impl DriverConfig {
         }
     }
 
-    /// Where the bounce slots start, in bytes of RAM.
+    /// Returns the place of the first bounce slot, in bytes of RAM.
     pub fn slots_at(&self) -> u32
         ensures { result ≡ self.now.slots_at }
     {
         self.slots_at
     }
 
-    /// How many bounce slots there are.
+    /// Returns the number of bounce slots.
     pub fn slots(&self) -> u32
         ensures { result ≡ self.now.slots }
     {
         self.slots
     }
 
-    /// The coherent pool, as bytes of RAM.
+    /// Returns the range of the coherent pool, in bytes of RAM.
     pub fn pool(&self) -> Span
         ensures { result ≡ self.now.pool }
     {
         self.pool
     }
 
-    /// What a cache operation of the script is performed as (RISC-V CMO 1.0).
+    /// Returns the operation that is performed for a cache operation of the script, or the field by which it is illegal
+    /// (RISC-V CMO 1.0).
     pub(crate) fn effect(&self, op: CboOp) -> Result<CboOp, Illegal>
         ensures { result ≡ effect_of self.now.effects op }
     {
@@ -167,14 +173,15 @@ impl DriverConfig {
         }
     }
 
-    /// Whether fences are light: a lending ends with a token in the store queue, and not with a fence that waits.
+    /// Returns whether fences are light: a lending ends with a token in the store queue, and not with a fence that
+    /// waits.
     pub fn light(&self) -> bool
         ensures { result ≡ self.now.light }
     {
         self.light
     }
 
-    /// Operation n of the script.
+    /// Returns operation `n` of the script, counted from 0, or None where `n` is out of range.
     pub fn op(&self, n: u32) -> Option<&Op>
         ensures value { option_map (λ o. o.now) result ≡ slice_get self.now.script n }
         ensures short { IsSafe self.now → IfSome result (λ o. IsShort o.now) }
@@ -198,7 +205,7 @@ fn spans_of(alloc: Global, buffers: &[BufferSpec]) -> Result<Vec<Span>, NoMemory
     Ok(spans)
 }
 
-/// A copy of a script.
+/// Returns a copy of a script.
 fn script_of(alloc: Global, script: &[Op]) -> Result<Vec<Op>, NoMemory>
     ensures { IfOk result (λ v. v.items ≡ script.now) }
 {

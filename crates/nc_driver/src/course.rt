@@ -1,4 +1,4 @@
-//! Where a script stands, and how it goes on.
+//! The state of a hart's script, and its changes.
 
 ghost use Rattle.std.specs.Prelude.{ℕ, ◌≡◌, ◌<◌, [], false, length, drop, IfOk, IfSome, OnSome, MatchOption, None, Some};
 ghost use Rattle.nc_scen.specs.Accepted.{IsAccepted};
@@ -17,9 +17,9 @@ use nc_scen::{Op, Scenario};
 use std::alloc::Global;
 use std::collections::VecDeque;
 
-/// Where a hart's script stands: what is known from the start, the number of the operation in hand, where it stands in
-/// it, the rest of its plan, the lots of the hart, and what was last seen; and where steps are counted the one that is due,
-/// so that it is worked out once.
+/// The state of a hart's script: what is known from the start, the index of the current operation, the phase in it, the
+/// rest of its plan, the lots of the hart, and what was seen last. Where steps are counted, `due` is the step that is
+/// due, so that it is computed once.
 #[derive(Drop)]
 pub(crate) struct Course {
     pub(crate) alloc: Global,
@@ -33,7 +33,7 @@ pub(crate) struct Course {
 }
 
 impl Course {
-    /// That of hart `me` of a scenario, before its first operation. The error is want of memory.
+    /// Makes the state of hart `me`'s script in a scenario, before its first operation. Fails where memory runs out.
     #[tactic(auto, unfolding(nc_rules::specs::Start::first_driver))]
     pub(crate) fn new(alloc: Global, me: HartNo, sc: &Scenario) -> Result<Course, NoMemory>
         requires hart { me.0 < length sc.now.harts }
@@ -56,7 +56,7 @@ impl Course {
         })
     }
 
-    /// The operation in hand, or None at the script's end.
+    /// Returns the current operation, or None at the script's end.
     pub(crate) fn in_hand(&self) -> Option<&Op>
         ensures op { MatchOption result (due.in_hand (state self.now) ≡ None) (λ o. due.in_hand (state self.now) ≡ Some o.now) }
         ensures here { OnSome result (self.now.op < length self.now.setup.script) }
@@ -65,7 +65,7 @@ impl Course {
         self.setup.op(self.op)
     }
 
-    /// What comes next.
+    /// Returns what comes next.
     #[tactic(auto, unfolding(nc_rules::specs::Driver::next_of))]
     pub(crate) fn next(&self) -> Next
         requires ready { IsReady (state self.now) self.now.due }
@@ -77,7 +77,7 @@ impl Course {
         }
     }
 
-    /// What comes next in the operation in hand.
+    /// Returns what comes next in the current operation.
     fn next_in(&self, op: &Op) -> Next
         requires op { due.in_hand (state self.now) ≡ Some op.now }
         requires due { IsDue (state self.now) self.now.due }
@@ -91,14 +91,14 @@ impl Course {
         }
     }
 
-    /// The rest is one step, or none.
+    /// Returns whether at most one step is left of the plan.
     pub(crate) fn is_last(&self) -> bool
         ensures { result ≡ is_nil (drop 1 self.now.rest.items) }
     {
         self.rest.get(1).is_none()
     }
 
-    /// The operation in hand is over.
+    /// Ends the current operation.
     pub(crate) fn close(&mut self)
         requires fit { IsFit self.old.setup }
         requires here { self.old.op < length self.old.setup.script }
@@ -113,7 +113,7 @@ impl Course {
         self.due = self.setup.step_due(&self.lots, self.op, 0);
     }
 
-    /// So many steps of the operation in hand are done, and this one is due.
+    /// Records that `n` steps of the current operation are done, and that `step` is due.
     pub(crate) fn count(&mut self, n: u32, step: Result<Option<Step>, Refusal>, saw: Seen)
         ensures state { state self.new ≡ due.stands (state self.old) (Steps n) [] self.old.lots.items saw }
         ensures due { self.new.due ≡ step }
@@ -124,7 +124,7 @@ impl Course {
         self.due = step;
     }
 
-    /// On with the search for a slot, at this word.
+    /// Goes on with the search for a slot at this word.
     pub(crate) fn search(&mut self, k: u32)
         ensures state { state self.new ≡ due.searches (state self.old) k }
         ensures due { IsDue (state self.new) self.new.due }
@@ -133,7 +133,7 @@ impl Course {
         self.rest.clear();
     }
 
-    /// On with this plan; the operation in hand is over where nothing is left of it.
+    /// Goes on with this plan. An empty plan ends the current operation.
     pub(crate) fn go(&mut self, plan: VecDeque<Step>)
         requires fit { IsFit self.old.setup }
         requires here { self.old.op < length self.old.setup.script }
@@ -149,7 +149,7 @@ impl Course {
         self.rest = plan;
     }
 
-    /// The first step of the rest is done.
+    /// Removes the first step of the plan's rest, which is done. The last one ends the current operation.
     pub(crate) fn drop_step(&mut self, saw: Seen)
         requires fit { IsFit self.old.setup }
         requires here { self.old.op < length self.old.setup.script }
@@ -167,7 +167,7 @@ impl Course {
         self.saw = saw;
     }
 
-    /// The step that is due is worked out anew, where steps are counted.
+    /// Computes the step that is due anew, where steps are counted.
     pub(crate) fn renew(&mut self)
         requires fit { IsFit self.old.setup }
         requires placed { (n : ℕ) → self.old.phase ≡ Steps n → ArePlaced self.old.lots.items }

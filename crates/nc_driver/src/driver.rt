@@ -23,8 +23,8 @@ use std::alloc::Global;
 use std::marker::Model;
 
 /// The control of one hart's script: it gives the script's steps one at a time. Contracts see what the written machine
-/// keeps of a driver: what it knows from the start, the number of the operation in hand, where it stands in it, the rest
-/// of its plan, its lots and what it saw.
+/// keeps of a driver: what it knows from the start, the index of the current operation, its phase in it, the rest of
+/// its plan, its lots, and what it saw.
 #[derive(Drop)]
 pub struct Driver {
     course: Course,
@@ -42,7 +42,11 @@ impl Model for Driver {
 }
 
 impl Driver {
-    /// The driver of hart `me` of a scenario, before its first operation. The error is want of memory.
+    /// Makes the driver of hart `me` of a scenario, before its first operation.
+    ///
+    /// # Errors
+    ///
+    /// `NoMemory` where memory runs out.
     pub fn new(alloc: Global, me: HartNo, sc: &Scenario) -> Result<Driver, NoMemory>
         requires hart { me.0 < length sc.now.harts }
         requires accepted { IsAccepted sc.now }
@@ -52,7 +56,7 @@ impl Driver {
         Ok(Driver { course })
     }
 
-    /// What the driver does next. It takes no memory and changes nothing.
+    /// Returns what the driver does next. It takes no memory.
     pub fn next(&self, _book: &Book) -> Next
         ensures next { result ≡ due.next_of self.now }
         ensures there { DriverInvariant self.now }
@@ -60,21 +64,21 @@ impl Driver {
         self.course.next()
     }
 
-    /// Does nothing: its clause says that every driver is one of an accepted scenario.
+    /// Proves that the driver is one of an accepted scenario. It does nothing.
     pub fn sound(&self)
         ensures { DriverInvariant self.now }
     {
         let _course = &self.course;
     }
 
-    /// The number of the operation in hand, counted from 0; at the script's end, the number of its operations.
+    /// Returns the index of the current operation, counted from 0; at the script's end, the number of its operations.
     pub fn op(&self) -> u32
         ensures { result ≡ self.now.op }
     {
         self.course.op
     }
 
-    /// The number of the operation in hand, or None at the script's end.
+    /// Returns the index of the current operation, counted from 0, or None at the script's end.
     pub fn left(&self) -> Option<u32>
         ensures { result ≡ due.left_op self.now }
     {
@@ -84,7 +88,7 @@ impl Driver {
         }
     }
 
-    /// Whether the operation in hand is made of the script's own accesses, and not of a plan's.
+    /// Returns whether the current operation is made of the script's own accesses, and not of a plan's.
     pub fn is_script(&self) -> bool
         ensures { result ≡ due.is_script self.now.phase }
     {
@@ -94,8 +98,9 @@ impl Driver {
         }
     }
 
-    /// The label whose token has to be out of the hart's queue before the next step; None where fences are full, and where
-    /// the next step is not the first of an operation that takes back, gives or ends what a token is still to lend.
+    /// Returns the label whose token must leave the hart's queue before the next step. None where fences are full, and
+    /// where the next step is not the first of an operation that takes back, gives or ends what a token is still to
+    /// lend.
     #[tactic(auto, unfolding(nc_rules::specs::Driver::waits_for))]
     pub fn waits_for(&self) -> Option<Label>
         ensures { result ≡ due.waits_for self.now }
@@ -109,8 +114,12 @@ impl Driver {
         }
     }
 
-    /// Makes a step without an operation of the hart: the refusal of the operation in hand, or its start. The book is that
-    /// of the scenario's RAM, and the pages are its pool's. The error is want of memory, and the driver is as before.
+    /// Makes the next step, which is no operation of the hart: the refusal of the current operation, or its start. The
+    /// book is that of the scenario's RAM, and the pages are its pool's. Returns what the step moves.
+    ///
+    /// # Errors
+    ///
+    /// `NoMemory` where memory runs out; then the driver is unchanged.
     pub fn start(&mut self, book: &Book, pages: &PagePool) -> Result<Moves, NoMemory>
         requires next { due.next_of self.old ≡ nexts.Start }
         requires book { IsOver book.now.owners self.old }
@@ -123,8 +132,12 @@ impl Driver {
         self.course.start(book, pages)
     }
 
-    /// Tells whether the slot word that was tried is got. Where the driver searches none, nothing changes. The error is
-    /// want of memory, and the driver is as before.
+    /// Tells the driver whether it got the slot word that it tried, and returns what this moves. Where the driver is at
+    /// no search, nothing changes.
+    ///
+    /// # Errors
+    ///
+    /// `NoMemory` where memory runs out; then the driver is unchanged.
     pub fn told(&mut self, got: bool) -> Result<Moves, NoMemory>
         ensures driver { IfOk result (λ m. self.new ≡ (due.told self.old got).driver) }
         ensures moves { IfOk result (λ m. moves_view m ≡ (due.told self.old got).moves) }
@@ -134,8 +147,12 @@ impl Driver {
         self.course.told(got)
     }
 
-    /// Tells what a step saw that the machine made: `Claimed` or `Busy` of a claim, `Control` of a poll, `Value` of a
-    /// load of a register, and `Nothing` of each other. The error is want of memory, and the driver is as before.
+    /// Tells the driver what its next step saw, which the machine made: `Claimed` or `Busy` of a claim, `Control` of a
+    /// poll, `Value` of a load of a register, and `Nothing` of any other. Returns what the step moves.
+    ///
+    /// # Errors
+    ///
+    /// `NoMemory` where memory runs out; then the driver is unchanged.
     pub fn done(&mut self, seen: Seen) -> Result<Moves, NoMemory>
         requires next { is_act (due.next_of self.old) ≡ true }
         requires seen { IsSeenAt (due.next_of self.old) seen }
@@ -147,8 +164,12 @@ impl Driver {
         self.course.done(seen)
     }
 
-    /// Tells that the token of a lot is out of the hart's queue: of this label, from this entry on, so many entries. The
-    /// lot is the device's with it. The error is want of memory, and the driver is as before.
+    /// Tells the driver that the token of a lot has left the hart's queue, with which the lot is the device's. The
+    /// token has the lot's label, the index of its first entry and its count of entries. Returns what this moves.
+    ///
+    /// # Errors
+    ///
+    /// `NoMemory` where memory runs out; then the driver is unchanged.
     pub fn lent(&mut self, label: Label, first: u8, count: u8) -> Result<Moves, NoMemory>
         requires lent { IsLentAt self.old.lots (lot_id label first) }
         ensures driver { IfOk result (λ m. self.new ≡ (due.lent self.old label first).driver) }

@@ -1,4 +1,4 @@
-//! The steps that the machine makes, and tokens that are out of the queue.
+//! The steps that the machine makes, and the tokens that leave the queue.
 
 ghost use Rattle.std.specs.Prelude.{ℕ, ◌≡◌, ◌+◌, ◌<◌, [], true, false, length, drop, IfOk, OnOk, OnErr, Some, Ok};
 ghost use Rattle.nc_ops.specs.declared.ops.Op.{Op};
@@ -23,7 +23,7 @@ use nc_planned::good_answer;
 use nc_rules::{Answer, LotId, Phase, Refusal, Seen, Step, Turn};
 
 impl Course {
-    /// Tells what a step saw that the machine made.
+    /// Tells the driver what a step saw that the machine made.
     pub(crate) fn done(&mut self, seen: Seen) -> Result<Moves, NoMemory>
         requires ready { IsReady (state self.old) self.old.due }
         requires next { is_act (due.next_of (state self.old)) ≡ true }
@@ -44,7 +44,7 @@ impl Course {
         }
     }
 
-    /// Step n of the operation in hand, which is due, is made. Its turns are of ranges.
+    /// Makes step n of the current operation, which is due. Its turns are of ranges.
     fn step(&mut self, n: u32, saw: Seen) -> Result<Moves, NoMemory>
         requires ready { IsReady (state self.old) self.old.due }
         requires phase { self.old.phase ≡ Steps n }
@@ -63,7 +63,7 @@ impl Course {
         Ok(moves)
     }
 
-    /// The answer of the operation in hand, where this step is behind the one that is due.
+    /// Returns the answer of the current operation, where `after` is the step after the one that is due.
     fn step_answer(&self, after: &Result<Option<Step>, Refusal>, saw: Seen) -> Option<Answer>
         requires fit { IsFit self.now.setup }
         requires placed { ArePlaced self.now.lots.items }
@@ -78,7 +78,8 @@ impl Course {
         }
     }
 
-    /// Step n of the operation in hand is done, and this one is behind it; the operation is over where there is none.
+    /// Records that step n of the current operation is done, and that `after` is due. Where there is no such step, the
+    /// operation ends.
     fn advance(&mut self, n: u32, after: Result<Option<Step>, Refusal>, saw: Seen)
         requires fit { IsFit self.old.setup }
         requires here { self.old.op < length self.old.setup.script }
@@ -95,7 +96,7 @@ impl Course {
         self.close();
     }
 
-    /// The first step of the rest is made.
+    /// Makes the first step of the plan's rest.
     fn work(&mut self, saw: Seen) -> Result<Moves, NoMemory>
         requires fit { IsFit self.old.setup }
         requires here { self.old.op < length self.old.setup.script }
@@ -121,7 +122,7 @@ impl Course {
         Ok(moves)
     }
 
-    /// The answer of the operation in hand, where its plan ends with the first step of the rest.
+    /// Returns the answer of the current operation, where its plan ends with the first step of the rest.
     fn last_answer(&self, saw: Seen) -> Option<Answer>
         requires fit { IsFit self.now.setup }
         requires placed { ArePlaced self.now.lots.items }
@@ -133,7 +134,7 @@ impl Course {
         }
     }
 
-    /// What two turns change, one after the other, and an answer.
+    /// Returns what two turns change, one after the other, with an answer.
     pub(crate) fn turned(
         &self,
         first: Turn,
@@ -157,7 +158,7 @@ impl Course {
         )
     }
 
-    /// Tells that the token of a lot is out of the hart's queue, with which the lot is the device's.
+    /// Tells the driver that the token of a lot has left the hart's queue, with which the lot is the device's.
     pub(crate) fn lent(&mut self, label: Label, first: u8) -> Result<Moves, NoMemory>
         requires ready { IsReady (state self.old) self.old.due }
         requires lent { IsLentAt self.old.lots.items (lot_id label first) }

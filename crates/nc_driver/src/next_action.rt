@@ -18,7 +18,7 @@ fn next_act(act: &Act) -> Next
     }
 }
 
-/// What a step leaves to do next: a refused step is a start.
+/// Returns what a step leaves to do next: a refused step is a start.
 pub(crate) fn next_step(step: &Result<Option<Step>, Refusal>) -> Next
     ensures { result ≡ due.next_step step.now }
 {
@@ -28,7 +28,7 @@ pub(crate) fn next_step(step: &Result<Option<Step>, Refusal>) -> Next
     }
 }
 
-/// The first step of a rest.
+/// Returns what the first step of a plan's rest leaves to do next.
 pub(crate) fn next_rest(rest: &VecDeque<Step>) -> Next
     ensures { result ≡ due.next_rest rest.now.items }
 {
@@ -38,7 +38,7 @@ pub(crate) fn next_rest(rest: &VecDeque<Step>) -> Next
     }
 }
 
-/// Whether there is such a step, be it refused.
+/// Returns whether such a step exists, even if it is refused.
 pub(crate) fn is_more(step: &Result<Option<Step>, Refusal>) -> bool
     ensures { result ≡ is_more step.now }
 {
@@ -48,7 +48,7 @@ pub(crate) fn is_more(step: &Result<Option<Step>, Refusal>) -> bool
     }
 }
 
-/// The turn before a step, where there is one.
+/// Returns the turn before a step; Stay where there is no step.
 pub(crate) fn first_turn(step: &Result<Option<Step>, Refusal>) -> Turn
     ensures { result ≡ made_first step.now }
 {
@@ -58,7 +58,7 @@ pub(crate) fn first_turn(step: &Result<Option<Step>, Refusal>) -> Turn
     }
 }
 
-/// The turn behind a step, where there is one.
+/// Returns the turn after a step; Stay where there is no step.
 pub(crate) fn last_turn(step: &Result<Option<Step>, Refusal>) -> Turn
     ensures { result ≡ made_last step.now }
 {
@@ -68,7 +68,7 @@ pub(crate) fn last_turn(step: &Result<Option<Step>, Refusal>) -> Turn
     }
 }
 
-/// A claim that found the channel granted is refused.
+/// Returns the refusal of a claim that found the channel granted.
 pub(crate) fn busy(saw: Seen) -> Option<Refusal>
     ensures { result ≡ due.busy saw }
 {
@@ -78,7 +78,7 @@ pub(crate) fn busy(saw: Seen) -> Option<Refusal>
     }
 }
 
-/// What was seen last, but for Nothing.
+/// Returns what was seen last, other than Nothing.
 pub(crate) fn kept(old: Seen, new: Seen) -> Seen
     ensures { result ≡ due.kept old new }
 {

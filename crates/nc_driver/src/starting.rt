@@ -24,7 +24,7 @@ use nc_scen::Op;
 use std::collections::VecDeque;
 
 impl Course {
-    /// Makes a step without an operation of the hart: the refusal of the operation in hand, or its start.
+    /// Makes a step that is no operation of the hart: the refusal of the current operation, or its start.
     pub(crate) fn start(&mut self, book: &Book, pages: &PagePool) -> Result<Moves, NoMemory>
         requires ready { IsReady (state self.old) self.old.due }
         requires next { due.next_of (state self.old) ≡ nexts.Start }
@@ -48,7 +48,8 @@ impl Course {
         }
     }
 
-    /// The start step of the operation in hand, which has one: its refusal, or its new lots, a search or the opening.
+    /// Makes the start step of the current operation, which has one: its refusal, or its new lots and a search or the
+    /// opening.
     fn begin(&mut self, book: &Book, pages: &PagePool) -> Result<Moves, NoMemory>
         requires ready { IsReady (state self.old) self.old.due }
         requires next { due.next_of (state self.old) ≡ nexts.Start }
@@ -70,7 +71,7 @@ impl Course {
         }
     }
 
-    /// The hart has these lots besides: a search, where an entry waits for a slot, or the opening.
+    /// Adds these lots to the hart's, and begins a search where an entry waits for a slot, or makes the opening.
     fn add(&mut self, new: Vec<Lot>) -> Result<Moves, NoMemory>
         requires fit { IsFit self.old.setup }
         requires due { IsDue (state self.old) self.old.due }
@@ -93,7 +94,8 @@ impl Course {
         }
     }
 
-    /// A search, where an entry waits for a slot, or the opening. After an error the step that is due is as it was.
+    /// Begins a search, where an entry waits for a slot, or makes the opening. After an error the step that is due is
+    /// unchanged.
     pub(crate) fn place(&mut self) -> Result<Moves, NoMemory>
         requires fit { IsFit self.old.setup }
         requires here { self.old.op < length self.old.setup.script }
@@ -112,7 +114,7 @@ impl Course {
         self.open()
     }
 
-    /// The opening turn of the operation in hand, and its plan.
+    /// Makes the opening turn of the current operation, and its plan.
     fn open(&mut self) -> Result<Moves, NoMemory>
         requires fit { IsFit self.old.setup }
         requires here { self.old.op < length self.old.setup.script }
@@ -138,7 +140,7 @@ impl Course {
         Ok(moves)
     }
 
-    /// The answer of an operation that has this plan: one that has no step ends with its start.
+    /// Returns the answer of an operation with this plan: one with an empty plan ends with its start.
     fn opened_answer(&self, op: &Op, plan: &VecDeque<Step>) -> Option<Answer>
         requires fit { IsFit self.now.setup }
         requires placed { ArePlaced self.now.lots.items }
@@ -151,7 +153,7 @@ impl Course {
         }
     }
 
-    /// With what a lot is lent and taken back.
+    /// Returns what the plans of the hart's operations depend on.
     fn lender(&self) -> Lender
         ensures { result ≡ lender_of self.now.setup }
     {
@@ -163,7 +165,7 @@ impl Course {
         }
     }
 
-    /// The operation in hand is refused before anything is lent, and over: the lots that it made are gone.
+    /// Refuses the current operation before anything is lent, and ends it: the lots that it made are removed.
     pub(crate) fn give_up(&mut self, refusal: Refusal) -> Result<Moves, NoMemory>
         requires fit { IsFit self.old.setup }
         requires here { self.old.op < length self.old.setup.script }
@@ -184,7 +186,7 @@ impl Course {
         Ok(moves)
     }
 
-    /// Tells whether the slot word that was tried is got. Where none is searched, nothing changes.
+    /// Tells the driver whether it got the slot word that it tried. Where it is at no search, nothing changes.
     pub(crate) fn told(&mut self, got: bool) -> Result<Moves, NoMemory>
         requires ready { IsReady (state self.old) self.old.due }
         ensures driver { IfOk result (λ m. state self.new ≡ (due.told (state self.old) got).driver) }
@@ -204,7 +206,7 @@ impl Course {
         }
     }
 
-    /// The first entry that waits for a slot gets this one: on with the search for the next, or the opening.
+    /// Gives slot `k` to the first entry that waits for one: then comes the search for the next, or the opening.
     fn take_slot(&mut self, k: u32) -> Result<Moves, NoMemory>
         requires fit { IsFit self.old.setup }
         requires here { self.old.op < length self.old.setup.script }
@@ -228,7 +230,7 @@ impl Course {
         }
     }
 
-    /// The word is held: on to the next one, and where there is none the operation is refused.
+    /// Goes on from word `k`, which is held, to the next one. Where there is none, the operation is refused.
     fn miss(&mut self, k: u32) -> Result<Moves, NoMemory>
         requires fit { IsFit self.old.setup }
         requires here { self.old.op < length self.old.setup.script }

@@ -12,7 +12,7 @@ use std::alloc::Global;
 /// The bytes of RAM.
 const RAM: u32 = 262_144;
 
-/// How many harts the scenario of a number has.
+/// Returns how many harts the scenario of number n has, 2 to 4.
 fn harts_of(n: u64) -> u8
     ensures value { result ≡ harts n }
     ensures some { 2 ≤ result }
@@ -21,7 +21,7 @@ fn harts_of(n: u64) -> u8
     2 + (n % 3) as u8
 }
 
-/// Buffer j of hart h.
+/// Returns buffer j of hart h in the scenario of number n.
 fn buffer(n: u64, h: u8, j: u8) -> BufferSpec
     requires hart { h < 4 }
     requires four { j < 4 }
@@ -39,7 +39,7 @@ fn buffer(n: u64, h: u8, j: u8) -> BufferSpec
     }
 }
 
-/// The buffers of so many harts.
+/// Returns the buffers of this many harts.
 fn buffers(alloc: Global, n: u64, harts: u8) -> Result<Vec<BufferSpec>, NoMemory>
     requires { harts ≤ 4 }
     ensures { IfOk result (λ v. v.items ≡ buffers n harts) }
@@ -51,7 +51,7 @@ fn buffers(alloc: Global, n: u64, harts: u8) -> Result<Vec<BufferSpec>, NoMemory
     )
 }
 
-/// A copy of 512 bytes on a channel, from the start of a buffer to the start of another.
+/// Returns the operation that copies 512 bytes on a channel, from the start of a buffer to the start of another.
 fn copied(chan: u8, src: u8, dst: u8) -> Op
     ensures { result ≡ copied chan src dst }
 {
@@ -66,7 +66,7 @@ fn copied(chan: u8, src: u8, dst: u8) -> Op
     }
 }
 
-/// The hart that is r places before hart h in the ring.
+/// Returns the hart that is r positions before hart h in the ring of harts.
 fn before(harts: u8, h: u8, r: u8) -> u8
     requires some { 0 < harts }
     requires few { harts ≤ 4 }
@@ -78,7 +78,7 @@ fn before(harts: u8, h: u8, r: u8) -> u8
     (h + 3 * harts - r) % harts
 }
 
-/// Puts the operations of round r of hart h.
+/// Appends the operations of round r of hart h.
 fn put_round(ops: &mut Vec<Op>, harts: u8, h: u8, r: u8) -> Result<(), NoMemory>
     requires some { 0 < harts }
     requires few { harts ≤ 4 }
@@ -102,7 +102,7 @@ fn put_round(ops: &mut Vec<Op>, harts: u8, h: u8, r: u8) -> Result<(), NoMemory>
     Ok(())
 }
 
-/// The script of hart h: three rounds.
+/// Returns the script of hart h: three rounds.
 fn script(alloc: Global, harts: u8, h: u8) -> Result<Ops, NoMemory>
     requires some { 0 < harts }
     requires few { harts ≤ 4 }
@@ -116,7 +116,7 @@ fn script(alloc: Global, harts: u8, h: u8) -> Result<Ops, NoMemory>
     Ok(Ops::new(ops))
 }
 
-/// Hart h: in supervisor mode, with every cache operation and memory type enabled.
+/// Returns hart h: in supervisor mode, with every cache operation and memory type enabled.
 fn hart(alloc: Global, harts: u8, h: u8) -> Result<HartSpec, NoMemory>
     requires some { 0 < harts }
     requires few { harts ≤ 4 }
@@ -131,7 +131,7 @@ fn hart(alloc: Global, harts: u8, h: u8) -> Result<HartSpec, NoMemory>
     })
 }
 
-/// All harts.
+/// Returns all harts, in order.
 fn hart_list(alloc: Global, harts: u8) -> Result<Vec<HartSpec>, NoMemory>
     requires { harts ≤ 4 }
     ensures { IfOk result (λ v. v.items ≡ hart_list harts) }
@@ -143,7 +143,7 @@ fn hart_list(alloc: Global, harts: u8) -> Result<Vec<HartSpec>, NoMemory>
     Ok(list)
 }
 
-/// The scenario of a number.
+/// Returns the scenario of number n, which is accepted.
 ///
 /// # Errors
 ///

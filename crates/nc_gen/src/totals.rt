@@ -9,7 +9,7 @@ use nc_num::NoMemory;
 use nc_world::{Answer, Record, Refusal, World};
 use std::alloc::{AllocError, Global};
 
-/// Whether a record is the answer of a copy that is done.
+/// Returns whether a record is the answer of a copy that is done.
 #[tactic(auto, unfolding(crate::specs::Summary::is_copydone))]
 fn is_copydone(entry: &Record) -> bool
     ensures { result ≡ is_copydone entry.now }
@@ -23,7 +23,7 @@ fn is_copydone(entry: &Record) -> bool
     )
 }
 
-/// Whether a record is the answer that each slot was found held.
+/// Returns whether a record is the answer that every slot was found held.
 #[tactic(auto, unfolding(crate::specs::Summary::is_noslot))]
 fn is_noslot(entry: &Record) -> bool
     ensures { result ≡ is_noslot entry.now }
@@ -63,7 +63,7 @@ pub fn slots_missed(records: &[Record]) -> usize
     count
 }
 
-/// Writes the number, the harts and the events.
+/// Appends the number, the harts and the events.
 fn put_run(text: &mut String, n: u64, harts: u8, events: u64) -> Result<(), AllocError>
     ensures { OnOk result (string_bytes text.new ≡ string_bytes text.old
         ++ phrase (codes "gen" ∷ decimal n ∷ codes "harts" ∷ decimal harts ∷ codes "events" ∷ decimal events ∷ [])) }
@@ -71,15 +71,15 @@ fn put_run(text: &mut String, n: u64, harts: u8, events: u64) -> Result<(), Allo
     write!(text, "gen {n} harts {harts} events {events}")
 }
 
-/// Writes the touches and the answers.
+/// Appends the touches and the answers.
 fn put_counts(text: &mut String, touches: u64, done: u64, noslot: u64) -> Result<(), AllocError>
     ensures { OnOk result (string_bytes text.new ≡ string_bytes text.old
         ++ 32 ∷ words (codes "touches" ∷ decimal touches ∷ codes "copydone" ∷ decimal done ∷ codes "noslot" ∷ decimal noslot ∷ [])) }
 {
     write!(text, " touches {touches} copydone {done} noslot {noslot}\n")
 }
-/// Returns the line of the run of a number's scenario: the number, how many harts it has, the counts of events and
-/// touches of the world, and how often the answers `copydone` and `noslot` came.
+/// Returns the line that sums up the run of number n's scenario: the number, its count of harts, the world's counts of
+/// events and touches, and the counts of the answers `copydone` and `noslot`.
 ///
 /// # Errors
 ///

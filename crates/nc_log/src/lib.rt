@@ -1,9 +1,8 @@
-//! The records of the events that happened, in order, with room for those of one more.
+//! The records of the events that happened, in order, with room for those of one more event.
 //!
-//! The contract for the crates above: a log is the list of its records and the number of records that it has room for;
-//! each call adds the records that nc_rules' `specs/Records` says of a part of an event, and takes no memory but for
-//! `reserve`.
-//! The world stands above it.
+//! The contract for the crates above: a log is the list of its records and the number of further records for which it
+//! has room. Each call appends the records that nc_rules' `specs/Records` says of a part of an event; only `reserve`
+//! takes memory. The world stands above it.
 #![tactic(auto)]
 
 mod log;

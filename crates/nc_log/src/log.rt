@@ -1,4 +1,4 @@
-//! Records, with room for those of one event.
+//! A log of records, with room for those of one event.
 
 ghost use Rattle.std.specs.Prelude.{◌≡◌, ◌≤◌, ◌<◌, ◌+◌, ◌*◌, ◌^◌, ◌++◌, [], ◌∷◌, length, All, OnOk};
 ghost use Rattle.nc_hart.specs.Issue.{payload};
@@ -20,10 +20,10 @@ use nc_slots::TryAnswer;
 use std::alloc::Global;
 use std::marker::Model;
 
-/// More than one event records.
+/// More records than one event has.
 const ROOM: usize = 96;
 
-/// Records, in order. Contracts see them, and for how many more there is room.
+/// A log of records, in order. Contracts see the records, and the number of further records for which there is room.
 #[derive(Drop)]
 pub struct Log {
     items: Vec<Record>,
@@ -39,7 +39,7 @@ impl Model for Log {
 }
 
 impl Log {
-    /// No records.
+    /// Makes an empty log.
     pub fn new(alloc: Global) -> Log
         ensures { result.records ≡ [] }
     {
@@ -48,7 +48,11 @@ impl Log {
         }
     }
 
-    /// Makes room for the records of one event.
+    /// Makes room for the records of one event: 96 or more.
+    ///
+    /// # Errors
+    ///
+    /// `NoMemory` where memory runs out; the records are unchanged.
     pub fn reserve(&mut self) -> Result<(), NoMemory>
         ensures room { OnOk result (96 ≤ self.new.room) }
         ensures records { self.new.records ≡ self.old.records }
@@ -57,14 +61,14 @@ impl Log {
         Ok(())
     }
 
-    /// The records, in order.
+    /// Returns the records, in order.
     pub fn as_slice(&self) -> &[Record]
         ensures { result.now ≡ self.now.records }
     {
         &self.items
     }
 
-    /// Hands the records over, and leaves none.
+    /// Returns the records, and leaves the log empty.
     pub fn take(&mut self) -> RecordList
         ensures taken { result ≡ self.old.records }
         ensures none { self.new.records ≡ [] }
@@ -73,14 +77,14 @@ impl Log {
         RecordList::new(std::mem::replace(&mut self.items, empty))
     }
 
-    /// Drops the records; the room for them stays.
+    /// Removes the records. The allocation stays, and so does the room in it.
     pub fn clear(&mut self)
         ensures { self.new.records ≡ [] }
     {
         self.items.clear();
     }
 
-    /// One more record.
+    /// Appends a record. There is room for one.
     pub fn push(&mut self, entry: &Record)
         requires room { 1 ≤ self.old.room }
         ensures records { self.new.records ≡ self.old.records ++ entry.now ∷ [] }
@@ -93,7 +97,7 @@ impl Log {
         }
     }
 
-    /// A touch, where there is one.
+    /// Appends the record of a touch, or nothing where there is none. There is room for one record.
     pub fn touch(&mut self, touch: Option<Touch>)
         requires room { 1 ≤ self.old.room }
         ensures records { self.new.records ≡ self.old.records ++ rules.touch_records touch }
@@ -104,7 +108,8 @@ impl Log {
         }
     }
 
-    /// Transfers on the bus.
+    /// Appends the records of bus transfers, in order. The block size is `size` bytes, and there is room for a record
+    /// of each transfer.
     pub fn transfers(&mut self, size: u32, bus: &[BusRec])
         requires places { All (HasPlace size) bus.now }
         requires room { length bus.now ≤ self.old.room }
@@ -116,7 +121,9 @@ impl Log {
         }
     }
 
-    /// An operation that hart h issued, by the machine's answer; `last` are the bytes of the hart's last load.
+    /// Appends the records of an operation that hart h issued, by the machine's answer. The block size is `size` bytes;
+    /// `by_script` tells whether the operation is one of the script's own accesses; `last` has the bytes of the hart's
+    /// last load. There is room for 7 records.
     pub fn issued(
         &mut self,
         size: u32,
@@ -152,7 +159,7 @@ impl Log {
         }
     }
 
-    /// A load with its transfers, by the machine's answer.
+    /// Appends the records of a load and its transfers, by the machine's answer.
     fn loaded(&mut self, size: u32, h: HartNo, by_script: bool, at: Place, issued: &Issued)
         requires places { IssuedHasPlaces size issued.now }
         requires room { 7 ≤ self.old.room }
@@ -165,7 +172,7 @@ impl Log {
         }
     }
 
-    /// A store, of bytes that are given or those of the last load.
+    /// Appends the record of a store, of bytes that are given or those of the last load.
     fn stored(&mut self, h: HartNo, by_script: bool, at: Place, bytes: &Payload, last: &Bytes)
         requires room { 1 ≤ self.old.room }
         ensures records { self.new.records ≡ self.old.records ++ rules.store_record by_script h at.0 (payload last.now bytes.now) ∷ [] }
@@ -177,7 +184,8 @@ impl Log {
         }
     }
 
-    /// An entry that left hart h's queue.
+    /// Appends the record of an entry that left hart h's queue. The block size is `size` bytes, and there is room for
+    /// one record.
     pub fn drained(&mut self, size: u32, h: HartNo, e: &Entry)
         requires place { EntryHasPlace size e.now }
         requires room { 1 ≤ self.old.room }
@@ -187,7 +195,7 @@ impl Log {
         self.push(&entry_record(size, h, e));
     }
 
-    /// Changes of owners.
+    /// Appends the records of ranges and their new owners, in order. There is room for a record of each.
     pub fn owners(&mut self, transfers: &[(Span, Owner)])
         requires room { length transfers.now ≤ self.old.room }
         ensures records { self.new.records ≡ self.old.records ++ rules.owner_records transfers.now }
@@ -201,7 +209,7 @@ impl Log {
         }
     }
 
-    /// Slots that hart h gives back.
+    /// Appends the records of slots that hart h gives back.
     fn backs(&mut self, h: HartNo, words: &[u32])
         requires room { length words.now ≤ self.old.room }
         ensures records { self.new.records ≡ self.old.records ++ rules.back_records h words.now }
@@ -215,7 +223,7 @@ impl Log {
         }
     }
 
-    /// The answer of operation n, where there is one.
+    /// Appends the record of the answer of operation n, where there is one.
     fn answer(&mut self, h: HartNo, n: u32, answer: Option<Answer>)
         requires room { 1 ≤ self.old.room }
         ensures records { self.new.records ≡ self.old.records ++ rules.answered h n answer }
@@ -229,7 +237,8 @@ impl Log {
         }
     }
 
-    /// What a driver's call moves, with the answer of operation n.
+    /// Appends the records of what a call of hart h's driver moves: owners, slots that are given back, and the answer
+    /// of operation n. There is room for 67 records.
     pub fn moves(&mut self, h: HartNo, n: u32, moves: &Moves)
         requires room { 67 ≤ self.old.room }
         ensures records { self.new.records ≡ self.old.records ++ rules.moves_records h n (moves_view moves.now) }
@@ -239,7 +248,8 @@ impl Log {
         self.answer(h, n, moves.answer);
     }
 
-    /// A try of a slot word, which it found held by this hart, or free.
+    /// Appends the record of a try of slot word `word` by hart h, which found it held by this hart, or free where
+    /// `holder` is None. There is room for one record.
     pub fn tried(&mut self, h: HartNo, word: u32, holder: Option<HartNo>)
         requires room { 1 ≤ self.old.room }
         ensures records { self.new.records ≡ self.old.records ++ rules.try_records h word holder }
@@ -256,7 +266,8 @@ impl Log {
         });
     }
 
-    /// An answer that the search of hart h was told of a slot word, by who holds the word.
+    /// Appends the record of an answer that the search of hart h was told of slot word `word`: `got` is what it was
+    /// told, and `holder` the hart that holds the word. There is room for one record.
     pub fn told(&mut self, h: HartNo, word: u32, got: bool, holder: Option<HartNo>)
         requires room { 1 ≤ self.old.room }
         ensures records { self.new.records ≡ self.old.records ++ rules.told_records h word got holder }
@@ -274,7 +285,7 @@ impl Log {
         });
     }
 
-    /// A channel's read.
+    /// Appends the record of a channel's read, or nothing where it was idle. There is room for two records.
     pub fn chan_read(&mut self, chan: ChanNo, step: &ChanStep)
         requires room { 2 ≤ self.old.room }
         ensures records { self.new.records ≡ self.old.records ++ rules.read_records chan step.now }
@@ -294,7 +305,7 @@ impl Log {
         }
     }
 
-    /// A channel's write.
+    /// Appends the records of a channel's write, or nothing where it was idle. There is room for two records.
     pub fn chan_write(&mut self, chan: ChanNo, step: &ChanStep)
         requires room { 2 ≤ self.old.room }
         ensures records { self.new.records ≡ self.old.records ++ rules.write_records chan step.now }
@@ -320,7 +331,7 @@ impl Log {
     }
 }
 
-/// The place of a block's start.
+/// Returns the place of a block's start.
 fn start_of(size: u32, block: Block) -> Place
     requires { size * block.0 < 2 ^ 32 }
     ensures { result ≡ rules.start_of size block.0 }

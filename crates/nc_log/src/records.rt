@@ -1,11 +1,11 @@
-//! Records that were handed over.
+//! Records that a log handed over.
 
 ghost use Rattle.std.specs.Prelude.{◌≡◌};
 
 use nc_rules::Record;
 use std::marker::Model;
 
-/// Some records, in order.
+/// Records that a log handed over, in order.
 #[derive(Drop)]
 pub struct RecordList {
     items: Vec<Record>,
@@ -21,14 +21,14 @@ impl Model for RecordList {
 }
 
 impl RecordList {
-    /// These records.
+    /// Makes a list of these records.
     pub(crate) fn new(items: Vec<Record>) -> RecordList
         ensures { result ≡ items.items }
     {
         RecordList { items }
     }
 
-    /// The records, in order.
+    /// Returns the records, in order.
     pub fn as_slice(&self) -> &[Record]
         ensures { result.now ≡ self.now }
     {

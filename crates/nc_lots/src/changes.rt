@@ -1,4 +1,4 @@
-//! What turns make of lots.
+//! The changes that turns make to lots.
 
 ghost use Rattle.std.specs.Prelude.{◌≡◌, ◌++◌, not, OnOk, OnErr, filter, take};
 ghost use Rattle.nc_rules.specs.Lots.{is_lot, is_wanted};
@@ -8,7 +8,7 @@ use crate::looks::is_lot;
 use nc_num::NoMemory;
 use nc_rules::{Lot, LotId, Side, Turn};
 
-/// Makes of the lots what a turn does: the lot that it names gets a side, or goes; the others stay, in order.
+/// Applies a turn to the lots: the lot that the turn names gets a side or is removed. The others stay, in order.
 pub fn turn(lots: &mut Vec<Lot>, turn: Turn)
     ensures { lots.new.items ≡ lots_after turn lots.old.items }
 {
@@ -23,14 +23,18 @@ pub fn turn(lots: &mut Vec<Lot>, turn: Turn)
     }
 }
 
-/// Removes the lots that are not lent yet; the others stay, in order.
+/// Removes the lots that are not lent yet. The others stay, in order.
 pub fn drop_wanted(lots: &mut Vec<Lot>)
     ensures { lots.new.items ≡ without_wanted lots.old.items }
 {
     lots.retain(|lot| !is_wanted(lot.side));
 }
 
-/// Puts new lots behind those that are there. The error is want of memory, and the lots are as before.
+/// Appends the lots `new` to `lots`, in order.
+///
+/// # Errors
+///
+/// `NoMemory` where memory runs out; then `lots` is unchanged.
 pub fn append(lots: &mut Vec<Lot>, new: Vec<Lot>) -> Result<(), NoMemory>
     ensures ok { OnOk result (lots.new.items ≡ lots.old.items ++ new.items) }
     ensures err { OnErr result (lots.new.items ≡ lots.old.items) }
@@ -40,7 +44,7 @@ pub fn append(lots: &mut Vec<Lot>, new: Vec<Lot>) -> Result<(), NoMemory>
     Ok(())
 }
 
-/// Keeps the first `n` lots; where there are no more, all.
+/// Keeps the first `n` lots, or all where there are no more than `n`.
 pub fn cut(lots: &mut Vec<Lot>, n: usize)
     ensures { lots.new.items ≡ take n lots.old.items }
 {

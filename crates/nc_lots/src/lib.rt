@@ -1,4 +1,4 @@
-//! Looks at the lots of a hart, and what turns and slots make of them, in place.
+//! The lots of a hart: queries, and the changes that turns and slots make, in place.
 //!
 //! The contract for the crates above: each call is nc_rules' definition of the same name; only `append` takes memory.
 //! The moves of a step, the checks and the driver stand above.

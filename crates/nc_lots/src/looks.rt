@@ -1,4 +1,4 @@
-//! Looks at lots.
+//! Queries about lots.
 
 ghost use Rattle.std.specs.Prelude.{◌≡◌, ◌+◌, ◌<◌, ◌≤◌, IfSome, length, option_map, unwrap_or};
 ghost use Rattle.std.specs.List.{find, list_any, Contains};
@@ -17,7 +17,7 @@ const SLOT: u32 = 2048;
 /// Where RAM starts on the bus.
 const BUS: u32 = 0x8000_0000;
 
-/// Whether a lot has this name.
+/// Returns whether a lot has the name `id`, its label and the index of its first entry.
 pub fn is_lot(id: LotId, lot: &Lot) -> bool
     ensures { result ≡ is_lot id lot.now }
 {
@@ -51,7 +51,7 @@ fn is_named(label: Label, kind: Kind, lot: &Lot) -> bool
     is_labelled(label, lot) && same_kind(kind, lot.kind)
 }
 
-/// The first lot of this label and kind. None exactly where there is none.
+/// Returns the first lot of this label and kind. None exactly where no lot has both.
 pub fn lot_named(lots: &[Lot], label: Label, kind: Kind) -> Option<&Lot>
     ensures first { option_map (λ l. l.now) result ≡ lot_named lots.now label kind }
     ensures one { IfSome result (λ l. Contains lots.now l.now) }
@@ -64,7 +64,7 @@ pub fn lot_named(lots: &[Lot], label: Label, kind: Kind) -> Option<&Lot>
     None
 }
 
-/// The first lot of this name. None exactly where there is none.
+/// Returns the first lot of this name. None exactly where no lot has it.
 pub fn lot_of(lots: &[Lot], id: LotId) -> Option<&Lot>
     ensures first { option_map (λ l. l.now) result ≡ find (is_lot id) lots.now }
     ensures one { IfSome result (λ l. Contains lots.now l.now) }
@@ -77,14 +77,15 @@ pub fn lot_of(lots: &[Lot], id: LotId) -> Option<&Lot>
     None
 }
 
-/// Whether a lot has this label.
+/// Returns whether some lot has this label.
 pub fn has_label(lots: &[Lot], label: Label) -> bool
     ensures { result ≡ list_any (is_labelled label) lots.now }
 {
     lots.iter().any(|lot| is_labelled(label, lot))
 }
 
-/// The one entry of a lot that is no scatter list; without entries, an empty one. Its range ends at 1,048,576 at most.
+/// Returns the first entry of a lot, the only one where the lot is no scatter list. A lot without entries gives an
+/// empty one. The range ends at 1,048,576 bytes of RAM at most, and a slot is below 64.
 pub fn only_entry(lot: &Lot) -> Entry
     ensures value { result ≡ only_entry lot.now }
     ensures ends { result.span.at + result.span.len ≤ 1048576 }
@@ -101,8 +102,8 @@ pub fn only_entry(lot: &Lot) -> Entry
     }
 }
 
-/// The address on the bus at which a lot that is no scatter list starts, as its channel sees it. The slots start at the
-/// place `slots_at`, which is at most 1,048,576.
+/// Returns the bus address at which a lot that is no scatter list starts, as its channel sees it. The bounce slots
+/// start at the place `slots_at`, which is at most 1,048,576.
 pub fn bus_of_lot(slots_at: u32, lot: &Lot) -> u32
     requires slots { slots_at ≤ 1048576 }
     ensures { (f : DriverConfig) → f.slots_at ≡ slots_at → result ≡ bus_of_lot f lot.now }
@@ -113,14 +114,14 @@ pub fn bus_of_lot(slots_at: u32, lot: &Lot) -> u32
     }
 }
 
-/// Whether an entry of a lot bounces and has no slot.
+/// Returns whether some entry of a lot bounces and has no slot.
 pub fn lot_waits(lot: &Lot) -> bool
     ensures { result ≡ lot_waits lot.now }
 {
     lot.list.next_bounced().is_some()
 }
 
-/// Whether an entry of one of these lots bounces and has no slot.
+/// Returns whether some entry of these lots bounces and has no slot.
 pub fn some_lot_waits(lots: &[Lot]) -> bool
     ensures { result ≡ some_lot_waits lots.now }
 {
@@ -139,7 +140,8 @@ fn is_big(entry: &Entry) -> bool
     entry.bounced && is_too_big(entry.span)
 }
 
-/// Whether an entry of a lot bounces and is too big for a slot.
+/// Returns whether some entry of a lot bounces and is too big for a slot. A slot has 2048 bytes, in which a range keeps
+/// its place modulo 8.
 pub fn has_big(lot: &Lot) -> bool
     ensures { result ≡ has_big lot.now }
 {

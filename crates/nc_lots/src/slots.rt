@@ -1,4 +1,4 @@
-//! Slots of lots.
+//! The slots of lots.
 
 ghost use Rattle.std.specs.Prelude.{◌≡◌, ◌<◌, true, length, position};
 ghost use Rattle.nc_rules.specs.Lots.{lot_waits, some_lot_waits, with_slot, slot_given};
@@ -7,16 +7,17 @@ ghost use Rattle.nc_lots.specs.Spots.{without_entry, without_slot, IsSpot};
 use crate::looks::lot_waits;
 use nc_rules::Lot;
 
-/// The place of an entry among lots: which lot, and which of its entries, both from 0.
+/// The position of an entry among lots.
 #[derive(Clone, Copy, Debug, PartialEq, Eq)]
 pub struct LotSpot {
-    /// The number of the lot.
+    /// The index of the lot, from 0.
     pub lot: usize,
-    /// The number of the entry in the lot.
+    /// The index of the entry in the lot, from 0.
     pub entry: u8,
 }
 
-/// Gives the slot `k`, 0 to 63, to the first entry that waits for one. Returns the place of that entry.
+/// Gives slot `k`, 0 to 63, to the first entry that bounces and has no slot, and returns the position of that entry.
+/// Such an entry exists.
 pub fn got(lots: &mut Vec<Lot>, k: u32) -> LotSpot
     requires slot { k < 64 }
     requires waits { some_lot_waits lots.old.items ≡ true }
@@ -33,7 +34,7 @@ pub fn got(lots: &mut Vec<Lot>, k: u32) -> LotSpot
     }
 }
 
-/// Takes the slot of an entry away: it has none any more.
+/// Takes its slot from the entry at a position, which exists. The entry then has no slot.
 pub fn put_back(lots: &mut Vec<Lot>, at: LotSpot)
     requires there { IsSpot at lots.old.items }
     ensures { lots.new.items ≡ without_slot at lots.old.items }
@@ -41,14 +42,14 @@ pub fn put_back(lots: &mut Vec<Lot>, at: LotSpot)
     lots[at.lot].list.put_back(at.entry);
 }
 
-/// The number of the first lot that waits for a slot.
+/// Returns the index of the first lot that waits for a slot.
 fn first_waiting(lots: &[Lot]) -> Option<usize>
     ensures { result ≡ position lot_waits lots.now }
 {
     lots.iter().position(lot_waits)
 }
 
-/// Gives a slot to the first entry of the lot that waits for one. Returns the number of that entry.
+/// Gives slot `k` to the first entry of a lot that waits for one, and returns the index of that entry.
 fn give(lot: &mut Lot, k: u32) -> u8
     requires slot { k < 64 }
     requires waits { lot_waits lot.old ≡ true }

@@ -15,7 +15,7 @@ use nc_pdma_regs::CONTROL;
 /// The claim bit of Control.
 const CLAIM: u32 = 1;
 
-/// The value of Control.
+/// Returns the value of a channel's Control.
 #[tactic(auto, using(crate::proofs::Claims::control_rules))]
 pub(crate) fn control(channel: &Channel) -> u32
     ensures value { result ≡ number_of channel.now.regs.control }
@@ -27,7 +27,7 @@ pub(crate) fn control(channel: &Channel) -> u32
     }
 }
 
-/// Whether the claim bit is set.
+/// Returns whether a channel's claim bit is set.
 #[tactic(auto, using(crate::proofs::Claims::control_rules))]
 fn is_claimed(channel: &Channel) -> bool
     ensures { result ≡ channel.now.regs.control.claim }
@@ -35,7 +35,7 @@ fn is_claimed(channel: &Channel) -> bool
     control(channel) & CLAIM == 1
 }
 
-/// A write to a register of channel c.
+/// Writes a register of channel c.
 fn write(channels: &mut Vec<Channel>, c: ChanNo, off: u16, width: u8, value: u64)
     requires { c.0 < length channels.old.items }
     ensures { channels.new.items ≡ slice_set channels.old.items c.0 (channel_write (slice_index_or channels.old.items c.0 new_channel) off width value) }
@@ -44,7 +44,7 @@ fn write(channels: &mut Vec<Channel>, c: ChanNo, off: u16, width: u8, value: u64
     let _ = channel.write(off, width, value);
 }
 
-/// The hart to which a channel is granted after an access of hart h, by the claim bit before and after.
+/// Returns the hart to which a channel is granted after an access of hart h, by the claim bit before and after.
 fn grantee_after(old: Option<HartNo>, was: bool, is: bool, h: HartNo) -> Option<HartNo>
     ensures { result ≡ grantee_after old was is h.0 }
 {
@@ -55,8 +55,8 @@ fn grantee_after(old: Option<HartNo>, was: bool, is: bool, h: HartNo) -> Option<
     }
 }
 
-/// A store of hart h to a register: the channel is granted to it where the store sets the claim bit, and to nobody where
-/// the bit is clear behind it.
+/// Performs a store of hart h to a register of channel c. The channel is granted to h where the store sets the claim
+/// bit, and to nobody where the bit is clear after it.
 pub(crate) fn store(
     channels: &mut Vec<Channel>,
     grantees: &mut [Option<HartNo>; 4],
@@ -79,7 +79,7 @@ pub(crate) fn store(
     grantees[chan] = grantee_after(grantees[chan], was, is, h);
 }
 
-/// The claim of channel c, whose claim bit is clear: a write to Control of its own value with the bit set.
+/// Claims channel c, whose claim bit is clear: writes to Control its own value with the bit set.
 pub(crate) fn claim(channels: &mut Vec<Channel>, c: ChanNo)
     requires channel { c.0 < length channels.old.items }
     requires free { (slice_index_or channels.old.items c.0 new_channel).regs.control.claim ≡ false }
@@ -93,7 +93,7 @@ pub(crate) fn claim(channels: &mut Vec<Channel>, c: ChanNo)
     write(channels, c, CONTROL, 4, u64::from(value));
 }
 
-/// A read of channel c.
+/// Makes one read of channel c.
 pub(crate) fn read_step(channels: &mut Vec<Channel>, c: ChanNo, ram: &Ram) -> ChanStep
     requires { c.0 < length channels.old.items }
     ensures step { result ≡ read_step (slice_index_or channels.old.items c.0 new_channel) ram.now }
@@ -103,7 +103,7 @@ pub(crate) fn read_step(channels: &mut Vec<Channel>, c: ChanNo, ram: &Ram) -> Ch
     channel.read_step(ram)
 }
 
-/// A write of channel c.
+/// Makes one write of channel c.
 pub(crate) fn write_step(channels: &mut Vec<Channel>, c: ChanNo, ram: &mut Ram) -> ChanStep
     requires { c.0 < length channels.old.items }
     ensures step { result ≡ write_step (slice_index_or channels.old.items c.0 new_channel) (length ram.old) }

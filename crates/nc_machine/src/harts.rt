@@ -1,4 +1,4 @@
-//! The harts: what their queues give to a load, and the change of one hart among them.
+//! The harts: the bytes that their store queues give to a load, and the change of one hart among them.
 
 ghost use Rattle.std.specs.Prelude.{◌≡◌, ◌≤◌, ◌<◌, ◌+◌, ◌^◌, length, is_none, slice_index_or, slice_set, IfNone, IfSome, IsTrue};
 ghost use Rattle.std.specs.List.{list_any, range_with_len};
@@ -16,7 +16,7 @@ use nc_num::{Bytes, HartNo, Place, Span, block_of};
 use nc_plan::HartOp;
 use nc_queue::{Entry, Queue};
 
-/// The byte that an entry gives for a place: that of a store, or of a zero.
+/// Returns the byte that an entry gives for a place: that of a store, or 0 of a zero. None where it gives none.
 fn given(e: &Entry, x: Place, size: u32) -> Option<u8>
     requires size { IsBlockSize size }
     requires fits { Fits size e.now }
@@ -48,7 +48,7 @@ fn given(e: &Entry, x: Place, size: u32) -> Option<u8>
     }
 }
 
-/// The byte that the newest entry gives for a place.
+/// Returns the byte that the newest entry gives for a place, or None where no entry gives one.
 fn queued(queue: &Queue, x: Place, size: u32) -> Option<u8>
     requires size { queue.now.size ≡ size }
     ensures { result ≡ gives size queue.now.entries x.0 }
@@ -58,7 +58,7 @@ fn queued(queue: &Queue, x: Place, size: u32) -> Option<u8>
     given(&e, x, size)
 }
 
-/// Bytes from a place on, each from the newest entry that gives it, else these.
+/// Returns the bytes from the place `at` on: each from the newest entry that gives it, else from `below`.
 pub(crate) fn overlaid(queue: &Queue, at: u32, below: &Bytes, size: u32) -> Bytes
     requires size { queue.now.size ≡ size }
     requires short { length below.now ≤ 8 }
@@ -76,7 +76,7 @@ pub(crate) fn overlaid(queue: &Queue, at: u32, below: &Bytes, size: u32) -> Byte
     Bytes::of(&cells[..below.len()])
 }
 
-/// Whether some byte of a span comes from no entry.
+/// Returns whether some byte of a span is given by no entry.
 pub(crate) fn reaches_below(queue: &Queue, span: Span, size: u32) -> bool
     requires size { queue.now.size ≡ size }
     requires ends { span.at + span.len < 2 ^ 32 }
@@ -88,7 +88,7 @@ pub(crate) fn reaches_below(queue: &Queue, span: Span, size: u32) -> bool
     (span.at..span.at + span.len).any(|x| queued(queue, Place(x), size).is_none())
 }
 
-/// Hart h issues an operation.
+/// Has hart h issue an operation that it may issue.
 pub(crate) fn put(harts: &mut Vec<Hart>, h: HartNo, op: HartOp)
     requires hart { h.0 < length harts.old.items }
     requires can { IsTrue (can_issue (slice_index_or harts.old.items h.0 no_hart) op) }
@@ -99,7 +99,7 @@ pub(crate) fn put(harts: &mut Vec<Hart>, h: HartNo, op: HartOp)
     hart.issue(op);
 }
 
-/// Hart h has loaded bytes.
+/// Sets the bytes of hart h's last load.
 pub(crate) fn give(harts: &mut Vec<Hart>, h: HartNo, bytes: Bytes)
     requires { h.0 < length harts.old.items }
     ensures { harts.new.items ≡ slice_set harts.old.items h.0 (has_loaded (slice_index_or harts.old.items h.0 no_hart) bytes) }
@@ -108,7 +108,7 @@ pub(crate) fn give(harts: &mut Vec<Hart>, h: HartNo, bytes: Bytes)
     hart.loaded(bytes);
 }
 
-/// Entry i leaves the queue of hart h, where it may drain.
+/// Removes entry i from the queue of hart h and returns it. None where it may not drain; then the harts are unchanged.
 pub(crate) fn leave(harts: &mut Vec<Hart>, h: HartNo, i: u8) -> Option<Entry>
     requires { h.0 < length harts.old.items }
     ensures entry { result ≡ drained (slice_index_or harts.old.items h.0 no_hart).queue.size (slice_index_or harts.old.items h.0 no_hart).queue.entries i }

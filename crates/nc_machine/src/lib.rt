@@ -1,10 +1,11 @@
-//! The machine: memory with the coherent caches, the harts with their store queues, the channels of the DMA engine and
-//! the mailbox, as one object.
+//! The machine as one object: memory with the coherent caches, the harts with their store queues, the channels of the
+//! DMA engine, and the mailbox.
 //!
 //! The contract for the crates above: contracts see the written machine of `nc_rules`, and each call is exactly its
-//! part of the definitions: the next state, the answer, and the transfers on the bus, in order. Beside the machine they
-//! see `spare`, for how many more blocks its caches have room: a call that may bring a block needs one, and `reserve`
-//! makes it, so that no other call takes memory. The world stands on it, and asks nothing else of the parts.
+//! part of the definitions: the next state, the answer, and the bus transfers, in order. Beside the machine they see
+//! `spare`, the number of further blocks for which its caches have room. A call that may bring a block needs room for
+//! one. `reserve` makes this room, and no other call on a machine takes memory. The world stands on this crate, and
+//! uses the machine's parts in no other way.
 #![tactic(auto)]
 
 mod engine;

@@ -31,8 +31,8 @@ use nc_scen::Scenario;
 use std::alloc::Global;
 use std::marker::Model;
 
-/// The machine of a scenario. Contracts see the written machine, and `spare`: for how many more blocks its caches have
-/// room.
+/// The machine of a scenario. Contracts see the written machine, and `spare`, the number of further blocks for which
+/// its caches have room.
 #[derive(Drop)]
 pub struct Machine {
     size: u32,
@@ -67,7 +67,8 @@ impl Model for Machine {
 impl Machine {
     // ---- the start, and room
 
-    /// The machine at the start of a scenario: memory has the buffers' first bytes, and nothing else has happened.
+    /// Makes the machine at the start of a scenario: memory has the buffers' initial bytes, and nothing else has
+    /// happened.
     ///
     /// # Errors
     ///
@@ -90,11 +91,11 @@ impl Machine {
         })
     }
 
-    /// Makes room for one more block in the caches, so that the next call which brings one takes no memory.
+    /// Makes room for one more block in the caches, so that the next call that brings one takes no memory.
     ///
     /// # Errors
     ///
-    /// `NoMemory` where memory runs out; all is as before.
+    /// `NoMemory` where memory runs out; then the machine and its room are unchanged.
     pub fn reserve(&mut self) -> Result<(), NoMemory>
         ensures ok { OnOk result (1 ≤ self.new.spare) }
         ensures machine { self.new.machine ≡ self.old.machine }
@@ -106,8 +107,9 @@ impl Machine {
 
     // ---- a hart's operation
 
-    /// Whether hart h may issue an operation now: its queue has room where the operation needs an entry, a fence that
-    /// waits finds no entry of its predecessor set, and an IO load none of class O.
+    /// Returns whether hart h may issue an operation now. An operation that needs an entry needs room in the queue; a
+    /// fence that waits needs a queue without entries of its predecessor set; an IO load needs one without entries of
+    /// class O.
     pub fn can_issue(&self, h: HartNo, op: &HartOp) -> bool
         requires { h.0 < length self.now.machine.harts }
         ensures value { result ≡ may_issue self.now.machine h.0 op.now }
@@ -116,8 +118,9 @@ impl Machine {
         self.harts[usize::from(h.0)].can_issue(op)
     }
 
-    /// Hart h issues an operation that it may issue. What the operation names is there: a load or store is one piece in
-    /// RAM, and a store has the bytes of its span. Only a load of memory asks for room.
+    /// Has hart h issue an operation that it may issue now, and returns the machine's answer. A load or store is one
+    /// piece inside RAM, a store has the bytes of its span, and the block, register, buffer or hart that an operation
+    /// names exists. Only a load of memory needs room in the caches, for one block.
     #[tactic(auto, unfolding(nc_rules::specs::Calls::issue_next))]
     pub fn issue(&mut self, h: HartNo, op: HartOp) -> Issued
         requires hart { h.0 < length self.old.machine.harts }
@@ -142,8 +145,9 @@ impl Machine {
 
     // ---- a drain
 
-    /// Entry i of hart h's queue, counted from the oldest, leaves the queue and is performed. None exactly where it may
-    /// not drain, and then nothing has changed.
+    /// Drains entry i of hart h's queue, counted from the oldest: the entry leaves the queue and is performed. The
+    /// caches have room for one more block. Returns the entry and its bus transfers, in order. None exactly where it
+    /// may not drain; then nothing has changed.
     #[tactic(auto, unfolding(nc_rules::specs::Calls::drain_next))]
     pub fn drain(&mut self, h: HartNo, i: u8) -> Option<(Entry, BusList)>
         requires hart { h.0 < length self.old.machine.harts }
@@ -159,8 +163,9 @@ impl Machine {
 
     // ---- caches, at any moment
 
-    /// A copy of a block comes to hart h. None exactly where the hart holds the block, or the block lies in the
-    /// coherent pool; then nothing has changed.
+    /// Brings a copy of block b to hart h, and returns the bus transfers, in order. The caches have room for one more
+    /// block. None exactly where the hart holds the block or the block lies in the coherent pool; then nothing has
+    /// changed.
     #[tactic(auto, unfolding(nc_rules::specs::Calls::fill_next))]
     pub fn fill(&mut self, h: HartNo, b: Block) -> Option<BusList>
         requires hart { h.0 < length self.old.machine.harts }
@@ -176,8 +181,8 @@ impl Machine {
         Some(self.domain.load(&mut self.ram, h, b))
     }
 
-    /// Hart h gives up its copy of a block, and writes it back where it is dirty. None exactly where it has none; then
-    /// nothing has changed.
+    /// Removes hart h's copy of block b, and writes it back where it is dirty. Returns the bus transfers, in order.
+    /// None exactly where the hart has no copy; then nothing has changed.
     #[tactic(auto, unfolding(nc_rules::specs::Calls::evict_next))]
     pub fn evict(&mut self, h: HartNo, b: Block) -> Option<BusList>
         requires hart { h.0 < length self.old.machine.harts }
@@ -191,7 +196,8 @@ impl Machine {
 
     // ---- channels
 
-    /// One read of a channel; Idle exactly where it is disabled, and then nothing has changed.
+    /// Makes one read of channel c, 0 to 3, and returns what it did: Idle exactly where the read is disabled; then
+    /// nothing has changed.
     #[tactic(auto, unfolding(nc_rules::specs::Calls::chan_read_next))]
     pub fn chan_read(&mut self, c: ChanNo) -> ChanStep
         requires { c.0 < 4 }
@@ -202,7 +208,8 @@ impl Machine {
         engine::read_step(&mut self.channels, c, &self.ram)
     }
 
-    /// One write of a channel; Idle exactly where it is disabled, and then nothing has changed.
+    /// Makes one write of channel c, 0 to 3, and returns what it did: Idle exactly where the write is disabled; then
+    /// nothing has changed.
     #[tactic(auto, unfolding(nc_rules::specs::Calls::chan_write_next))]
     pub fn chan_write(&mut self, c: ChanNo) -> ChanStep
         requires { c.0 < 4 }
@@ -213,7 +220,7 @@ impl Machine {
         engine::write_step(&mut self.channels, c, &mut self.ram)
     }
 
-    /// The value of a channel's Control.
+    /// Returns the value of Control of channel c, 0 to 3.
     pub fn control(&self, c: ChanNo) -> u32
         requires { c.0 < 4 }
         ensures value { result ≡ control_of self.now.machine c.0 }
@@ -222,11 +229,11 @@ impl Machine {
         engine::control(&self.channels[usize::from(c.0)])
     }
 
-    /// Hart h claims a channel.
+    /// Claims channel c, 0 to 3, for hart h.
     ///
     /// # Errors
     ///
-    /// The grantee exactly where the channel is claimed; then nothing has changed.
+    /// The hart to which the channel is granted, exactly where the channel is claimed; then nothing has changed.
     #[tactic(auto, unfolding(nc_rules::specs::Calls::claim_next))]
     pub fn claim(&mut self, h: HartNo, c: ChanNo) -> Result<(), HartNo>
         requires hart { h.0 < length self.old.machine.harts }
@@ -244,8 +251,8 @@ impl Machine {
         Ok(())
     }
 
-    /// The hart to which a channel is granted: the one whose access set its claim bit. None exactly where the bit is
-    /// clear.
+    /// Returns the hart to which channel c, 0 to 3, is granted: the one whose access set its claim bit. None exactly
+    /// where the bit is clear.
     pub fn grantee(&self, c: ChanNo) -> Option<HartNo>
         requires { c.0 < 4 }
         ensures value { result ≡ grantee_of self.now.machine c.0 }
@@ -257,7 +264,7 @@ impl Machine {
 
     // ---- the mailbox
 
-    /// Takes the message of a buffer's box, if it waits for hart h, and says whether it did.
+    /// Takes the message from the box of buffer `buf` if it waits for hart h, and returns whether it did.
     #[tactic(auto, unfolding(nc_rules::specs::Calls::take_next))]
     pub fn take(&mut self, h: HartNo, buf: u8) -> bool
         requires { buf < length self.old.machine.boxes }
@@ -268,7 +275,7 @@ impl Machine {
         self.mail.take(buf, h)
     }
 
-    /// The hart for which a message waits in a buffer's box.
+    /// Returns the hart for which a message waits in the box of buffer `buf`, or None where the box is empty.
     pub fn waits(&self, buf: u8) -> Option<HartNo>
         requires { buf < length self.now.machine.boxes }
         ensures value { result ≡ box_of self.now.machine buf }
@@ -277,9 +284,9 @@ impl Machine {
         self.mail.waits(buf)
     }
 
-    // ---- looks
+    // ---- queries
 
-    /// The number of entries of hart h's queue, 0 to 8.
+    /// Returns the number of entries of hart h's queue, 0 to 8.
     pub fn queued(&self, h: HartNo) -> u8
         requires { h.0 < length self.now.machine.harts }
         ensures value { result ≡ length (queue_of self.now.machine h.0) }
@@ -289,7 +296,7 @@ impl Machine {
         self.queue(h).len()
     }
 
-    /// Whether an entry of class O is queued by hart h: a store of type IO, to a register or to a mailbox, or an
+    /// Returns whether hart h's queue has an entry of class O: a store of type IO, to a register or to a mailbox, or an
     /// ownership token.
     pub fn io_waits(&self, h: HartNo) -> bool
         requires { h.0 < length self.now.machine.harts }
@@ -299,7 +306,7 @@ impl Machine {
         !self.queue(h).may_load(MemType::Io)
     }
 
-    /// The entry that a drain of entry i of hart h's queue would perform. None exactly where it may not drain.
+    /// Returns the entry that a drain of entry i of hart h's queue would perform. None exactly where it may not drain.
     #[tactic(auto, unfolding(nc_queue::specs::Rules::drained))]
     pub fn peek(&self, h: HartNo, i: u8) -> Option<Entry>
         requires { h.0 < length self.now.machine.harts }
@@ -314,7 +321,7 @@ impl Machine {
         }
     }
 
-    /// Whether an ownership token of the label is queued by hart h.
+    /// Returns whether hart h's queue has an ownership token of the label.
     pub fn lends(&self, h: HartNo, label: Label) -> bool
         requires { h.0 < length self.now.machine.harts }
         ensures value { result ≡ lends self.now.machine h.0 label.0 }
@@ -323,7 +330,7 @@ impl Machine {
         self.queue(h).lends(label)
     }
 
-    /// The bytes of hart h's last load; none before the first.
+    /// Returns the bytes of hart h's last load, or no bytes before the first.
     pub fn last(&self, h: HartNo) -> &Bytes
         requires { h.0 < length self.now.machine.harts }
         ensures value { result.now ≡ (hart_of self.now.machine h.0).last }
@@ -332,7 +339,8 @@ impl Machine {
         self.harts[usize::from(h.0)].last()
     }
 
-    /// The value of a channel's register of this width at an offset, both in bytes; 0 where there is none.
+    /// Returns the value of a register of channel `chan`, 0 to 3, by its offset and width in bytes; 0 where there is no
+    /// such register.
     pub fn register(&self, chan: ChanNo, off: u16, width: u8) -> u64
         requires { chan.0 < 4 }
         ensures value { result ≡ register_value self.now.machine chan.0 off width }
@@ -343,7 +351,7 @@ impl Machine {
             .unwrap_or(0)
     }
 
-    /// The bytes of a span in one block of RAM: the caches', else memory's.
+    /// Returns the bytes of a span that lies in one block inside RAM: those of the caches, else those of memory.
     #[tactic(auto, unfolding(nc_rules::specs::View::middle))]
     pub fn bytes(&self, span: Span) -> Bytes
         requires one_block { span.at % self.now.machine.size + span.len ≤ self.now.machine.size }
@@ -355,7 +363,7 @@ impl Machine {
         self.domain.bytes(&self.ram, span)
     }
 
-    /// Does nothing: its clause says that every machine is sound.
+    /// Proves that the machine satisfies the invariant of the written machine. It does nothing.
     pub fn sound(&self)
         ensures { IsMachine self.now.machine }
     {
@@ -363,9 +371,9 @@ impl Machine {
         let _ = &self.size;
     }
 
-    // ---- what the calls are made of
+    // ---- the parts of the calls
 
-    /// The store queue of hart h.
+    /// Returns the store queue of hart h.
     fn queue(&self, h: HartNo) -> &Queue
         requires { h.0 < length self.now.machine.harts }
         ensures value { result.now ≡ (hart_of self.now.machine h.0).queue }
@@ -375,7 +383,7 @@ impl Machine {
         self.harts[usize::from(h.0)].queue()
     }
 
-    /// Whether a block lies in the coherent pool.
+    /// Returns whether a block lies in the coherent pool.
     fn is_pooled(&self, b: Block) -> bool
         requires { IsBlockIn self.now.machine.size (length self.now.machine.cache.ram) b.0 }
         ensures { result ≡ is_pooled self.now.machine b.0 }
@@ -384,7 +392,7 @@ impl Machine {
         self.pool.at <= at && at - self.pool.at < self.pool.len
     }
 
-    /// The bytes of a piece below the queues: NC and IO go past the caches (Svpbmt).
+    /// Returns the bytes of a piece below the queues. Those of types NC and IO are memory's, past the caches (Svpbmt).
     #[tactic(auto, using(crate::proofs::Loads::below_rules), unfolding(nc_rules::specs::View::middle))]
     fn below(&self, span: Span, kind: MemType) -> Bytes
         requires { IsPieceIn (length self.now.machine.cache.ram) span }
@@ -397,7 +405,8 @@ impl Machine {
         }
     }
 
-    /// The bytes of a piece that a load of hart h shows: each from the newest entry that gives it, else from below.
+    /// Returns the bytes of a piece that a load of hart h shows: each from the newest entry that gives it, else from
+    /// below.
     #[tactic(auto, using(crate::proofs::Loads::overlaid_range), unfolding(nc_rules::specs::View::seen))]
     fn seen(&self, h: HartNo, span: Span, kind: MemType) -> Bytes
         requires hart { h.0 < length self.now.machine.harts }
@@ -408,8 +417,8 @@ impl Machine {
         harts::overlaid(self.queue(h), span.at, &below, self.size)
     }
 
-    /// Whether a load of hart h asks the caches, and gets its block: one of main memory of which some byte comes from no
-    /// entry.
+    /// Returns whether a load of hart h asks the caches, and so gets its block: a load of main memory of which some
+    /// byte is given by no entry.
     fn asks_caches(&self, h: HartNo, span: Span, kind: MemType) -> bool
         requires hart { h.0 < length self.now.machine.harts }
         requires piece { IsPieceIn (length self.now.machine.cache.ram) span }
@@ -421,7 +430,7 @@ impl Machine {
         }
     }
 
-    /// The block of a load comes to hart h, where the load asks the caches.
+    /// Brings the block of a load to hart h, where the load asks the caches, and returns the bus transfers.
     fn bring(&mut self, h: HartNo, span: Span, kind: MemType) -> BusList
         requires hart { h.0 < length self.old.machine.harts }
         requires piece { IsPieceIn (length self.old.machine.cache.ram) span }
@@ -437,7 +446,7 @@ impl Machine {
         self.domain.load(&mut self.ram, h, block)
     }
 
-    /// A load of one piece.
+    /// Performs a load of one piece by hart h.
     #[tactic(auto, unfolding(nc_rules::specs::Calls::issue_next))]
     fn load(&mut self, h: HartNo, span: Span, kind: MemType) -> Issued
         requires hart { h.0 < length self.old.machine.harts }
@@ -454,7 +463,7 @@ impl Machine {
         Issued::Loaded { bytes, bus }
     }
 
-    /// Puts the entry of an operation that is no load, where it has one, behind the others of hart h's queue.
+    /// Appends the entry of an operation that is no load to hart h's queue, where it has an entry.
     fn put(&mut self, h: HartNo, op: HartOp)
         requires hart { h.0 < length self.old.machine.harts }
         requires there { OpIsThere self.old.machine h.0 op }
@@ -466,7 +475,7 @@ impl Machine {
         harts::put(&mut self.harts, h, op);
     }
 
-    /// A fence, which leaves a marker in the queue or nothing.
+    /// Issues a fence of hart h, which leaves a marker in the queue or nothing.
     #[tactic(auto, unfolding(nc_rules::specs::Calls::issue_next))]
     fn fence(&mut self, h: HartNo, pred: u8, succ: u8) -> Issued
         requires hart { h.0 < length self.old.machine.harts }
@@ -484,7 +493,7 @@ impl Machine {
         }
     }
 
-    /// Entry i of hart h's queue leaves it, where it may drain. What it names is there.
+    /// Removes entry i from hart h's queue and returns it, where it may drain. What the entry names exists.
     fn leave(&mut self, h: HartNo, i: u8) -> Option<Entry>
         requires hart { h.0 < length self.old.machine.harts }
         ensures entry { result ≡ leaving self.old.machine h.0 i }
@@ -498,7 +507,7 @@ impl Machine {
         harts::leave(&mut self.harts, h, i)
     }
 
-    /// An entry of hart h's queue is performed, with these transfers.
+    /// Performs an entry of hart h's queue, and returns the bus transfers.
     #[tactic(auto, unfolding(nc_rules::specs::Calls::performed))]
     fn perform(&mut self, h: HartNo, e: &Entry) -> BusList
         requires hart { h.0 < length self.old.machine.harts }
@@ -529,7 +538,7 @@ impl Machine {
         }
     }
 
-    /// A store of main memory goes to the caches, one of another type to memory.
+    /// Performs a store: one of main memory goes to the caches, one of another type to memory.
     #[tactic(auto, unfolding(nc_rules::specs::Calls::performed))]
     fn store(&mut self, h: HartNo, span: Span, bytes: &Bytes, kind: MemType) -> BusList
         requires hart { h.0 < length self.old.machine.harts }
@@ -549,7 +558,7 @@ impl Machine {
         }
     }
 
-    /// A cache operation by its effect (CMO 1.0).
+    /// Performs a cache operation by its effect (RISC-V CMO 1.0).
     #[tactic(auto, unfolding(nc_rules::specs::Calls::performed))]
     fn operate(&mut self, h: HartNo, op: CboOp, block: Block) -> BusList
         requires hart { h.0 < length self.old.machine.harts }
@@ -567,7 +576,7 @@ impl Machine {
         }
     }
 
-    /// A store of hart h to a register of a channel: one that sets the claim bit has the channel granted to h.
+    /// Performs a store of hart h to a register of a channel. One that sets the claim bit has the channel granted to h.
     #[tactic(auto, unfolding(nc_rules::specs::Calls::performed))]
     fn store_register(&mut self, h: HartNo, chan: ChanNo, off: u16, width: u8, value: u64)
         requires hart { h.0 < length self.old.machine.harts }
@@ -579,7 +588,7 @@ impl Machine {
         engine::store(&mut self.channels, grantees, h, chan, off, width, value);
     }
 
-    /// A message about a buffer is put in its box.
+    /// Puts a message about a buffer into its box.
     fn post(&mut self, buf: u8, to: HartNo)
         requires { IsMessage (length self.old.machine.boxes) (length self.old.machine.harts) buf to.0 }
         ensures state { self.new.machine ≡ with_box self.old.machine buf (Some to) }

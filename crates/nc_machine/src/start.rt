@@ -15,7 +15,7 @@ use nc_pdma::Channel;
 use nc_scen::{BufferSpec, Scenario};
 use std::alloc::{AllocError, Global};
 
-/// So many harts with empty queues, which have loaded nothing.
+/// Makes `count` harts with empty queues, which have loaded nothing.
 #[tactic(auto, using(std::proofs::lemmas::List::replicate_more))]
 pub(crate) fn fresh_harts(
     alloc: Global,
@@ -32,7 +32,7 @@ pub(crate) fn fresh_harts(
     Ok(harts)
 }
 
-/// Four channels that nobody has claimed.
+/// Makes the four channels, which nobody has claimed.
 pub(crate) fn new_channels(alloc: Global) -> Result<Vec<Channel>, NoMemory>
     ensures { IfOk result (λ channels. channels.items ≡ replicate 4 new_channel) }
 {
@@ -45,7 +45,7 @@ pub(crate) fn new_channels(alloc: Global) -> Result<Vec<Channel>, NoMemory>
     Ok(channels)
 }
 
-/// Writes the first bytes of a buffer.
+/// Writes the initial bytes of a buffer.
 #[tactic(auto, using(crate::proofs::Starts::splice_none))]
 fn fill_buffer(ram: &mut Ram, b: &BufferSpec)
     requires { b.now.span.at + b.now.span.len ≤ length ram.old }
@@ -60,7 +60,7 @@ fn fill_buffer(ram: &mut Ram, b: &BufferSpec)
     }
 }
 
-/// Writes the first bytes of each buffer.
+/// Writes the initial bytes of each buffer.
 fn fill(ram: &mut Ram, buffers: &[BufferSpec])
     requires { All (λ b. b.span.at + b.span.len ≤ length ram.old) buffers.now }
     ensures { ram.new ≡ filled ram.old buffers.now }
@@ -70,7 +70,7 @@ fn fill(ram: &mut Ram, buffers: &[BufferSpec])
     }
 }
 
-/// Memory at the start: the buffers' first bytes, and else 0.
+/// Makes the memory at the start of a scenario: the buffers' initial bytes, and 0 elsewhere.
 #[tactic(auto, unfolding(nc_rules::specs::Start::memory))]
 pub(crate) fn memory(alloc: Global, sc: &Scenario) -> Result<Ram, NoMemory>
     requires { IsAccepted sc.now }

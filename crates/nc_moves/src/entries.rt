@@ -13,7 +13,7 @@ use nc_num::{HartNo, MapId, NoMemory};
 use nc_rules::{Lot, LotId, Side};
 use nc_sg::{Entry, device};
 
-/// The mapping that entry i of a lot is.
+/// Returns the mapping that entry i of a lot is.
 fn map_id(me: HartNo, id: LotId, i: usize) -> MapId
     requires few { id.first + i < 256 }
     ensures { result ≡ map_id me id i }
@@ -37,7 +37,7 @@ fn owner_of_side(id: MapId, side: Side) -> Owner
     }
 }
 
-/// The owner of the bytes of a lot behind its end.
+/// Returns the owner of the bytes of a lot after the lot's end.
 fn last_owner(me: HartNo, lot: &Lot) -> Owner
     ensures { result ≡ last_owner me lot.now }
 {
@@ -48,7 +48,7 @@ fn last_owner(me: HartNo, lot: &Lot) -> Owner
     }
 }
 
-/// What an entry is as the mapping of a channel.
+/// Returns an entry as the grant of the lot's channel.
 fn grant_of(slots_at: u32, lot: &Lot, id: MapId, entry: &Entry) -> Grant
     requires slots { slots_at ≤ 1048576 }
     requires entry { IsEntry entry.now }
@@ -63,7 +63,7 @@ fn grant_of(slots_at: u32, lot: &Lot, id: MapId, entry: &Entry) -> Grant
     }
 }
 
-/// The bytes of each entry get the owner of this side.
+/// Appends a transfer of each entry's bytes to the owner of this side.
 pub(crate) fn push_side(
     transfers: &mut TransferList,
     me: HartNo,
@@ -82,7 +82,7 @@ pub(crate) fn push_side(
     Ok(())
 }
 
-/// The bytes of each entry get the owner behind the lot's end.
+/// Appends a transfer of each entry's bytes to their owner after the lot's end.
 pub(crate) fn push_end(transfers: &mut TransferList, me: HartNo, lot: &Lot) -> Result<(), NoMemory>
     requires few { length (transfers.old ++ to_end me lot.now) ≤ 34 }
     ensures { OnOk result (transfers.new ≡ transfers.old ++ to_end me lot.now) }
@@ -95,7 +95,7 @@ pub(crate) fn push_end(transfers: &mut TransferList, me: HartNo, lot: &Lot) -> R
     Ok(())
 }
 
-/// Each entry is granted to the lot's channel.
+/// Appends a grant of each entry to the lot's channel.
 pub(crate) fn push_grants(
     grants: &mut GrantList,
     me: HartNo,
@@ -115,7 +115,7 @@ pub(crate) fn push_grants(
     Ok(())
 }
 
-/// The grants of the entries end.
+/// Appends the mapping of each entry, whose grant ends.
 pub(crate) fn push_ids(ended: &mut IdList, me: HartNo, lot: &Lot) -> Result<(), NoMemory>
     requires name { lot.now.id.first < 2 }
     requires few { length (ended.old ++ ids me lot.now) ≤ 32 }
@@ -127,7 +127,7 @@ pub(crate) fn push_ids(ended: &mut IdList, me: HartNo, lot: &Lot) -> Result<(), 
     Ok(())
 }
 
-/// The slots of the entries are given back.
+/// Appends the slots of the entries, which are given back.
 pub(crate) fn push_slots(backs: &mut SlotList, lot: &Lot) -> Result<(), NoMemory>
     requires few { length (backs.old ++ slots_held lot.now) ≤ 32 }
     ensures { OnOk result (backs.new ≡ backs.old ++ slots_held lot.now) }
@@ -141,7 +141,7 @@ pub(crate) fn push_slots(backs: &mut SlotList, lot: &Lot) -> Result<(), NoMemory
     Ok(())
 }
 
-/// The slots of the lots that are not lent yet are given back.
+/// Appends the slots of the lots that are not lent yet, which are given back.
 pub(crate) fn push_wanted(backs: &mut SlotList, lots: &[Lot]) -> Result<(), NoMemory>
     requires few { length (backs.old ++ slots_wanted lots.now) ≤ 32 }
     ensures { OnOk result (backs.new ≡ backs.old ++ slots_wanted lots.now) }

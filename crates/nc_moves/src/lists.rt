@@ -26,7 +26,7 @@ impl Model for TransferList {
 }
 
 impl TransferList {
-    /// No transfers, and no memory.
+    /// Makes an empty list, and takes no memory.
     pub fn new(alloc: Global) -> TransferList
         ensures { result ≡ [] }
     {
@@ -35,7 +35,11 @@ impl TransferList {
         }
     }
 
-    /// One more transfer. The error is want of memory, and the list is as before.
+    /// Appends a range and its new owner to a list of fewer than 34.
+    ///
+    /// # Errors
+    ///
+    /// `NoMemory` where memory runs out; then the list is unchanged.
     pub fn push(&mut self, span: Span, owner: Owner) -> Result<(), NoMemory>
         requires room { length self.old < 34 }
         ensures ok { OnOk result (self.new ≡ self.old ++ (span, owner) ∷ []) }
@@ -45,7 +49,7 @@ impl TransferList {
         Ok(())
     }
 
-    /// The transfers, in order.
+    /// Returns the ranges and their new owners, at most 34, in order.
     pub fn as_slice(&self) -> &[(Span, Owner)]
         ensures value { result.now ≡ self.now }
         ensures few { length self.now ≤ 34 }
@@ -72,7 +76,7 @@ impl Model for GrantList {
 }
 
 impl GrantList {
-    /// No grants, and no memory.
+    /// Makes an empty list, and takes no memory.
     pub fn new(alloc: Global) -> GrantList
         ensures { result ≡ [] }
     {
@@ -81,7 +85,11 @@ impl GrantList {
         }
     }
 
-    /// One more grant. The error is want of memory, and the list is as before.
+    /// Appends a grant to a list of fewer than 32.
+    ///
+    /// # Errors
+    ///
+    /// `NoMemory` where memory runs out; then the list is unchanged.
     pub fn push(&mut self, grant: Grant) -> Result<(), NoMemory>
         requires room { length self.old < 32 }
         ensures ok { OnOk result (self.new ≡ self.old ++ grant ∷ []) }
@@ -91,7 +99,7 @@ impl GrantList {
         Ok(())
     }
 
-    /// The grants, in order.
+    /// Returns the grants, at most 32, in order.
     pub fn as_slice(&self) -> &[Grant]
         ensures value { result.now ≡ self.now }
         ensures few { length self.now ≤ 32 }
@@ -100,7 +108,7 @@ impl GrantList {
     }
 }
 
-/// Mappings that end, at most 32, in order. Contracts see the list.
+/// Mappings whose grants end, at most 32, in order. Contracts see the list.
 #[derive(Debug, Drop)]
 pub struct IdList {
     items: Vec<MapId>,
@@ -118,7 +126,7 @@ impl Model for IdList {
 }
 
 impl IdList {
-    /// No mappings, and no memory.
+    /// Makes an empty list, and takes no memory.
     pub fn new(alloc: Global) -> IdList
         ensures { result ≡ [] }
     {
@@ -127,7 +135,11 @@ impl IdList {
         }
     }
 
-    /// One more mapping. The error is want of memory, and the list is as before.
+    /// Appends a mapping to a list of fewer than 32.
+    ///
+    /// # Errors
+    ///
+    /// `NoMemory` where memory runs out; then the list is unchanged.
     pub fn push(&mut self, id: MapId) -> Result<(), NoMemory>
         requires room { length self.old < 32 }
         ensures ok { OnOk result (self.new ≡ self.old ++ id ∷ []) }
@@ -137,7 +149,7 @@ impl IdList {
         Ok(())
     }
 
-    /// The mappings, in order.
+    /// Returns the mappings, at most 32, in order.
     pub fn as_slice(&self) -> &[MapId]
         ensures value { result.now ≡ self.now }
         ensures few { length self.now ≤ 32 }
@@ -163,7 +175,7 @@ impl Model for SlotList {
 }
 
 impl SlotList {
-    /// No slots, and no memory.
+    /// Makes an empty list, and takes no memory.
     pub fn new(alloc: Global) -> SlotList
         ensures { result ≡ [] }
     {
@@ -172,7 +184,11 @@ impl SlotList {
         }
     }
 
-    /// One more slot's word. The error is want of memory, and the list is as before.
+    /// Appends the word of a slot to a list of fewer than 32.
+    ///
+    /// # Errors
+    ///
+    /// `NoMemory` where memory runs out; then the list is unchanged.
     pub fn push(&mut self, word: u32) -> Result<(), NoMemory>
         requires room { length self.old < 32 }
         ensures ok { OnOk result (self.new ≡ self.old ++ word ∷ []) }
@@ -182,7 +198,7 @@ impl SlotList {
         Ok(())
     }
 
-    /// The words, in order.
+    /// Returns the words of slots, at most 32, in order.
     pub fn as_slice(&self) -> &[u32]
         ensures value { result.now ≡ self.now }
         ensures few { length self.now ≤ 32 }

@@ -16,22 +16,22 @@ use std::alloc::Global;
 /// What a step changes beside the driver and the machine, and the answer that it gives.
 #[derive(Debug, Drop)]
 pub struct Moves {
-    /// Ranges and their new owners, to be made in order.
+    /// Ranges and their new owners, to be transferred in order.
     pub transfers: TransferList,
-    /// What the channels may use from now on.
+    /// New grants of the channels.
     pub grants: GrantList,
     /// Mappings whose grants end.
     pub ended: IdList,
     /// Bounce slots that are given back.
     pub backs: SlotList,
-    /// What becomes of the pages of the coherent pool.
+    /// The change of the pages of the coherent pool.
     pub pages: PageMove,
-    /// The answer of the operation, where the step ends it with one.
+    /// The answer of the operation, where the step ends the operation with one.
     pub answer: Option<Answer>,
 }
 
 impl Moves {
-    /// Nothing but an answer. It takes no memory.
+    /// Makes moves that have an answer and nothing else. It takes no memory.
     pub fn answer(alloc: Global, answer: Option<Answer>) -> Moves
         ensures { moves_view result ≡ moved [] answer }
     {
@@ -45,9 +45,12 @@ impl Moves {
         }
     }
 
-    /// What two turns of the hart `me` do to its lots, one after the other, and an answer. The slots start at the place
-    /// `slots_at`, which is at most 1,048,576. The error is want of memory, where a turn changes owners; a step whose
-    /// turns name no lots looks at none.
+    /// Returns what the turns `first` and then `last` of hart `me` do to its lots, with an answer. The bounce slots
+    /// start at the place `slots_at`, which is at most 1,048,576. Turns that name no lot read none.
+    ///
+    /// # Errors
+    ///
+    /// `NoMemory` where memory runs out; only a turn that changes owners takes memory.
     #[tactic(auto, unfolding(nc_rules::specs::Turns::turned_by))]
     pub fn turn(
         alloc: Global,
@@ -69,8 +72,12 @@ impl Moves {
         Ok(moves)
     }
 
-    /// What an operation that gives up before it has lent anything changes: its lots' slots are given back. The error is
-    /// want of memory, where such a lot holds a slot.
+    /// Returns what an operation changes that gives up before it has lent anything: the slots of the lots that are not
+    /// lent yet are given back, and the operation has this answer.
+    ///
+    /// # Errors
+    ///
+    /// `NoMemory` where memory runs out; only such slots take memory.
     pub fn given_up(alloc: Global, lots: &[Lot], answer: Answer) -> Result<Moves, NoMemory>
         requires few { length (slots_wanted lots.now) ≤ 32 }
         ensures { IfOk result (λ m. moves_view m ≡ given_up lots.now answer) }
@@ -81,7 +88,7 @@ impl Moves {
     }
 }
 
-/// What the second turn does to the lots that the first one left, behind the moves that are there.
+/// Appends what `turn` does to the lots that the turn `first` left.
 fn push_turn(
     moves: &mut Moves,
     me: HartNo,
@@ -108,7 +115,7 @@ fn push_turn(
     }
 }
 
-/// The same, lot by lot.
+/// Appends what `turn`, which names a lot, does to each lot that the turn `first` left.
 fn push_lots(
     moves: &mut Moves,
     me: HartNo,
@@ -128,7 +135,7 @@ fn push_lots(
     Ok(())
 }
 
-/// What the second turn does to a lot, behind the first one.
+/// Appends what `turn` does to a lot after the turn `first`.
 fn push_one(
     moves: &mut Moves,
     me: HartNo,
@@ -154,7 +161,7 @@ fn push_one(
     }
 }
 
-/// What a turn of its name does to a lot that has this side.
+/// Appends what a turn that names a lot does to it where it has this side.
 fn push_lot(
     moves: &mut Moves,
     me: HartNo,
@@ -179,7 +186,8 @@ fn push_lot(
     }
 }
 
-/// The lot is being lent: where it was not lent before, its grants are added, and an area's pages are taken.
+/// Appends the lending of a lot. Where the lot was not lent before, its grants are added, and an area's pages are
+/// taken.
 fn push_lent(
     moves: &mut Moves,
     me: HartNo,
@@ -200,7 +208,8 @@ fn push_lent(
     Ok(())
 }
 
-/// The lot is gone: its bytes are the hart's or the pool's, its grants end, its slots and pages are given back.
+/// Appends the end of a lot: its bytes are the hart's or the pool's, its grants end, and its slots and pages are given
+/// back.
 fn push_ended(moves: &mut Moves, me: HartNo, lot: &Lot) -> Result<(), NoMemory>
     requires name { lot.now.id.first < 2 }
     requires few { IsFew (joined (moves_view moves.old) (ended_lot me lot.now)) }

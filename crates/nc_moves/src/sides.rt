@@ -1,4 +1,4 @@
-//! A lot between two turns, and what becomes of the pages of an area.
+//! The side of a lot between two turns, and the change of an area's pages.
 
 ghost use Rattle.std.specs.Prelude.{◌≡◌, option_map};
 ghost use Rattle.nc_rules.specs.Lots.{is_wanted};
@@ -8,7 +8,7 @@ ghost use Rattle.nc_moves.specs.Turned.{is_of, after, side_after, side_to};
 use nc_lots::{is_lot, only_entry};
 use nc_rules::{Kind, Lot, LotId, PageMove, Side, Turn};
 
-/// Whether a lot is of the name of a turn.
+/// Returns whether a turn names a lot.
 pub(crate) fn is_of(turn: Turn, lot: &Lot) -> bool
     ensures { result ≡ is_of turn lot.now }
 {
@@ -23,7 +23,7 @@ pub(crate) fn is_of(turn: Turn, lot: &Lot) -> bool
     }
 }
 
-/// The side of a lot behind a turn. None where it is gone.
+/// Returns the side of a lot after a turn, or None where the turn removes it.
 pub(crate) fn side_after(turn: Turn, lot: &Lot) -> Option<Side>
     ensures { result ≡ side_after turn lot.now }
 {
@@ -50,7 +50,7 @@ fn side_to(side: Side, id: LotId, lot: &Lot) -> Side
     if is_lot(id, lot) { side } else { lot.side }
 }
 
-/// Whether a lot of this side was not lent yet.
+/// Returns whether a lot of this side is not lent yet.
 pub(crate) fn is_wanted(side: Side) -> bool
     ensures { result ≡ is_wanted side }
 {
@@ -60,7 +60,7 @@ pub(crate) fn is_wanted(side: Side) -> bool
     }
 }
 
-/// Whether a lot of this kind is a coherent area.
+/// Returns whether a lot of this kind is a coherent area.
 pub(crate) fn is_area(kind: Kind) -> bool
     ensures { result ≡ is_area kind }
 {
@@ -70,7 +70,7 @@ pub(crate) fn is_area(kind: Kind) -> bool
     }
 }
 
-/// The pages of an area that was not lent before are taken.
+/// Returns the page move of a lending: the pages of an area that was not lent before are taken.
 pub(crate) fn pages_taken(lot: &Lot, side: Side) -> PageMove
     ensures { result ≡ pages_taken (record lot.now { side = side }) }
 {
@@ -81,7 +81,7 @@ pub(crate) fn pages_taken(lot: &Lot, side: Side) -> PageMove
     }
 }
 
-/// The pages of an area are given back.
+/// Returns the page move of a lot's end: the pages of an area are given back.
 pub(crate) fn pages_given(lot: &Lot) -> PageMove
     ensures { result ≡ pages_given lot.now }
 {
@@ -92,7 +92,7 @@ pub(crate) fn pages_given(lot: &Lot) -> PageMove
     }
 }
 
-/// The first of two page moves that is one.
+/// Returns the first of two page moves that is not Stay, or Stay.
 pub(crate) fn page_move(first: PageMove, later: PageMove) -> PageMove
     ensures { result ≡ page_move first later }
 {

@@ -1,4 +1,4 @@
-//! How all operations are answered.
+//! The answers of all operations.
 
 ghost use Rattle.std.specs.Prelude.{◌≡◌, ◌≤◌, List, false, All};
 ghost use Rattle.nc_rules.specs.declared.lots.Lot.{Lot};
@@ -14,9 +14,9 @@ use nc_num::Label;
 use nc_rules::{Answer, Lot, Refusal, Seen};
 use nc_scen::Op;
 
-/// The answer of an operation that was not refused, by what its steps saw last. None where it ends without one. The
-/// lots are those that the hart has, and each of their entries that bounces has its slot; the slots start at the place
-/// `slots_at`, which is at most 1,048,576.
+/// Returns the answer of an operation that was not refused, by what its steps saw last, or None where it ends without
+/// one. The lots are those that the hart has, and each of their entries that bounces has its slot. The bounce slots
+/// start at the place `slots_at`, which is at most 1,048,576.
 #[tactic(auto, unfolding(nc_rules::specs::Operations::good_answer, nc_rules::specs::Operations::meaning, nc_rules::specs::Accesses::load, nc_rules::specs::Accesses::store, nc_rules::specs::CacheOps::cache_operation, nc_rules::specs::CacheOps::fence, nc_rules::specs::Handing::hand, nc_rules::specs::Handing::take, nc_rules::specs::Channels::claim, nc_rules::specs::Channels::free, nc_rules::specs::Channels::set_up, nc_rules::specs::Channels::run, nc_rules::specs::Channels::poll, nc_rules::specs::Channels::read_register, nc_rules::specs::Channels::write_register, nc_rules::specs::Mappings::map_single, nc_rules::specs::Mappings::unmap_single, nc_rules::specs::Mappings::sync_for_cpu, nc_rules::specs::Mappings::sync_for_device, nc_rules::specs::ScatterLists::map_sg, nc_rules::specs::ScatterLists::unmap_sg, nc_rules::specs::Areas::calloc, nc_rules::specs::Areas::give_area, nc_rules::specs::Areas::take_area, nc_rules::specs::Areas::free_area, nc_rules::specs::Copies::copy))]
 pub fn good_answer(slots_at: u32, lots: &[Lot], op: &Op, saw: Seen) -> Option<Answer>
     requires slots { slots_at ≤ 1048576 }
@@ -48,7 +48,7 @@ pub fn good_answer(slots_at: u32, lots: &[Lot], op: &Op, saw: Seen) -> Option<An
     }
 }
 
-/// The answer of an operation that was refused.
+/// Returns the answer of an operation that was refused.
 #[tactic(auto, unfolding(nc_rules::specs::Operations::bad_answer, nc_rules::specs::Operations::meaning, nc_rules::specs::Accesses::load, nc_rules::specs::Accesses::store, nc_rules::specs::CacheOps::cache_operation, nc_rules::specs::CacheOps::fence, nc_rules::specs::Handing::hand, nc_rules::specs::Handing::take, nc_rules::specs::Channels::claim, nc_rules::specs::Channels::free, nc_rules::specs::Channels::set_up, nc_rules::specs::Channels::run, nc_rules::specs::Channels::poll, nc_rules::specs::Channels::read_register, nc_rules::specs::Channels::write_register, nc_rules::specs::Mappings::map_single, nc_rules::specs::Mappings::unmap_single, nc_rules::specs::Mappings::sync_for_cpu, nc_rules::specs::Mappings::sync_for_device, nc_rules::specs::ScatterLists::map_sg, nc_rules::specs::ScatterLists::unmap_sg, nc_rules::specs::Areas::calloc, nc_rules::specs::Areas::give_area, nc_rules::specs::Areas::take_area, nc_rules::specs::Areas::free_area, nc_rules::specs::Copies::copy))]
 pub fn bad_answer(op: &Op, refusal: Refusal) -> Answer
     ensures { (f : DriverConfig) (lots : List Lot) → result ≡ rules.bad_answer f lots op.now refusal }
@@ -81,7 +81,8 @@ pub fn bad_answer(op: &Op, refusal: Refusal) -> Answer
     }
 }
 
-/// With light fences, the label whose token an operation waits for before its first step.
+/// Returns the label whose token an operation waits for before its first step where fences are light, or None where it
+/// waits for none.
 pub fn waited_label(op: &Op) -> Option<Label>
     ensures { result ≡ rules.waited_label op.now }
 {

@@ -26,7 +26,7 @@ fn is_own(lot: &Lot) -> bool
     }
 }
 
-/// Puts the zeroing and flushing of a new area behind the steps, with a full fence at its end.
+/// Appends the zeroing and flushing of a new area, with a full fence at the end.
 pub(crate) fn push_calloc(
     steps: &mut Vec<Step>,
     by: &Lender,
@@ -46,7 +46,7 @@ pub(crate) fn push_calloc(
     }
 }
 
-/// Puts the end of a lending behind the steps, of an area that the hart has.
+/// Appends the end of a lending, where the hart has the area.
 pub(crate) fn push_give(
     steps: &mut Vec<Step>,
     by: &Lender,
@@ -61,7 +61,7 @@ pub(crate) fn push_give(
     }
 }
 
-/// Puts a full fence behind the steps, with which the hart has an area again.
+/// Appends the full fence with which the hart has an area again.
 pub(crate) fn push_take(steps: &mut Vec<Step>, lots: &[Lot], label: Label) -> Result<(), NoMemory>
     ensures { OnOk result (steps.new.items ≡ steps.old.items ++ with_lot [] rules.take_steps (lot_named lots.now label Area)) }
 {
@@ -71,7 +71,7 @@ pub(crate) fn push_take(steps: &mut Vec<Step>, lots: &[Lot], label: Label) -> Re
     }
 }
 
-/// Puts a full fence behind the steps, with which an area ends.
+/// Appends the full fence with which an area ends.
 pub(crate) fn push_free(steps: &mut Vec<Step>, lots: &[Lot], label: Label) -> Result<(), NoMemory>
     ensures { OnOk result (steps.new.items ≡ steps.old.items ++ with_lot [] rules.free_steps (lot_named lots.now label Area)) }
 {
@@ -81,7 +81,7 @@ pub(crate) fn push_free(steps: &mut Vec<Step>, lots: &[Lot], label: Label) -> Re
     }
 }
 
-/// Allocated, with the area's address on the bus.
+/// Returns the answer of an allocation, with the area's bus address.
 pub(crate) fn allocated_answer(slots_at: u32, lots: &[Lot], label: Label) -> Option<Answer>
     requires { slots_at ≤ 1048576 }
     ensures { (f : DriverConfig) → f.slots_at ≡ slots_at → result ≡ rules.allocated_answer f (lot_named lots.now label Area) }

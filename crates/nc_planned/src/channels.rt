@@ -1,11 +1,11 @@
-//! Channels by their registers.
+//! Operations on channels by their registers.
 
 ghost use Rattle.std.specs.Prelude.{◌≡◌};
 ghost use Rattle.nc_rules.specs.Channels as rules;
 
 use nc_rules::{Answer, Seen};
 
-/// Error where bit 31 of Control is set, else done.
+/// Returns Error where bit 31 of Control is set, else Done.
 fn polled(control: u32) -> Answer
     ensures { result ≡ rules.polled control }
 {

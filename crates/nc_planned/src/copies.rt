@@ -31,7 +31,7 @@ const TARGET: LotId = LotId {
     first: 1,
 };
 
-/// The claim, with which both ends are being lent.
+/// Makes the claim, with whose turns both ends are being lent.
 fn claim_step(chan: ChanNo) -> Step
     ensures { result ≡ rules.claim_step chan }
 {
@@ -42,7 +42,7 @@ fn claim_step(chan: ChanNo) -> Step
     }
 }
 
-/// A step of the transfer.
+/// Makes a step of the transfer.
 fn copy_step(chan: ChanNo, step: CopyStep) -> Step
     ensures { result ≡ rules.copy_step chan step }
 {
@@ -72,7 +72,7 @@ fn end_part(by: &Lender, lot: &Lot, dir: Dir) -> Part
     }
 }
 
-/// Puts the steps of a transfer behind the others.
+/// Appends the steps of a transfer.
 fn push_copy_steps(steps: &mut Vec<Step>, chan: ChanNo, copy: &[CopyStep]) -> Result<(), NoMemory>
     ensures { OnOk result (steps.new.items ≡ steps.old.items ++ map (rules.copy_step chan) copy.now) }
 {
@@ -82,7 +82,7 @@ fn push_copy_steps(steps: &mut Vec<Step>, chan: ChanNo, copy: &[CopyStep]) -> Re
     Ok(())
 }
 
-/// Puts the transfer between the two ends behind the steps: the channel is set, started, waited for and released.
+/// Appends the transfer between the two ends: the channel is set, started, waited for and released.
 fn push_transfer(
     steps: &mut Vec<Step>,
     by: &Lender,
@@ -100,7 +100,7 @@ fn push_transfer(
     push_copy_steps(steps, chan, &copy)
 }
 
-/// Puts the way back of an end behind the steps: its first step takes it back, and its last one ends it.
+/// Appends the return of an end: the first of the new steps takes it back, and the last one ends it.
 fn push_back(steps: &mut Vec<Step>, by: &Lender, lot: &Lot) -> Result<(), NoMemory>
     requires size { IsBlockSize by.now.size }
     requires slots { by.now.slots_at ≤ 1048576 }
@@ -113,7 +113,7 @@ fn push_back(steps: &mut Vec<Step>, by: &Lender, lot: &Lot) -> Result<(), NoMemo
     Ok(())
 }
 
-/// Puts a copy between two ends behind the steps.
+/// Appends a copy between two ends.
 fn push_between(
     steps: &mut Vec<Step>,
     by: &Lender,
@@ -136,7 +136,7 @@ fn push_between(
     push_back(steps, by, src)
 }
 
-/// Puts a copy between the two ends that the hart has behind the steps.
+/// Appends a copy between the two ends that the hart has.
 pub(crate) fn push_copy(
     steps: &mut Vec<Step>,
     by: &Lender,
@@ -155,7 +155,7 @@ pub(crate) fn push_copy(
     }
 }
 
-/// Failed where bit 31 of Control is set, else done.
+/// Returns CopyFailed where bit 31 of Control is set, else CopyDone.
 fn copied(control: u32) -> Answer
     ensures { result ≡ rules.copied control }
 {

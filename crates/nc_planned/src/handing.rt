@@ -8,7 +8,7 @@ use nc_num::{HartNo, NoMemory};
 use nc_plan::{HartOp, IoTarget};
 use nc_rules::Step;
 
-/// A marker of W before O, and the message.
+/// Makes a marker of W before O, and the message.
 fn hand_steps(buf: u8, to: HartNo) -> [Step; 2]
     ensures { result ≡ hand_steps buf to }
 {
@@ -18,7 +18,7 @@ fn hand_steps(buf: u8, to: HartNo) -> [Step; 2]
     ]
 }
 
-/// Puts the plan of a buffer that is passed behind the steps.
+/// Appends the plan of a buffer that is passed to a hart.
 pub(crate) fn push_hand(steps: &mut Vec<Step>, buf: u8, to: HartNo) -> Result<(), NoMemory>
     ensures { OnOk result (steps.new.items ≡ steps.old.items ++ hand_steps buf to) }
 {

@@ -2,12 +2,12 @@
 
 use nc_plan::Effects;
 
-/// What the plans of a hart's operations depend on, beside the lots that it has.
+/// What the plans of a hart's operations depend on, beside the lots that the hart has.
 #[derive(Clone, Copy, Debug, PartialEq, Eq)]
 pub struct Lender {
-    /// What the hart's cache operations are performed as (RISC-V CMO 1.0).
+    /// The operations that the hart's cache operations are performed as (RISC-V CMO 1.0).
     pub effects: Effects,
-    /// The bytes of a block.
+    /// The size of a block in bytes.
     pub size: u32,
     /// The place of the first bounce slot, at most 1,048,576.
     pub slots_at: u32,

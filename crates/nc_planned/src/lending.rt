@@ -1,4 +1,4 @@
-//! The lending of a lot, and its way back.
+//! The lending of a lot, and its return.
 
 ghost use Rattle.std.specs.Prelude.{◌≡◌, ◌≤◌, ◌++◌, false, All, IfOk, OnOk};
 ghost use Rattle.nc_num.specs.Sizes.{IsBlockSize};
@@ -22,12 +22,12 @@ fn lot_parts(alloc: Global, by: &Lender, lot: &Lot) -> Result<Vec<Part>, NoMemor
     ensures value { IfOk result (λ ps. ps.items ≡ parts (fixed_by by.now) lot.now) }
     ensures each { IfOk result (λ ps. All IsPart ps.items) }
 {
-    // they say that each part is one
+    // the clauses of `entries` say that each part is one
     let _entries = lot.list.entries();
     lot.list.parts(alloc, by.slots_at)
 }
 
-/// What is done before a lot may be lent: the lending plan without its fence, which stands last.
+/// Returns what is done before a lot may be lent: the lending plan without the fence at its end.
 #[tactic(auto, unfolding(nc_plan::specs::Plans::lending))]
 fn carried(alloc: Global, by: &Lender, lot: &Lot) -> Result<Vec<HartOp>, NoMemory>
     requires size { IsBlockSize by.now.size }
@@ -41,7 +41,7 @@ fn carried(alloc: Global, by: &Lender, lot: &Lot) -> Result<Vec<HartOp>, NoMemor
     Ok(ops)
 }
 
-/// A marker of W before O, and a token of the lot.
+/// Makes a marker of W before O, and a token of the lot.
 fn token_steps(lot: &Lot) -> [Step; 2]
     ensures { result ≡ rules.token_steps lot.now }
 {
@@ -55,7 +55,7 @@ fn token_steps(lot: &Lot) -> [Step; 2]
     ]
 }
 
-/// Puts the end of a lending behind the steps: a full fence, or with light fences a token.
+/// Appends the end of a lending: a full fence, or a token where fences are light.
 pub(crate) fn push_lending_end(
     steps: &mut Vec<Step>,
     by: &Lender,
@@ -71,7 +71,7 @@ pub(crate) fn push_lending_end(
     }
 }
 
-/// Puts the lending of a lot behind the steps.
+/// Appends the lending of a lot.
 pub(crate) fn push_lending(steps: &mut Vec<Step>, by: &Lender, lot: &Lot) -> Result<(), NoMemory>
     requires size { IsBlockSize by.now.size }
     requires slots { by.now.slots_at ≤ 1048576 }
@@ -83,7 +83,7 @@ pub(crate) fn push_lending(steps: &mut Vec<Step>, by: &Lender, lot: &Lot) -> Res
     push_lending_end(steps, by, lot)
 }
 
-/// Puts the way back of a lot behind the steps, of which the last makes this turn.
+/// Appends the return of a lot, whose last step makes this turn.
 pub(crate) fn push_return(
     steps: &mut Vec<Step>,
     by: &Lender,

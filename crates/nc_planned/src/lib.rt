@@ -1,8 +1,9 @@
-//! The plans of operations as steps, which follow the start step of an operation that has one, and their answers.
+//! The plans of operations as steps, which follow the start step of an operation that has one, and the answers of
+//! operations.
 //!
-//! The contract for the crates above: `plan_of`, `good_answer`, `bad_answer` and `waited_label` are nc_rules' definitions
-//! of the same names, for every operation. A file holds a family of operations, as in nc_rules; `plans` and `answers`
-//! alone name them all. The driver stands above.
+//! The contract for the crates above: `plan_of`, `good_answer`, `bad_answer` and `waited_label` are nc_rules'
+//! definitions of the same names, for every operation. A file holds a family of operations, as in nc_rules; `plans` and
+//! `answers` alone name them all. The driver stands above.
 #![tactic(auto)]
 
 mod answers;

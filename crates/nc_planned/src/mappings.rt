@@ -26,7 +26,7 @@ fn is_synced(lot: &Lot) -> bool
     }
 }
 
-/// Puts the lending of a new mapping or list, the lot of this label and kind, behind the steps.
+/// Appends the lending of a new mapping or list, the lot of this label and kind.
 pub(crate) fn push_map(
     steps: &mut Vec<Step>,
     by: &Lender,
@@ -45,7 +45,7 @@ pub(crate) fn push_map(
     }
 }
 
-/// Puts the way back and the end of a mapping behind the steps.
+/// Appends the return and the end of a mapping, where it is not synced for the hart.
 pub(crate) fn push_unmap(
     steps: &mut Vec<Step>,
     by: &Lender,
@@ -63,7 +63,7 @@ pub(crate) fn push_unmap(
     }
 }
 
-/// Puts the way back of a mapping that is synced for the hart behind the steps.
+/// Appends the return of a mapping that is to be synced for the hart.
 pub(crate) fn push_to_cpu(
     steps: &mut Vec<Step>,
     by: &Lender,
@@ -81,7 +81,7 @@ pub(crate) fn push_to_cpu(
     }
 }
 
-/// Puts the lending of a mapping that was synced for the hart behind the steps.
+/// Appends the lending of a mapping that is synced for the hart.
 pub(crate) fn push_to_dev(
     steps: &mut Vec<Step>,
     by: &Lender,
@@ -99,7 +99,7 @@ pub(crate) fn push_to_dev(
     }
 }
 
-/// Mapped, with the address of its device range on the bus.
+/// Returns the answer of a map, with the bus address of the mapping's device range.
 pub(crate) fn mapped_answer(slots_at: u32, lots: &[Lot], label: Label) -> Option<Answer>
     requires { slots_at ≤ 1048576 }
     ensures { (f : DriverConfig) → f.slots_at ≡ slots_at → result ≡ rules.mapped_answer f (lot_named lots.now label Single) }

@@ -1,4 +1,4 @@
-//! Lots by their names, whose entries have the slots that they need.
+//! Lots by their names, where each entry that bounces has its slot.
 
 ghost use Rattle.std.specs.Prelude.{◌≡◌, false, All, IfSome, option_map};
 ghost use Rattle.std.specs.List.{find};
@@ -8,7 +8,7 @@ use nc_lots::{lot_named, lot_of};
 use nc_num::Label;
 use nc_rules::{Kind, Lot, LotId};
 
-/// The first lot of this label and kind, of lots that have their slots. None exactly where there is none.
+/// Returns the first lot of this label and kind, of lots that have their slots. None exactly where no lot has both.
 #[tactic(auto, using(crate::proofs::LotLaws::all_contained))]
 pub(crate) fn placed_lot(lots: &[Lot], label: Label, kind: Kind) -> Option<&Lot>
     requires { All (λ lot. lot_waits lot ≡ false) lots.now }
@@ -18,7 +18,7 @@ pub(crate) fn placed_lot(lots: &[Lot], label: Label, kind: Kind) -> Option<&Lot>
     lot_named(lots, label, kind)
 }
 
-/// The first lot of this name, of lots that have their slots. None exactly where there is none.
+/// Returns the first lot of this name, of lots that have their slots. None exactly where no lot has it.
 #[tactic(auto, using(crate::proofs::LotLaws::all_contained))]
 pub(crate) fn placed_end(lots: &[Lot], id: LotId) -> Option<&Lot>
     requires { All (λ lot. lot_waits lot ≡ false) lots.now }

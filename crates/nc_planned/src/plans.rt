@@ -18,7 +18,7 @@ use nc_scen::Op;
 use std::alloc::Global;
 use std::collections::VecDeque;
 
-/// Puts the plan of an operation behind the steps.
+/// Appends the plan of an operation.
 #[tactic(auto, unfolding(nc_rules::specs::Operations::plan_of, nc_rules::specs::Operations::meaning, nc_rules::specs::Accesses::load, nc_rules::specs::Accesses::store, nc_rules::specs::CacheOps::cache_operation, nc_rules::specs::CacheOps::fence, nc_rules::specs::Handing::hand, nc_rules::specs::Handing::take, nc_rules::specs::Channels::claim, nc_rules::specs::Channels::free, nc_rules::specs::Channels::set_up, nc_rules::specs::Channels::run, nc_rules::specs::Channels::poll, nc_rules::specs::Channels::read_register, nc_rules::specs::Channels::write_register, nc_rules::specs::Mappings::map_single, nc_rules::specs::Mappings::unmap_single, nc_rules::specs::Mappings::sync_for_cpu, nc_rules::specs::Mappings::sync_for_device, nc_rules::specs::ScatterLists::map_sg, nc_rules::specs::ScatterLists::unmap_sg, nc_rules::specs::Areas::calloc, nc_rules::specs::Areas::give_area, nc_rules::specs::Areas::take_area, nc_rules::specs::Areas::free_area, nc_rules::specs::Copies::copy))]
 fn push_plan(steps: &mut Vec<Step>, by: &Lender, lots: &[Lot], op: &Op) -> Result<(), NoMemory>
     requires size { IsBlockSize by.now.size }
@@ -54,9 +54,12 @@ fn push_plan(steps: &mut Vec<Step>, by: &Lender, lots: &[Lot], op: &Op) -> Resul
     }
 }
 
-/// The plan of an operation, which follows its start; an operation whose steps go by their number has an empty one. The
-/// lots are those that the hart has, the new ones among them, and each of their entries that bounces has its slot. The
-/// error is want of memory.
+/// Returns the plan of an operation, which follows its start; it is empty for an operation without a start step. The
+/// lots are those that the hart has, the new ones among them, and each of their entries that bounces has its slot.
+///
+/// # Errors
+///
+/// `NoMemory` where memory runs out.
 #[tactic(auto, using(crate::proofs::PlanLaws::plans_by))]
 pub fn plan_of(
     alloc: Global,

@@ -14,7 +14,7 @@ use crate::placed::placed_lot;
 use nc_num::{Label, NoMemory};
 use nc_rules::{Answer, Kind, Lot, Step, Turn};
 
-/// Puts the way back and the end of a list behind the steps.
+/// Appends the return and the end of a list.
 pub(crate) fn push_unmap_sg(
     steps: &mut Vec<Step>,
     by: &Lender,

@@ -15,7 +15,7 @@ pub(crate) const W: u8 = 1;
 /// The FENCE bit of stores to I/O (RISC-V FENCE).
 pub(crate) const O: u8 = 4;
 
-/// A step without a turn.
+/// Makes a step without a turn.
 pub fn plain(act: Act) -> Step
     ensures { result ≡ rules.step act }
 {
@@ -26,28 +26,28 @@ pub fn plain(act: Act) -> Step
     }
 }
 
-/// A step that is an operation of the hart.
+/// Makes a step that is an operation of the hart.
 pub fn hart_step(op: HartOp) -> Step
     ensures { result ≡ rules.hart_step op }
 {
     plain(Act::Op(op))
 }
 
-/// The step with this turn as its last.
+/// Returns a step with this turn as its last.
 pub fn turning(turn: Turn, step: Step) -> Step
     ensures { result ≡ rules.turning turn step }
 {
     Step { last: turn, ..step }
 }
 
-/// Step n of an operation that has one.
+/// Returns step `n`, counted from 0, of an operation that has this step alone.
 pub fn single(step: Step, n: u32) -> Option<Step>
     ensures { result ≡ rules.single step n }
 {
     if n == 0 { Some(step) } else { None }
 }
 
-/// A store to a channel's Control.
+/// Makes a store of 4 bytes to a channel's Control.
 pub fn control_step(chan: ChanNo, value: u64) -> Step
     ensures { result ≡ rules.control_step chan value }
 {
@@ -59,14 +59,14 @@ pub fn control_step(chan: ChanNo, value: u64) -> Step
     }))
 }
 
-/// A full fence, FENCE iorw, iorw, with this turn as its last.
+/// Makes a full fence, FENCE iorw, iorw, with this turn as its last.
 pub(crate) fn full_step(turn: Turn) -> Step
     ensures { result ≡ rules.turning turn (rules.hart_step full) }
 {
     turning(turn, hart_step(HartOp::Fence { pred: 15, succ: 15 }))
 }
 
-/// Puts a step behind the others. The error is want of memory.
+/// Appends a step. Fails where memory runs out.
 pub(crate) fn push(steps: &mut Vec<Step>, step: Step) -> Result<(), NoMemory>
     ensures { OnOk result (steps.new.items ≡ steps.old.items ++ step ∷ []) }
 {
@@ -83,7 +83,7 @@ pub(crate) fn push(steps: &mut Vec<Step>, step: Step) -> Result<(), NoMemory>
     Ok(())
 }
 
-/// Puts a step for each operation behind the others. The error is want of memory.
+/// Appends a step for each operation. Fails where memory runs out.
 pub(crate) fn push_ops(steps: &mut Vec<Step>, ops: &[HartOp]) -> Result<(), NoMemory>
     ensures { OnOk result (steps.new.items ≡ steps.old.items ++ rules.op_steps ops.now) }
 {
@@ -93,8 +93,7 @@ pub(crate) fn push_ops(steps: &mut Vec<Step>, ops: &[HartOp]) -> Result<(), NoMe
     Ok(())
 }
 
-/// Puts a step for each operation behind the others, where the last of the new ones makes this turn. The error is want
-/// of memory.
+/// Appends a step for each operation, of which the last makes this turn. Fails where memory runs out.
 pub(crate) fn push_ending(
     steps: &mut Vec<Step>,
     mut ops: Vec<HartOp>,
@@ -110,7 +109,7 @@ pub(crate) fn push_ending(
     }
 }
 
-/// The first of the steps from this number on, where there is one, makes this turn first.
+/// Sets the first turn of the step at the index `from`, where there is such a step.
 pub(crate) fn begin_at(steps: &mut Vec<Step>, from: usize, turn: Turn)
     requires { from ≤ length steps.old.items }
     ensures { steps.new.items ≡ take from steps.old.items ++ rules.beginning turn (drop from steps.old.items) }

@@ -27,7 +27,7 @@ fn refused_text(alloc: Global, refused: &Refused) -> Result<String, AllocError>
     }
 }
 
-/// Returns the line that tells what is wrong with an input.
+/// Returns the line that says why an input is refused.
 ///
 /// # Errors
 ///

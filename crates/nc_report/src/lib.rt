@@ -1,6 +1,6 @@
 //! The lines of a report: those of events and their records, those after all events, and the line of a refused input.
 //!
-//! The contract for the layer above: each text is exactly the written one, to the byte, or memory ran out.
+//! The contract for the layer above: each text is exactly the written one, byte for byte, or memory ran out.
 #![tactic(auto)]
 
 mod after;

@@ -1,4 +1,4 @@
-//! A line for each record. Each function here writes one form of line behind a text.
+//! A line for each record. Each function here writes one form of line at the end of a text.
 
 ghost use Rattle.std.specs.Prelude.{◌≡◌, ◌++◌, [], ◌∷◌, decimal, OnOk, IfOk};
 ghost use Rattle.std.specs.List.{flat_map};
@@ -51,7 +51,7 @@ fn touch(text: &mut Vec<u8>, t: Touch) -> Result<(), AllocError>
     put::byte(text, b'\n')
 }
 
-/// Writes the bytes of a hart or a channel at a place, behind this word and its number.
+/// Writes the bytes of a hart or a channel at a place, after this word and the index of the hart or channel.
 fn piece(text: &mut Vec<u8>, word: &str, n: u8, at: Place, bytes: &Bytes) -> Result<(), AllocError>
     ensures { OnOk result (text.new.items ≡ text.old.items
         ++ words (word.now ∷ decimal n ∷ place at ∷ encode_lower bytes.now ∷ [])) }
@@ -63,7 +63,7 @@ fn piece(text: &mut Vec<u8>, word: &str, n: u8, at: Place, bytes: &Bytes) -> Res
     put::byte(text, b'\n')
 }
 
-/// Writes a cache operation on a block, behind this word.
+/// Writes a cache operation on a block, after this word.
 fn operation(
     text: &mut Vec<u8>,
     word: &str,
@@ -81,7 +81,7 @@ fn operation(
     put::byte(text, b'\n')
 }
 
-/// Writes a fence's sets, behind this word.
+/// Writes a fence's sets, after this word.
 fn sets(text: &mut Vec<u8>, word: &str, hart: HartNo, pred: u8, succ: u8) -> Result<(), AllocError>
     ensures { OnOk result (text.new.items ≡ text.old.items
         ++ words (word.now ∷ decimal hart.0 ∷ decimal pred ∷ decimal succ ∷ [])) }
@@ -91,7 +91,7 @@ fn sets(text: &mut Vec<u8>, word: &str, hart: HartNo, pred: u8, succ: u8) -> Res
     put::byte(text, b'\n')
 }
 
-/// Writes an IO store, behind this word.
+/// Writes an IO store, after this word.
 fn target(text: &mut Vec<u8>, word: &str, hart: HartNo, to: IoTarget) -> Result<(), AllocError>
     ensures { OnOk result (text.new.items ≡ text.old.items
         ++ words (word.now ∷ decimal hart.0 ∷ target to ∷ [])) }
@@ -127,7 +127,7 @@ fn origin(text: &mut Vec<u8>, from: &Origin) -> Result<(), AllocError>
     }
 }
 
-/// Writes a copy that came, behind this word.
+/// Writes a copy that came, after this word.
 fn copy(
     text: &mut Vec<u8>,
     word: &str,
@@ -214,7 +214,7 @@ fn answered(text: &mut Vec<u8>, hart: HartNo, op: u32, answer: &Answer) -> Resul
     put::byte(text, b'\n')
 }
 
-/// Writes the line of a record behind a text.
+/// Writes the line of a record at the end of a text.
 fn put_line(text: &mut Vec<u8>, entry: &Record) -> Result<(), AllocError>
     ensures { OnOk result (text.new.items ≡ text.old.items ++ line entry.now) }
 {

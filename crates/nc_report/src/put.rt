@@ -1,4 +1,4 @@
-//! Bytes, numbers and digits, put behind a text with no text between.
+//! Bytes, numbers and digits, put at the end of a text with nothing between them.
 
 ghost use Rattle.std.specs.Prelude.{◌≡◌, ◌≤◌, ◌<◌, ◌*◌, ◌/◌, ◌%◌, ◌++◌, ◌∷◌, [], length, decimal, false, OnOk};
 ghost use Rattle.std.specs.Fmt.{digit_glyph};

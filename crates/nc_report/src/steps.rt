@@ -17,12 +17,13 @@ use nc_scen::Event;
 use nc_world::{Stepped, World};
 use std::alloc::Global;
 
-/// Makes one event, writes the lines of its records in one piece, and drops the records.
+/// Makes one event, writes the lines of its records to `out` in one piece, and removes the records. No records wait
+/// before, and the hart, block or channel of the event exists. Returns whether the event was done or skipped.
 ///
 /// # Errors
 ///
-/// `Failed` where the write failed: the world is stepped. `NoMemory` where memory runs out: the world is stepped or as
-/// before. In both cases a prefix of the lines was written, no records wait, and more events may follow.
+/// `Failed` where the write failed: the event is made. `NoMemory` where memory runs out: the event is made, or the
+/// world is unchanged. In both cases a prefix of the lines was written, no records wait, and more events may follow.
 pub fn step_out<K: Sink>(
     alloc: Global,
     w: &mut World,

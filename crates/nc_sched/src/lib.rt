@@ -1,8 +1,8 @@
-//! The schedule of a scenario: which event is tried next.
+//! The schedule of a scenario: the order in which events are tried.
 //!
 //! A list of tokens or seeded draws comes first, then finishing rounds where they are wanted, and at most as many
-//! events in all as the limit. The contract for the layer above: `Sched::next` gives, one after another, exactly the
-//! events of the written schedule; and a run that is made again by its done events alone writes the same report.
+//! events in all as the limit. The contract for the layer above: `Sched::next` returns, one after another, exactly the
+//! events of the written schedule; and a run made again from its done events alone writes the same report.
 #![tactic(auto)]
 
 mod laws;

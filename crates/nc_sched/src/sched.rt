@@ -19,24 +19,24 @@ use std::marker::Model;
 /// The stream of the generator that draws a seeded schedule.
 pub const STREAM: u64 = 54;
 
-/// Where a schedule stands.
+/// The position of a schedule.
 #[derive(Clone, Copy, Debug, PartialEq, Eq)]
 pub enum Phase {
-    /// At this place of the list.
+    /// In the list, before the event of this index.
     List(usize),
-    /// At a draw, with so many draws left.
+    /// Before a draw, with this many draws left.
     Drawn(u64),
     /// In a finishing round.
     Round {
-        /// The place in the round.
+        /// The index in the round of the next event.
         at: usize,
         /// Whether an event of the round was done, before the last one.
         moved: bool,
     },
 }
 
-/// The events of a scenario's schedule, a list or seeded draws, and then its finishing rounds, at most as many as its
-/// limit.
+/// The events of a scenario's schedule: a list or seeded draws, and then finishing rounds, at most as many events as
+/// the limit.
 #[derive(Drop)]
 pub struct Sched {
     left: u64,
@@ -52,13 +52,13 @@ impl Model for Sched {
     ghost view = { λ s. record { left = s.left; phase = s.phase; generator = s.generator } };
 }
 
-/// At the start of a round.
+/// The start of a finishing round.
 const ROUND_START: Phase = Phase::Round {
     at: 0,
     moved: false,
 };
 
-/// The listed events of a plan.
+/// Returns the listed events of a plan; none where its events are drawn.
 fn listed(plan: &Plan) -> &[Event]
     ensures { result.now ≡ listed plan.now }
 {
@@ -68,7 +68,7 @@ fn listed(plan: &Plan) -> &[Event]
     }
 }
 
-/// Where a plan begins.
+/// Returns the first position of a plan.
 fn first_phase(plan: &Plan) -> Phase
     ensures { result ≡ first_phase plan.now }
 {
@@ -78,7 +78,7 @@ fn first_phase(plan: &Plan) -> Phase
     }
 }
 
-/// The seed of a plan, 0 where its events are listed.
+/// Returns the seed of a plan, 0 where its events are listed.
 pub fn seed_of(plan: &Plan) -> u64
     ensures { result ≡ seed_of plan.now }
 {
@@ -88,7 +88,7 @@ pub fn seed_of(plan: &Plan) -> u64
     }
 }
 
-/// A driver's turn: a try where it searches for a slot, else its next step.
+/// Returns the event of a driver's turn: a try where it searches for a slot, else its next step.
 fn turn_event(w: &World, h: HartNo) -> Event
     requires { h.0 < length w.now.state.machine.harts }
     ensures { result ≡ turn_event w.now.state h.0 }
@@ -99,7 +99,7 @@ fn turn_event(w: &World, h: HartNo) -> Event
     Event::Issue(h)
 }
 
-/// The event of two words that were drawn.
+/// Returns the event that two drawn words give.
 fn event_of(w: &World, harts: u32, blocks: u32, a: u32, b: u32) -> Event
     requires some { 0 < harts }
     requires few { harts ≤ 4 }
@@ -128,7 +128,7 @@ fn event_of(w: &World, harts: u32, blocks: u32, a: u32, b: u32) -> Event
     Event::Evict(hart, Block(b % blocks))
 }
 
-/// The event of a channel in a round, of which the first is a read of channel 0.
+/// Returns event `j`, 0 to 7, of the channels in a finishing round: for each channel in order a read and then a write.
 pub fn channel_event(j: usize) -> Event
     requires { j < 8 }
     ensures { result ≡ channel_event j }
@@ -140,7 +140,7 @@ pub fn channel_event(j: usize) -> Event
     Event::ChanWrite(chan)
 }
 
-/// Event i of a finishing round.
+/// Returns event `i` of a finishing round.
 fn round_event(w: &World, harts: usize, i: usize) -> Event
     requires few { harts ≤ 4 }
     requires harts { harts ≡ length w.now.state.machine.harts }
@@ -156,7 +156,7 @@ fn round_event(w: &World, harts: usize, i: usize) -> Event
     channel_event(i - 2 * harts)
 }
 
-/// Where the schedule stands once the last event is answered.
+/// Returns the position once the last event is answered.
 fn after_answer(phase: Phase, last: Option<Stepped>) -> Phase
     ensures { result ≡ after_answer phase (is_done last) }
 {
@@ -170,7 +170,7 @@ fn after_answer(phase: Phase, last: Option<Stepped>) -> Phase
     }
 }
 
-/// At the start of a round, where one begins here.
+/// Returns the start of a finishing round where one begins at this position, else the position.
 fn enter_round(sc: &Scenario, phase: Phase) -> Phase
     requires { IsAccepted sc.now }
     ensures { result ≡ enter_round sc.now phase }
@@ -198,7 +198,7 @@ fn enter_round(sc: &Scenario, phase: Phase) -> Phase
 }
 
 impl Sched {
-    /// At the start of a scenario's schedule.
+    /// Makes the schedule of a scenario, before its first event.
     pub fn new(sc: &Scenario) -> Sched
         ensures first { result ≡ first_stand sc.now }
         ensures whole { to_come sc.now result (start sc.now) (is_done None) ≡ sched sc.now }
@@ -210,7 +210,7 @@ impl Sched {
         }
     }
 
-    /// At the start of finishing rounds, in which so many events may still be tried.
+    /// Makes a schedule at the start of finishing rounds, in which at most `left` more events are tried.
     pub fn rounds(left: u64) -> Sched
         ensures { result ≡ record { left = left; phase = Phase.Round 0 false; generator = begun 0 } }
     {
@@ -239,7 +239,7 @@ impl Sched {
         )
     }
 
-    /// The event at which the settled schedule stands; it then stands behind it.
+    /// Returns the event at the position `phase` and advances past it, or None where there is none.
     fn take_event(&mut self, sc: &Scenario, w: &World, phase: Phase) -> Option<Event>
         requires accepted { IsAccepted sc.now }
         requires harts { length w.now.state.machine.harts ≡ length sc.now.harts }
@@ -271,8 +271,9 @@ impl Sched {
         }
     }
 
-    /// The next event that is tried; none at the end. The scenario is the one of `new`, the world is the run of the events
-    /// given so far, and `last` is the answer to the last of them, none before the first.
+    /// Returns the next event to try and advances past it, or None where the schedule is at its end. The scenario is
+    /// the one of `new`, the world is the run of the events returned so far, and `last` is the answer to the last of
+    /// them, None before the first. The hart, block or channel of the event exists.
     pub fn next(&mut self, sc: &Scenario, w: &World, last: Option<Stepped>) -> Option<Event>
         requires accepted { IsAccepted sc.now }
         requires harts { length w.now.state.machine.harts ≡ length sc.now.harts }

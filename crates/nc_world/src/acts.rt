@@ -23,7 +23,7 @@ use nc_plan::HartOp;
 use nc_queue::Entry;
 use nc_rules::{Next, Seen};
 
-/// Whether a transfer is over, by the channel's Control: bit 30 (done) or bit 31 (error) is set.
+/// Returns whether a transfer is over, by the channel's Control: bit 30 (done) or bit 31 (error) is set.
 pub(crate) fn is_over(control: u32) -> bool
     ensures { result ≡ is_over control }
 {
@@ -32,7 +32,7 @@ pub(crate) fn is_over(control: u32) -> bool
 
 // ---- a driver's step
 
-/// What hart h's next step sees: what a register holds, whom a channel is granted to, or Control.
+/// Returns what hart h's next step sees: the value of a register, the hart that a channel is granted to, or Control.
 pub(crate) fn seen(machine: &Machine, h: HartNo, next: &Next) -> Seen
     requires hart { h.0 < length machine.now.machine.harts }
     requires there { NextFits machine.now.machine h.0 next.now }
@@ -49,7 +49,7 @@ pub(crate) fn seen(machine: &Machine, h: HartNo, next: &Next) -> Seen
     }
 }
 
-/// What a hart's operation shows its driver: a load of a register its value.
+/// Returns what a hart's operation shows its driver: a load of a register shows the register's value.
 fn seen_by(machine: &Machine, h: HartNo, op: &HartOp) -> Seen
     requires { OpIsThere machine.now.machine h.0 op.now }
     ensures { result ≡ seen_of (issue_answer machine.now.machine h.0 op.now) }
@@ -100,7 +100,7 @@ pub(crate) fn act(
     }
 }
 
-/// Hart h issues an operation, which is recorded.
+/// Has hart h issue an operation, and records it.
 fn issue(machine: &mut Machine, log: &mut Log, size: u32, h: HartNo, by_script: bool, op: &HartOp)
     requires size { size ≡ machine.old.machine.size }
     requires hart { h.0 < length machine.old.machine.harts }
@@ -129,7 +129,7 @@ pub(crate) fn peek(machine: &Machine, h: HartNo, i: u8) -> Option<Entry>
     machine.peek(h, i)
 }
 
-/// Entry i of hart h's queue, this one, leaves it, and is recorded with the transfers that it makes.
+/// Drains entry i of hart h's queue, which is `entry`, and records it with its bus transfers.
 pub(crate) fn drain(
     machine: &mut Machine,
     log: &mut Log,

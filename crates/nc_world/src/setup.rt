@@ -13,7 +13,7 @@ use nc_own::Book;
 use nc_scen::{BufferSpec, Scenario};
 use std::alloc::Global;
 
-/// A driver for each hart.
+/// Makes a driver for each hart.
 pub(crate) fn drivers_of(alloc: Global, sc: &Scenario) -> Result<Vec<Driver>, NoMemory>
     requires { IsAccepted sc.now }
     ensures { IfOk result (λ v. v.items ≡ map (λ h. first_driver sc.now (hart h)) (range_with_len 0 (length sc.now.harts))) }
@@ -26,7 +26,7 @@ pub(crate) fn drivers_of(alloc: Global, sc: &Scenario) -> Result<Vec<Driver>, No
     Ok(drivers)
 }
 
-/// Each buffer's bytes are its hart's own.
+/// Gives each buffer's bytes to its hart.
 fn own_buffers(book: &mut Book, buffers: &[BufferSpec])
     requires room { length buffers.now ≤ book.old.spare }
     requires inside { All (λ b. (0 < b.span.len) × (b.span.at + b.span.len ≤ length book.old.owners)) buffers.now }
@@ -38,7 +38,7 @@ fn own_buffers(book: &mut Book, buffers: &[BufferSpec])
     }
 }
 
-/// The book in which the buffers are their harts', and all else is the pool's.
+/// Makes the book in which the buffers are their harts', and all other bytes are the pool's.
 #[tactic(auto, unfolding(nc_rules::specs::World::first_owners))]
 pub(crate) fn book_of(alloc: Global, sc: &Scenario) -> Result<Book, NoMemory>
     requires { IsAccepted sc.now }

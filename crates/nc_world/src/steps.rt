@@ -46,7 +46,7 @@ pub(crate) fn reserve(machine: &mut Machine, book: &mut Book, log: &mut Log) -> 
 
 // ---- a driver goes on
 
-/// The driver of hart h makes its next step, which saw this.
+/// Makes the next step of hart h's driver, which saw `saw`.
 pub(crate) fn issue_step(
     drivers: &mut Vec<Driver>,
     h: HartNo,
@@ -89,7 +89,7 @@ fn start(
     driver.start(book, pages)
 }
 
-/// The driver of hart h is told what the step saw that the machine makes.
+/// Tells the driver of hart h what the step saw that the machine makes.
 fn done(drivers: &mut Vec<Driver>, h: HartNo, saw: Seen) -> Result<Moves, NoMemory>
     requires hart { h.0 < length drivers.old.items }
     requires next { is_act (due.next_of (slice_index_or drivers.old.items h.0 no_driver)) ≡ true }
@@ -102,7 +102,7 @@ fn done(drivers: &mut Vec<Driver>, h: HartNo, saw: Seen) -> Result<Moves, NoMemo
     driver.done(saw)
 }
 
-/// The driver of hart h is told whether the slot word is got that it tried.
+/// Tells the driver of hart h whether it got the slot word that it tried.
 pub(crate) fn told(drivers: &mut Vec<Driver>, h: HartNo, got: bool) -> Result<Moves, NoMemory>
     requires { h.0 < length drivers.old.items }
     ensures driver { IfOk result (λ m. drivers.new.items ≡ slice_set drivers.old.items h.0 (due.told (slice_index_or drivers.old.items h.0 no_driver) got).driver) }
@@ -113,7 +113,7 @@ pub(crate) fn told(drivers: &mut Vec<Driver>, h: HartNo, got: bool) -> Result<Mo
     driver.told(got)
 }
 
-/// The driver of hart h is told that a token is out of its queue.
+/// Tells the driver of hart h that a token has left its queue.
 pub(crate) fn lent(
     drivers: &mut Vec<Driver>,
     h: HartNo,
@@ -143,14 +143,14 @@ pub(crate) fn is_free(holder: Option<HartNo>) -> bool
     }
 }
 
-/// Whether a word is got that was told as got or missed: one that is held is not.
+/// Returns whether a word is got that was told as got or missed: one that is held is not.
 pub(crate) fn is_got(told: bool, holder: Option<HartNo>) -> bool
     ensures { result ≡ got_word told holder }
 {
     told && is_free(holder)
 }
 
-/// Hart h takes slot word k where it is free, if so it was told.
+/// Takes slot word k for hart h where the word is free, if the hart was told that it got it.
 pub(crate) fn take_word(slots: &mut Slots, h: HartNo, k: u32, got: bool)
     requires { k < length slots.old }
     ensures { slots.new ≡ told_slots got slots.old h k }
@@ -160,7 +160,7 @@ pub(crate) fn take_word(slots: &mut Slots, h: HartNo, k: u32, got: bool)
     }
 }
 
-// ---- what it moves is moved
+// ---- the moves are carried out
 
 /// Moves what a call of hart h's driver moves: owners, then new grants, then grants that end, slots and pages.
 pub(crate) fn carry(
@@ -247,14 +247,14 @@ fn move_pages(pages: &mut PagePool, moved: PageMove)
 
 // ---- counts, and a channel's step
 
-/// One more event.
+/// Returns a count plus one, at most 2^64 - 1.
 pub(crate) fn one_more(n: u64) -> u64
     ensures { result ≡ one_more n }
 {
     n.saturating_add(1)
 }
 
-/// One more touch, where there is one.
+/// Returns the count of touches after an event; `touch` is the event's touch, if it is one.
 pub(crate) fn touches_after(touches: u64, touch: Option<Touch>) -> u64
     ensures { result ≡ touches_after touches touch }
 {

@@ -43,12 +43,12 @@ use nc_touch::{Look, hart_touch, register_touch};
 use std::alloc::Global;
 use std::marker::Model;
 
-/// Whether an event was done.
+/// The outcome of an event.
 #[derive(Clone, Copy, Debug, PartialEq, Eq)]
 pub enum Stepped {
-    /// It was done, and has its records.
+    /// The event was done, and has its records.
     Done,
-    /// It could not happen, and changed nothing.
+    /// The event could not happen, and changed nothing.
     Skipped,
 }
 
@@ -93,7 +93,7 @@ impl Model for World {
 impl World {
     // ---- the start
 
-    /// The world at the start of a scenario.
+    /// Makes the world at the start of a scenario, without records.
     ///
     /// # Errors
     ///
@@ -121,7 +121,8 @@ impl World {
 
     // ---- one event
 
-    /// Makes one event, or skips it where it may not happen. The hart, block or channel that it names is there.
+    /// Makes one event, or skips it where it may not happen. The hart, block or channel that it names exists. Returns
+    /// whether the event was done.
     ///
     /// # Errors
     ///
@@ -138,16 +139,16 @@ impl World {
         self.dispatch(e)
     }
 
-    // ---- looks
+    // ---- queries
 
-    /// The records since they were last taken.
+    /// Returns the records since they were last taken, in order.
     pub fn records(&self) -> &[Record]
         ensures { result.now ≡ self.now.records }
     {
         self.log.as_slice()
     }
 
-    /// Hands the records over, and leaves none. It takes no memory.
+    /// Returns the records, and leaves none. It takes no memory.
     pub fn take_records(&mut self) -> RecordList
         ensures taken { result ≡ self.old.records }
         ensures state { self.new.state ≡ self.old.state }
@@ -156,7 +157,7 @@ impl World {
         self.log.take()
     }
 
-    /// Drops the records. It takes no memory, and the next event finds the room for its records here.
+    /// Removes the records. It takes no memory, and the next event finds the room for its records here.
     pub fn clear_records(&mut self)
         ensures state { self.new.state ≡ self.old.state }
         ensures none { self.new.records ≡ [] }
@@ -164,21 +165,21 @@ impl World {
         self.log.clear();
     }
 
-    /// How many events were done.
+    /// Returns the number of events that were done. The count does not pass 2^64 - 1.
     pub fn events(&self) -> u64
         ensures { result ≡ self.now.state.events }
     {
         self.events
     }
 
-    /// How many touches were reported.
+    /// Returns the number of touches that were reported. The count does not pass 2^64 - 1.
     pub fn touches(&self) -> u64
         ensures { result ≡ self.now.state.touches }
     {
         self.touches
     }
 
-    /// The slot word that the search of hart h's driver tries next; None where it is at no search.
+    /// Returns the slot word that the search of hart h's driver tries next, or None where the driver is at no search.
     #[tactic(auto, unfolding(nc_rules::specs::Driver::searching))]
     pub fn searching(&self, h: HartNo) -> Option<u32>
         requires { h.0 < length self.now.state.machine.harts }
@@ -195,7 +196,7 @@ impl World {
         }
     }
 
-    /// The number of the operation in hand of hart h's script, counted from 0; None at the script's end.
+    /// Returns the index of the current operation of hart h's script, counted from 0, or None at the script's end.
     pub fn left(&self, h: HartNo) -> Option<u32>
         requires { h.0 < length self.now.state.machine.harts }
         ensures { result ≡ left_op (driver_of self.now.state h.0) }
@@ -203,21 +204,21 @@ impl World {
         self.drivers[usize::from(h.0)].left()
     }
 
-    /// The hart that holds slot word k; None exactly where it is free or not there.
+    /// Returns the hart that holds slot word `k`. None exactly where the word is free or `k` is out of range.
     pub fn holder(&self, k: u32) -> Option<HartNo>
         ensures { result ≡ holder_of self.now.state.slots k }
     {
         self.slots.holder(k)
     }
 
-    /// Whether every script is at its end and every store queue is empty.
+    /// Returns whether every script is at its end and every store queue is empty.
     pub fn ended(&self) -> bool
         ensures { result ≡ is_ended self.now.state }
     {
         self.at_end() && self.are_empty()
     }
 
-    /// The bytes of a span in one block inside RAM: the caches', else memory's.
+    /// Returns the bytes of a span that lies in one block inside RAM: those of the caches, else those of memory.
     pub fn bytes(&self, span: Span) -> Bytes
         requires block { span.at % self.now.state.machine.size + span.len ≤ self.now.state.machine.size }
         requires inside { span.at + span.len ≤ length self.now.state.machine.cache.ram }
@@ -227,7 +228,7 @@ impl World {
         self.machine.bytes(span)
     }
 
-    /// How many harts there are: a driver, a store queue and a cache for each.
+    /// Returns the number of harts, 1 to 4. Each has a driver, a store queue and a cache.
     pub fn harts(&self) -> u8
         ensures machine { result ≡ length self.now.state.machine.harts }
         ensures drivers { result ≡ length self.now.state.drivers }
@@ -238,7 +239,7 @@ impl World {
         self.drivers.len() as u8
     }
 
-    // ---- what the looks are made of
+    // ---- the parts of the queries
 
     /// Whether every script is at its end.
     fn at_end(&self) -> bool
@@ -254,7 +255,7 @@ impl World {
         acts::are_empty(&self.machine, self.harts())
     }
 
-    /// What holds of every world.
+    /// Proves the invariant of every world.
     fn sound(&self)
         ensures machine { IsMachine self.now.state.machine }
         ensures holds { Holds self.now.state }
@@ -264,7 +265,7 @@ impl World {
         self.machine.sound();
     }
 
-    /// What holds of every world, and that each event keeps it.
+    /// Proves the invariant of every world, and that each event keeps it.
     fn laws(&self)
         ensures machine { IsMachine self.now.state.machine }
         ensures holds { Holds self.now.state }
@@ -277,7 +278,7 @@ impl World {
         moves_may_be_made();
     }
 
-    /// What the driver of hart h does next: it names what is there.
+    /// Returns what the driver of hart h does next. What it names exists.
     fn next_action(&self, h: HartNo) -> Next
         requires { h.0 < length self.now.state.machine.harts }
         ensures next { result ≡ next_of (driver_of self.now.state h.0) }
@@ -295,7 +296,7 @@ impl World {
         self.drivers[usize::from(h.0)].next(&self.book)
     }
 
-    /// The number of the operation in hand of hart h's script.
+    /// Returns the index of the current operation of hart h's script.
     fn number(&self, h: HartNo) -> u32
         requires { h.0 < length self.now.state.machine.harts }
         ensures { result ≡ (driver_of self.now.state h.0).op }
@@ -303,7 +304,8 @@ impl World {
         self.drivers[usize::from(h.0)].op()
     }
 
-    /// Whether that operation is made of the script's own accesses, and not of a plan's.
+    /// Returns whether the current operation of hart h's script is made of the script's own accesses, and not of a
+    /// plan's.
     fn is_script(&self, h: HartNo) -> bool
         requires { h.0 < length self.now.state.machine.harts }
         ensures { result ≡ is_script (driver_of self.now.state h.0).phase }
@@ -390,8 +392,9 @@ impl World {
 
     // ---- a driver's step
 
-    /// Whether the next step of hart h's driver may be made: an operation that the hart may issue; a claim, a poll and a
-    /// take once no entry of class O is queued, a poll once the transfer is over, and a take once the message is there.
+    /// Returns whether the next step of hart h's driver may be made: an operation once the hart may issue it; a claim,
+    /// a poll and a take once no entry of class O is queued; a poll once the transfer is over; and a take once the
+    /// message waits.
     fn may_go_on(&self, h: HartNo, next: &Next) -> bool
         requires hart { h.0 < length self.now.state.machine.harts }
         requires there { NextFits self.now.state.machine h.0 next.now }
@@ -407,7 +410,8 @@ impl World {
         }
     }
 
-    /// Whether the next step of hart h's driver, this one, may be made: no token that it waits for is in the hart's queue.
+    /// Returns whether the next step of hart h's driver, `next`, may be made: no token that it waits for is in the
+    /// hart's queue, and the step may go on.
     fn may_issue(&self, h: HartNo, next: &Next) -> bool
         requires hart { h.0 < length self.now.state.machine.harts }
         requires there { NextFits self.now.state.machine h.0 next.now }
@@ -434,7 +438,7 @@ impl World {
         }
     }
 
-    /// The event by its kind.
+    /// Makes an event by its kind.
     fn dispatch(&mut self, e: Event) -> Result<Stepped, NoMemory>
         requires there { IsThere (length self.old.state.machine.harts) self.old.state.machine.size (length self.old.state.machine.cache.ram) e }
         ensures answer { IfOk result (λ s. s ≡ answer self.old.state e) }
@@ -517,8 +521,8 @@ impl World {
         Ok(Stepped::Done)
     }
 
-    /// The search of hart h's driver, where it is at one, is told that its slot word is got, or is not. A word that is
-    /// held is not got, whatever was told.
+    /// Tells the search of hart h's driver, where it is at one, whether its slot word is got. A word that is held is
+    /// not got, whatever was told.
     fn tell_word(&mut self, h: HartNo, got: bool) -> Result<Stepped, NoMemory>
         requires { h.0 < length self.old.state.machine.harts }
         ensures answer { IfOk result (λ s. s ≡ answer self.old.state (Event.Told h got)) }
@@ -571,7 +575,7 @@ impl World {
         }
     }
 
-    /// Entry i of hart h's queue, this one, drains: no token.
+    /// Drains entry i of hart h's queue, which is `entry` and no token.
     fn drain_entry(&mut self, h: HartNo, i: u8, entry: &Entry) -> Result<Stepped, NoMemory>
         requires hart { h.0 < length self.old.state.machine.harts }
         requires leaves { leaving self.old.state.machine h.0 i ≡ Some entry.now }
@@ -592,7 +596,7 @@ impl World {
         Ok(Stepped::Done)
     }
 
-    /// Entry i of hart h's queue drains, a token: the lot of this name is the device's.
+    /// Drains entry i of hart h's queue, which is a token: the lot of this name is then the device's.
     fn drain_token(
         &mut self,
         h: HartNo,
