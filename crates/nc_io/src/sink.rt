@@ -9,7 +9,7 @@ ghost use Rattle.nc_io.specs.Streams.{GrowsByFront};
 /// The reason why a sink took no bytes.
 #[derive(Clone, Copy, Debug, PartialEq, Eq)]
 pub enum Stop {
-    /// The write failed, and the count of faults of the sink rose.
+    /// The write failed, and the sink's count of faults rose or stands at its limit.
     Failed,
     /// Memory ran out.
     NoMemory,

@@ -16,7 +16,7 @@ pub struct StdSource<R: Read> {
 }
 
 impl<R: Read> StdSource<R> {
-    /// Makes a source over this reader, which has not failed and has not told its end.
+    /// Makes a source over this reader, which has not failed and has not marked its end.
     pub fn new(inner: R) -> StdSource<R>
         ensures { result ≡ record { inner = inner; faults = 0; ended = false } }
     {

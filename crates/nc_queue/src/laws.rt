@@ -15,7 +15,7 @@ pub fn drain_law()
     ensures { DrainKeepsBytes }
 {}
 
-/// Proves that, where each of some entries of class W has a marker of W before O behind it, a later entry of class O
+/// Proves that, where each of some entries of class W has a marker of W before O after it, a later entry of class O
 /// that the marker holds back drains only when none of them is left.
 #[tactic(auto, using(crate::proofs::FenceLaws::marker_rules))]
 pub fn marker_law()
