@@ -1,4 +1,4 @@
-//! The transfers of one call, in order, in place.
+//! The transfers of one call, in order, kept in place.
 
 ghost use Rattle.std.specs.Prelude.{◌≡◌, ◌≤◌, ◌<◌, length, [], ◌∷◌, ◌++◌};
 ghost use Rattle.nc_cache.specs.Bus.{drops};
@@ -7,7 +7,7 @@ use crate::line::BusRec;
 use nc_num::{Block, HartNo};
 use std::marker::Model;
 
-/// At most six transfers, kept in place. Contracts see the list of them.
+/// A list of at most six transfers, kept in place. Contracts see the list of them.
 #[derive(Debug, Drop)]
 pub struct BusList {
     records: [BusRec; 6],
@@ -26,7 +26,7 @@ impl Model for BusList {
 }
 
 impl BusList {
-    /// No transfers.
+    /// Makes an empty list of transfers.
     pub fn new() -> BusList
         ensures { result ≡ [] }
     {
@@ -40,7 +40,7 @@ impl BusList {
         }
     }
 
-    /// The transfers, in order.
+    /// Returns the transfers, in order; at most six.
     pub fn as_slice(&self) -> &[BusRec]
         ensures value { result.now ≡ self.now }
         ensures short { length self.now ≤ 6 }
@@ -48,7 +48,7 @@ impl BusList {
         &self.records[..self.len]
     }
 
-    /// One more transfer.
+    /// Adds a transfer.
     pub(crate) fn push(&mut self, transfer: BusRec)
         requires { length self.old < 6 }
         ensures { self.new ≡ self.old ++ transfer ∷ [] }
@@ -57,7 +57,7 @@ impl BusList {
         self.len += 1;
     }
 
-    /// These harts drop their copies, ascending.
+    /// Adds the drops of the copies of these harts, ascending by hart.
     pub(crate) fn push_drops(&mut self, block: Block, by: &[bool; 4])
         requires { length self.old ≤ 2 }
         ensures { self.new ≡ self.old ++ drops 0 block.0 by.now }

@@ -14,20 +14,20 @@ use nc_num::{Block, Bytes, HartNo, NoMemory};
 use std::alloc::Global;
 use std::marker::Model;
 
-/// A row of the directory: who holds a block, and where its line is.
+/// A row of the directory: who holds a block, and which cell its line has.
 #[derive(Clone, Copy, Debug, PartialEq, Eq)]
 pub struct Row {
-    /// The number of the block.
+    /// The index of the block.
     pub block: Block,
     /// The harts that hold it: bit h is hart h, 0 to 3.
     pub holders: u8,
-    /// The hart that holds it dirty and alone; none where all copies are clean.
+    /// The hart that holds it dirty and alone, or None where all copies are clean.
     pub dirty: Option<HartNo>,
-    /// The number of its line, which no other row has.
+    /// The index of the cell of its line, which no other row has.
     pub line: u32,
 }
 
-/// Finds the row of a block, or where it belongs.
+/// Finds the index of the row of a block, or the index at which it belongs.
 fn place_of(rows: &[Row], block: Block) -> Result<usize, usize>
     requires { IsRising rows.now }
     ensures found { IfOk result (IsAt rows.now block.0) }
@@ -36,18 +36,21 @@ fn place_of(rows: &[Row], block: Block) -> Result<usize, usize>
     rows.binary_search_by_key(&block.0, |row| row.block.0)
 }
 
+/// Returns the harts as a mask, in which bit h is hart h.
 fn mask_of(by: &[bool; 4]) -> u8
     ensures { result ≡ mask by.now }
 {
     u8::from(by[0]) + 2 * u8::from(by[1]) + 4 * u8::from(by[2]) + 8 * u8::from(by[3])
 }
 
+/// Returns the harts whose bits are in a mask.
 fn harts_of(mask: u8) -> [bool; 4]
     ensures { result ≡ harts_in mask }
 {
     [mask & 1 != 0, mask & 2 != 0, mask & 4 != 0, mask & 8 != 0]
 }
 
+/// Returns the hart that holds the block dirty.
 fn dirty_of(held: &Held) -> Option<HartNo>
     ensures { result ≡ dirty_holder held.now }
 {
@@ -57,7 +60,7 @@ fn dirty_of(held: &Held) -> Option<HartNo>
     }
 }
 
-/// The row of a block that is held so.
+/// Makes the row of a block with these holders and this line.
 fn row_of(block: Block, held: &Held, line: u32) -> Row
     requires { IsHeld 4 held.now }
     ensures { result ≡ row_for block.0 held.now line }
@@ -70,7 +73,7 @@ fn row_of(block: Block, held: &Held, line: u32) -> Row
     }
 }
 
-/// Who holds the block of a row.
+/// Returns the holders of the block of a row.
 fn held_of(row: &Row) -> Held
     ensures { result ≡ held_in row.now.holders row.now.dirty }
 {
@@ -80,7 +83,7 @@ fn held_of(row: &Row) -> Held
     }
 }
 
-/// Gives the block of a row another line.
+/// Replaces the line of the block of a row.
 fn change_row(rows: &mut Vec<Row>, slab: &mut Slab, at: usize, line: &Line)
     requires kept { AreRowsOf rows.old.items slab.old }
     requires within { at < length rows.old.items }
@@ -96,7 +99,7 @@ fn change_row(rows: &mut Vec<Row>, slab: &mut Slab, at: usize, line: &Line)
     slab.set(row.line, &line.bytes);
 }
 
-/// Adds the row of a block, by its number, where it belongs.
+/// Adds the row of a block, by its index, where it belongs.
 fn add_row(rows: &mut Vec<Row>, slab: &mut Slab, at: usize, number: u32, line: &Line)
     requires kept { AreRowsOf rows.old.items slab.old }
     requires gap { IsGap rows.old.items number at }
@@ -118,7 +121,7 @@ fn add_row(rows: &mut Vec<Row>, slab: &mut Slab, at: usize, number: u32, line: &
     }
 }
 
-/// Removes a row, and frees its line.
+/// Removes a row and frees its line.
 fn remove_row(rows: &mut Vec<Row>, slab: &mut Slab, at: usize)
     requires kept { AreRowsOf rows.old.items slab.old }
     requires within { at < length rows.old.items }
@@ -132,7 +135,8 @@ fn remove_row(rows: &mut Vec<Row>, slab: &mut Slab, at: usize)
     slab.release(row.line);
 }
 
-/// The blocks that some hart holds. Contracts see the map of them, and for how many more there is room.
+/// The blocks that some hart holds. Contracts see the map of their lines, and the number of further blocks that there
+/// is room for.
 #[derive(Drop)]
 pub(crate) struct Directory {
     rows: Vec<Row>,
@@ -156,6 +160,7 @@ impl Model for Directory {
 }
 
 impl Directory {
+    /// Makes an empty directory.
     pub(crate) fn new(alloc: Global) -> Directory
         ensures { result.lines ≡ map.empty }
     {
@@ -178,14 +183,14 @@ impl Directory {
         Ok(())
     }
 
-    /// The rows, ascending by block.
+    /// Returns the rows, ascending by block.
     pub(crate) fn rows(&self) -> &[Row]
         ensures { IsDirectory result.now self.now.lines }
     {
         &self.rows
     }
 
-    /// The line of a block.
+    /// Returns the line of a block, or None where no hart holds it.
     pub(crate) fn line(&self, block: Block) -> Option<Line>
         ensures { result ≡ map.get self.now.lines block.0 }
     {
@@ -226,7 +231,7 @@ impl Directory {
         }
     }
 
-    /// Gives a block this line.
+    /// Sets the line of a block.
     pub(crate) fn put(&mut self, block: Block, line: &Line)
         requires spare { 1 ≤ self.old.spare }
         requires held { IsHeld 4 line.now.held }
@@ -239,7 +244,7 @@ impl Directory {
         }
     }
 
-    /// Gives a block that has a line this one.
+    /// Replaces the line of a block that has one.
     pub(crate) fn change(&mut self, block: Block, line: &Line)
         requires there { is_some (map.get self.old.lines block.0) ≡ true }
         requires held { IsHeld 4 line.now.held }
@@ -252,7 +257,7 @@ impl Directory {
         }
     }
 
-    /// Removes the line of a block, if it has one.
+    /// Removes the line of a block, where it has one.
     pub(crate) fn remove(&mut self, block: Block)
         ensures lines { self.new.lines ≡ with_line self.old.lines block.0 None }
         ensures spare { self.old.spare ≤ self.new.spare }

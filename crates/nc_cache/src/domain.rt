@@ -1,4 +1,4 @@
-//! The cache domain: the caches of all harts, which are coherent.
+//! The cache domain: the coherent caches of all harts.
 
 ghost use Rattle.std.specs.Prelude.{◌≡◌, ◌+◌, ◌*◌, ◌/◌, ◌%◌, ◌≤◌, ◌<◌, ℕ, List, Option, Some, None, IfOk, IfSome, IfNone, OnOk, OnErr, length};
 ghost use Rattle.std.specs.FinMap as map;
@@ -18,8 +18,8 @@ use nc_num::{Block, Bytes, HartNo, NoMemory, Span};
 use std::alloc::Global;
 use std::marker::Model;
 
-/// The caches of one to four harts. Contracts see the block size, the number of harts, the blocks that some hart
-/// holds, and `spare`: for how many more of them there is room.
+/// The caches of one to four harts. Contracts see the block size in bytes, the number of harts, the blocks that some
+/// hart holds, and `spare`, the number of further blocks that there is room for.
 #[derive(Drop)]
 pub struct Domain {
     directory: Directory,
@@ -43,7 +43,11 @@ impl Model for Domain {
 }
 
 impl Domain {
-    /// The caches of 1 to 4 harts, all empty, with blocks of 32, 64 or 128 bytes. Fails only for want of memory.
+    /// Makes the caches of 1 to 4 harts, all empty, with blocks of 32, 64 or 128 bytes.
+    ///
+    /// # Errors
+    ///
+    /// `NoMemory` where memory runs out.
     pub fn new(alloc: Global, harts: u8, block_size: u32) -> Result<Domain, NoMemory>
         requires some { 1 ≤ harts }
         requires few { harts ≤ 4 }
@@ -59,7 +63,11 @@ impl Domain {
         })
     }
 
-    /// Makes room for one more block, so that the next call which gives a hart a copy takes no memory.
+    /// Makes room for one more block, so that the next call that gives a hart a copy takes no memory.
+    ///
+    /// # Errors
+    ///
+    /// `NoMemory` where memory runs out; then the domain is unchanged.
     pub fn reserve(&mut self) -> Result<(), NoMemory>
         ensures ok { OnOk result (1 ≤ self.new.spare) }
         ensures size { self.new.size ≡ self.old.size }
@@ -71,7 +79,7 @@ impl Domain {
         self.directory.reserve()
     }
 
-    /// The line of a block.
+    /// Returns the line of a block, or None where no hart holds it.
     #[tactic(auto, using(crate::proofs::Holders::line_in_four))]
     fn line(&self, b: Block) -> Option<Line>
         ensures line { result ≡ map.get self.now.lines b.0 }
@@ -92,7 +100,7 @@ impl Domain {
         self.directory.bytes(b)
     }
 
-    /// Gives a block a line.
+    /// Sets the line of a block.
     #[tactic(auto, using(crate::proofs::Holders::held_in_four))]
     fn put(&mut self, b: Block, line: &Line)
         requires spare { 1 ≤ self.old.spare }
@@ -105,7 +113,7 @@ impl Domain {
         self.directory.put(b, line);
     }
 
-    /// Gives a block a line, or none, whose holders have copies already.
+    /// Replaces or removes the line of a block; each holder of the new line is a holder of the old one.
     #[tactic(auto, using(crate::proofs::Holders::held_in_four))]
     fn keep(&mut self, b: Block, line: &Option<Line>)
         requires stays { Stays (map.get self.old.lines b.0) line.now }
@@ -121,14 +129,14 @@ impl Domain {
         }
     }
 
-    /// The directory: a row for each block that some hart holds, ascending by block.
+    /// Returns the directory: a row for each block that some hart holds, ascending by block.
     pub fn rows(&self) -> &[Row]
         ensures { IsDirectory result.now self.now.lines }
     {
         self.directory.rows()
     }
 
-    /// The block size.
+    /// Returns the block size in bytes.
     fn size(&self) -> u32
         ensures size { result ≡ self.now.size }
         ensures domain { IsDomain self.now }
@@ -136,7 +144,7 @@ impl Domain {
         self.block_size
     }
 
-    /// Whether hart h holds a copy of the block.
+    /// Returns whether hart `h`, which exists, holds a copy of block `b`.
     pub fn holds(&self, h: HartNo, b: Block) -> bool
         requires { h.0 < self.now.harts }
         ensures value { result ≡ held_by (map.get self.now.lines b.0) h.0 }
@@ -145,7 +153,8 @@ impl Domain {
         self.directory.holds(h, b)
     }
 
-    /// The bytes of a span that lies in one block of memory: the domain's, else memory's.
+    /// Returns the bytes of a span that lies in one block of memory: the domain's where a hart holds the block, else
+    /// memory's.
     pub fn bytes(&self, ram: &Ram, span: Span) -> Bytes
         requires one_block { span.at % self.now.size + span.len ≤ self.now.size }
         requires within { span.at + span.len ≤ length ram.now }
@@ -159,8 +168,8 @@ impl Domain {
         }
     }
 
-    /// A load by h: where h does not hold the block, a dirty holder writes it back, and h gets a copy, from the lowest
-    /// numbered holder or from memory.
+    /// Performs a load of block `b` by hart `h` and returns its transfers. Where `h` does not hold the block, a dirty
+    /// holder writes it back, and `h` gets a copy from the lowest numbered holder, or from memory where there is none.
     #[tactic(auto, unfolding(crate::specs::Cache::load))]
     pub fn load(&mut self, ram: &mut Ram, h: HartNo, b: Block) -> BusList
         requires spare { 1 ≤ self.old.spare }
@@ -208,7 +217,8 @@ impl Domain {
         bus
     }
 
-    /// A load by h where h does not hold the block; None where it does.
+    /// Fetches block `b` for hart `h` as a load does and returns its transfers, or None where `h` holds the block; then
+    /// nothing changes.
     #[tactic(auto, using(crate::proofs::Places::load_held))]
     pub fn fill(&mut self, ram: &mut Ram, h: HartNo, b: Block) -> Option<BusList>
         requires spare { 1 ≤ self.old.spare }
@@ -227,8 +237,9 @@ impl Domain {
         Some(self.load(ram, h, b))
     }
 
-    /// Makes h the one holder of the block, dirty: where h has it dirty, nothing; else all others drop their copies, and
-    /// h gets the bytes from its own copy, from the lowest numbered holder with no write to memory, or from memory.
+    /// Makes hart `h` the one holder of block `b`, dirty, and returns the transfers. Where `h` has it dirty, nothing
+    /// happens. Else all others drop their copies, and `h` gets the bytes from its own copy, from the lowest numbered
+    /// holder with no write to memory, or from memory.
     #[tactic(auto, using(crate::proofs::Domains::call_rules), unfolding(crate::specs::Cache::own))]
     pub fn own(&mut self, ram: &mut Ram, h: HartNo, b: Block) -> BusList
         requires spare { 1 ≤ self.old.spare }
@@ -251,8 +262,8 @@ impl Domain {
         bus
     }
 
-    /// A store by h of bytes to a span that lies in one block of memory and has their length: h owns the block, and the
-    /// bytes are changed.
+    /// Stores bytes of hart `h` to a span that lies in one block of memory and has their length, and returns the
+    /// transfers. First `h` comes to own the block, as by `own`; then the bytes are changed.
     #[tactic(auto, using(crate::proofs::Domains::call_rules), unfolding(crate::specs::Cache::store))]
     pub fn store(&mut self, ram: &mut Ram, h: HartNo, span: Span, bytes: &[u8]) -> BusList
         requires spare { 1 ≤ self.old.spare }
@@ -282,7 +293,8 @@ impl Domain {
         bus
     }
 
-    /// h owns the block, and the whole block is zero.
+    /// Makes hart `h` the owner of block `b`, as by `own`, sets the whole block to zero, and returns the transfers
+    /// (RISC-V CMO 1.0, `cbo.zero`).
     #[tactic(auto, using(crate::proofs::Domains::call_rules), unfolding(crate::specs::Cache::zero_block))]
     pub fn zero(&mut self, ram: &mut Ram, h: HartNo, b: Block) -> BusList
         requires spare { 1 ≤ self.old.spare }
@@ -303,7 +315,8 @@ impl Domain {
         bus
     }
 
-    /// h gives its copy up, and writes it back where it is dirty; None where h has no copy.
+    /// Removes the copy of block `b` that hart `h` holds, writes it back where it is dirty, and returns the transfers.
+    /// The result is None where `h` has no copy; then nothing changes.
     #[tactic(auto, using(crate::proofs::Domains::call_rules), unfolding(crate::specs::Cache::evict))]
     pub fn evict(&mut self, ram: &mut Ram, h: HartNo, b: Block) -> Option<BusList>
         requires hart { h.0 < self.old.harts }
@@ -326,7 +339,8 @@ impl Domain {
         Some(bus)
     }
 
-    /// A dirty holder writes the block back and becomes clean (CMO 1.0, `cbo.clean`).
+    /// Cleans block `b` and returns the transfers: a dirty holder writes it back and becomes clean (RISC-V CMO 1.0,
+    /// `cbo.clean`).
     #[tactic(auto, using(crate::proofs::Domains::call_rules), unfolding(crate::specs::Cache::clean))]
     pub fn clean(&mut self, ram: &mut Ram, b: Block) -> BusList
         requires block { self.old.size * b.0 + self.old.size ≤ length ram.old }
@@ -351,7 +365,8 @@ impl Domain {
         bus
     }
 
-    /// A dirty holder writes the block back, and all copies are dropped (CMO 1.0, `cbo.flush`).
+    /// Flushes block `b` and returns the transfers: a dirty holder writes it back, and all copies are dropped (RISC-V
+    /// CMO 1.0, `cbo.flush`).
     #[tactic(auto, using(crate::proofs::Domains::call_rules), unfolding(crate::specs::Cache::flush))]
     pub fn flush(&mut self, ram: &mut Ram, b: Block) -> BusList
         requires block { self.old.size * b.0 + self.old.size ≤ length ram.old }
@@ -372,10 +387,11 @@ impl Domain {
         bus
     }
 
-    /// All copies are dropped, and nothing is written (CMO 1.0, `cbo.inval`).
+    /// Invalidates block `b` and returns the transfers: all copies are dropped, and nothing is written (RISC-V CMO 1.0,
+    /// `cbo.inval`).
     #[tactic(auto, using(crate::proofs::Domains::call_rules), unfolding(crate::specs::Cache::inval))]
     pub fn inval(&mut self, b: Block) -> BusList
-        // Whatever memory has beside it.
+        // For each content of memory beside it.
         ensures state { (ram : List ℕ) → record { ram = ram; lines = self.new.lines } ≡ inval (record { ram = ram; lines = self.old.lines }) b.0 }
         ensures bus { result ≡ inval_bus b.0 (map.get self.old.lines b.0) }
         ensures size { self.new.size ≡ self.old.size }

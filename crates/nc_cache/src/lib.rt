@@ -1,15 +1,14 @@
 //! The cache domain: coherent caches of up to four harts over one memory, exact to the transfer.
 //!
-//! For some blocks the domain has the bytes and who holds them: some harts with clean copies, or one hart with a dirty
-//! one; memory has its own bytes beside it. This is an MSI protocol of this project's own. A cache has no capacity: a
-//! block may come or go at any moment, by `fill` and `evict`. The operations of CMO 1.0 are `clean`, `flush`, `inval`
-//! and `zero`.
+//! For each block that some hart holds, the domain has its bytes and its holders: some harts with clean copies, or one
+//! hart with a dirty copy. Memory has its own bytes beside it. This is an MSI protocol of this project's own. A cache
+//! has no capacity: a block may come or go at any moment, by `fill` and `evict`. The operations of RISC-V CMO 1.0 are
+//! `clean`, `flush`, `inval` and `zero`.
 //!
 //! The contract for the crates above: each call makes the definition's change to the map of blocks and to memory, and
-//! tells of the definition's transfers, in order (`specs/Cache.antt`, `specs/Bus.antt`). The map is kept as one
-//! directory, a vector of rows sorted by block, beside a slab of lines; `rows` gives it (`specs/Directory.antt`). Beside
-//! the calls stand the laws, of what each keeps at one place of memory, on which the proof of flat memory stands
-//! (`specs/Laws.antt`).
+//! returns the definition's transfers, in order (`specs/Cache.antt`, `specs/Bus.antt`). The map is kept as one
+//! directory, a vector of rows sorted by block, beside a slab of lines; `rows` returns it (`specs/Directory.antt`). The
+//! laws say what each call keeps at one place of memory; the proof of flat memory builds on them (`specs/Laws.antt`).
 #![tactic(auto)]
 
 mod bus;

@@ -1,4 +1,4 @@
-//! What the domain has of a block, and the transfers that it tells of.
+//! The line of a block, and the transfers that the domain reports.
 
 ghost use Rattle.std.specs.Prelude.{◌≡◌, ◌<◌};
 ghost use Rattle.std.specs.List.{list_any};
@@ -6,12 +6,12 @@ ghost use Rattle.nc_cache.specs.Harts.{only as only_of, lowest as lowest_of};
 
 use nc_num::{Block, Bytes, HartNo};
 
-/// Who holds a block: some harts with clean copies, or one hart with a dirty one.
+/// The holders of a block: some harts with clean copies, or one hart with a dirty copy.
 #[derive(Clone, Copy, Debug, PartialEq, Eq)]
 pub enum Held {
     /// Clean copies in these harts.
     Shared([bool; 4]),
-    /// The one copy, which memory may not have yet.
+    /// The one copy, in this hart, which memory may not have yet.
     Dirty(HartNo),
 }
 
@@ -20,18 +20,18 @@ pub enum Held {
 pub struct Line {
     /// The bytes of the block.
     pub bytes: Bytes,
-    /// Who holds it.
+    /// The holders of the block.
     pub held: Held,
 }
 
-/// Where a hart's copy came from.
+/// The source of a hart's copy.
 #[derive(Clone, Copy, Debug, PartialEq, Eq)]
 pub enum Origin {
-    /// From memory, which had these bytes.
+    /// Memory, which had these bytes.
     Mem(Bytes),
-    /// From this hart's copy.
+    /// The copy of this hart.
     Hart(HartNo),
-    /// The hart had a clean copy already.
+    /// The clean copy that the hart had already.
     Held,
 }
 
@@ -63,7 +63,7 @@ pub enum BusRec {
     },
 }
 
-/// The harts of four of which only this one is meant.
+/// Returns the set, among four harts, that has this hart alone.
 pub(crate) fn only(h: HartNo) -> [bool; 4]
     requires { h.0 < 4 }
     ensures { result ≡ only_of h.0 }
@@ -73,12 +73,14 @@ pub(crate) fn only(h: HartNo) -> [bool; 4]
     by
 }
 
+/// Returns whether the set has a hart.
 fn any_of(by: &[bool; 4]) -> bool
     ensures { result ≡ list_any (λ held. held) by.now }
 {
     by.iter().any(|held| *held)
 }
 
+/// Returns the lowest numbered hart of the set.
 fn lowest(by: &[bool; 4]) -> u8
     ensures { result ≡ lowest_of by.now }
 {
@@ -95,7 +97,7 @@ impl Held {
     ghost use Rattle.nc_cache.specs.Bus.{giver};
     ghost use Rattle.nc_cache.specs.Facts.{IsHeld};
 
-    /// Whether hart h has a copy.
+    /// Returns whether hart `h` has a copy.
     pub(crate) fn holds(&self, h: HartNo) -> bool
         requires { h.0 < 4 }
         ensures { result ≡ holds self.now h.0 }
@@ -106,7 +108,7 @@ impl Held {
         }
     }
 
-    /// Whether hart h has the copy, dirty.
+    /// Returns whether hart `h` has the copy, dirty.
     pub(crate) fn is_dirty_in(&self, h: HartNo) -> bool
         ensures { result ≡ dirty_in self.now h.0 }
     {
@@ -116,7 +118,7 @@ impl Held {
         }
     }
 
-    /// The harts with a copy.
+    /// Returns the harts with a copy.
     pub(crate) fn holders(&self) -> [bool; 4]
         requires { IsHeld 4 self.now }
         ensures { result ≡ holders self.now }
@@ -127,7 +129,7 @@ impl Held {
         }
     }
 
-    /// The lowest numbered hart with a copy.
+    /// Returns the lowest numbered hart with a copy.
     pub(crate) fn giver(&self) -> HartNo
         ensures { result.0 ≡ giver self.now }
     {
@@ -141,7 +143,7 @@ impl Held {
 impl Line {
     ghost use Rattle.nc_cache.specs.Cache.{without};
 
-    /// The line without h's copy, where h has one.
+    /// Returns the line without the copy of hart `h`, or None where that was the only copy.
     pub(crate) fn without(&self, h: HartNo) -> Option<Line>
         requires { h.0 < 4 }
         ensures { result ≡ without h.0 self.now.bytes self.now.held }

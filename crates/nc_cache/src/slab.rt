@@ -8,8 +8,8 @@ use nc_num::{Bytes, NoMemory};
 use std::alloc::Global;
 use std::marker::Model;
 
-/// The cells of lines. A cell keeps its place while a line has it, and a freed cell is taken again before there is one
-/// more. Contracts see the bytes of each cell, the free cells, and for how many more lines there is room.
+/// The cells of lines. A line keeps its cell, and a freed cell is taken again before a new one is added. Contracts see
+/// the bytes of each cell, the free cells, and the number of further lines that there is room for.
 #[derive(Drop)]
 pub(crate) struct Slab {
     cells: Vec<Bytes>,
@@ -24,11 +24,12 @@ impl Model for Slab {
 
     ghost view = { λ s. record { cells = s.cells.items; free = s.free.items; room = vec_len s.free + (min (vec_capacity s.cells) (vec_capacity s.free) - vec_len s.cells) } };
 
-    // Each cell can be freed with no memory.
+    // Each cell can be freed without an allocation.
     ghost invariant = { λ s. vec_len s.cells ≤ vec_capacity s.free };
 }
 
 impl Slab {
+    /// Makes a slab without cells.
     pub(crate) fn new(alloc: Global) -> Slab
         ensures cells { result.cells ≡ [] }
         ensures free { result.free ≡ [] }
@@ -55,7 +56,7 @@ impl Slab {
         Ok(())
     }
 
-    /// The bytes of a cell.
+    /// Returns the bytes of a cell.
     pub(crate) fn get(&self, cell: u32) -> &Bytes
         requires { cell < length self.now.cells }
         ensures { result.now ≡ slice_index_or self.now.cells cell [] }
@@ -63,7 +64,7 @@ impl Slab {
         &self.cells[cell as usize]
     }
 
-    /// Changes the bytes of a cell.
+    /// Replaces the bytes of a cell.
     pub(crate) fn set(&mut self, cell: u32, bytes: &Bytes)
         requires { cell < length self.old.cells }
         ensures cells { self.new.cells ≡ slice_set self.old.cells cell bytes.now }
@@ -73,7 +74,7 @@ impl Slab {
         self.cells[cell as usize] = *bytes;
     }
 
-    /// Takes a cell for these bytes: the one that was freed last, else one more.
+    /// Takes a cell for these bytes and returns its index: the cell that was freed last, else a new one.
     pub(crate) fn take(&mut self, bytes: &Bytes) -> u32
         requires room { 1 ≤ self.old.room }
         requires few { self.old.free ≡ [] → length self.old.cells < 2 ^ 32 }

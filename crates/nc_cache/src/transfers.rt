@@ -12,7 +12,7 @@ use crate::line::{BusRec, Held, Line, Origin};
 use nc_mem::Ram;
 use nc_num::{Block, Bytes, HartNo, Span};
 
-/// The places of a block that lies in memory.
+/// Returns the span of a block that lies in memory.
 pub(crate) fn block_span(ram: &Ram, size: u32, b: Block) -> Span
     requires { size * b.0 + size ≤ length ram.now }
     ensures at { result.at ≡ size * b.0 }
@@ -26,7 +26,7 @@ pub(crate) fn block_span(ram: &Ram, size: u32, b: Block) -> Span
     }
 }
 
-/// A dirty holder writes its line back.
+/// Writes a line back to memory where a hart has it dirty.
 pub(crate) fn write_back(ram: &mut Ram, size: u32, b: Block, line: &Line, bus: &mut BusList)
     requires size { IsBlockSize size }
     requires block { size * b.0 + size ≤ length ram.old }
@@ -47,7 +47,7 @@ pub(crate) fn write_back(ram: &mut Ram, size: u32, b: Block, line: &Line, bus: &
     }
 }
 
-/// Whether hart h has the line dirty.
+/// Returns whether hart `h` has the line dirty.
 pub(crate) fn is_dirty_by(line: &Option<Line>, h: HartNo) -> bool
     ensures { result ≡ dirty_by line.now h.0 }
 {
@@ -57,7 +57,7 @@ pub(crate) fn is_dirty_by(line: &Option<Line>, h: HartNo) -> bool
     }
 }
 
-/// A block comes to h from other harts.
+/// Returns the transfers by which hart `h` gets a block from other harts.
 fn taken(h: HartNo, b: Block, held: &Held) -> BusList
     requires { IsHeld 4 held.now }
     ensures { result ≡ taken_bus h.0 b.0 held.now }
@@ -73,7 +73,7 @@ fn taken(h: HartNo, b: Block, held: &Held) -> BusList
     bus
 }
 
-/// h comes to own a block that some hart holds.
+/// Returns the transfers by which hart `h` comes to own a block that some hart holds.
 fn owned(h: HartNo, b: Block, held: &Held) -> BusList
     requires hart { h.0 < 4 }
     requires in_four { IsHeld 4 held.now }
@@ -104,7 +104,7 @@ fn owned(h: HartNo, b: Block, held: &Held) -> BusList
     }
 }
 
-/// The bytes of a block as h comes to own it, and its transfers.
+/// Returns the bytes of a block of which hart `h` becomes the owner, and the transfers.
 #[tactic(auto, unfolding(crate::specs::Cache::block_bytes))]
 pub(crate) fn to_own(
     ram: &Ram,
@@ -137,7 +137,7 @@ pub(crate) fn to_own(
     }
 }
 
-/// Some of the bytes of a block.
+/// Returns `len` bytes of a block, from `at` on.
 #[tactic(auto, unfolding(nc_num::specs::Memory::span))]
 pub(crate) fn part_of(block: &Bytes, at: u32, len: u32) -> Bytes
     requires { at + len ≤ length block.now }
@@ -147,7 +147,7 @@ pub(crate) fn part_of(block: &Bytes, at: u32, len: u32) -> Bytes
     Bytes::of(&block.as_slice()[at..at + len as usize])
 }
 
-/// The bytes of a block, some of them changed.
+/// Returns the bytes of a block, with some of them replaced.
 #[tactic(auto, unfolding(nc_num::specs::Memory::splice))]
 pub(crate) fn patched(block: &Bytes, at: u32, bytes: &[u8]) -> Bytes
     requires { at + length bytes.now ≤ length block.now }
@@ -163,7 +163,7 @@ pub(crate) fn patched(block: &Bytes, at: u32, bytes: &[u8]) -> Bytes
     Bytes::of(part)
 }
 
-/// A block of zeros.
+/// Makes a block of zeros.
 pub(crate) fn zeros(size: u32) -> Bytes
     requires { size ≤ 128 }
     ensures { result ≡ replicate size 0 }

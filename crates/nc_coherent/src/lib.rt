@@ -1,7 +1,8 @@
 //! Coherent areas: the pages of the coherent pool, and the plans that lend an area and take it back.
 //!
-//! The contract for the crates above: `find` gives exactly the lowest run of free pages, `take` and `give` change exactly
-//! the pages of their span, and the two plans are the whole lists of `specs/Areas.antt`. The driver stands above.
+//! The contract for the crates above: `find` returns exactly the lowest run of free pages, `take` and `give` change
+//! exactly the pages of their span, and the two plans are the whole lists of `specs/Areas.antt`. The driver stands
+//! above.
 #![tactic(auto)]
 
 mod pages;

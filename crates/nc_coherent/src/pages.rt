@@ -8,11 +8,11 @@ use nc_num::{NoMemory, Span};
 use std::alloc::Global;
 use std::marker::Model;
 
-/// The bytes of a page.
+/// The size of a page in bytes.
 const PAGE: u32 = 4096;
 
 /// The pages of the coherent pool, from which `dma_alloc_coherent` of the Linux DMA API takes areas here. Contracts see
-/// where the pool starts, in bytes of RAM, and of each page whether it is free.
+/// where the pool starts, in bytes of RAM, and for each page whether it is free.
 #[derive(Drop)]
 pub struct PagePool {
     at: u32,
@@ -31,8 +31,12 @@ impl Model for PagePool {
 }
 
 impl PagePool {
-    /// A pool of so many pages from the place `at` on, all free. `at` is a multiple of 4,096, and the pool ends at
-    /// 1,048,576 at most.
+    /// Makes a pool of `pages` pages from the place `at` on, all free. `at` is a multiple of 4,096, and the pool ends
+    /// at 1,048,576 at most.
+    ///
+    /// # Errors
+    ///
+    /// `NoMemory` where memory runs out.
     pub fn new(alloc: Global, at: u32, pages: u32) -> Result<PagePool, NoMemory>
         requires aligned { at % 4096 ≡ 0 }
         requires ends { at + 4096 * pages ≤ 1048576 }
@@ -42,7 +46,7 @@ impl PagePool {
         Ok(PagePool { at, free })
     }
 
-    /// The bytes of the pool: whole pages, the first at a multiple of 4,096, that end at 1,048,576 at most.
+    /// Returns the places of the pool: whole pages, the first at a multiple of 4,096, that end at 1,048,576 at most.
     pub fn span(&self) -> Span
         ensures value { result ≡ record { at = self.now.at; len = 4096 * length self.now.free } }
         ensures whole { result.at % 4096 ≡ 0 }
@@ -54,7 +58,8 @@ impl PagePool {
         }
     }
 
-    /// The lowest run of n free pages, None exactly where there is no such run. This project's own: first fit.
+    /// Returns the span of the lowest run of `n` free pages, or None exactly where no such run exists. `n` is at least
+    /// 1. First fit is this project's own.
     pub fn find(&self, n: u32) -> Option<Span>
         requires { 0 < n }
         ensures lowest { result ≡ lowest_span self.now n }
@@ -69,7 +74,7 @@ impl PagePool {
         })
     }
 
-    /// Takes the pages of a span of whole pages, all of which are free.
+    /// Marks the pages of a span as taken. The span is made of whole pages of the pool, all of which are free.
     pub fn take(&mut self, span: Span)
         requires pages { IsPages self.old span }
         requires free { pages_of self.old span ≡ replicate (page_count span) true }
@@ -84,7 +89,7 @@ impl PagePool {
         );
     }
 
-    /// Gives back the pages of a span of whole pages, all of which are taken.
+    /// Marks the pages of a span as free. The span is made of whole pages of the pool, all of which are taken.
     pub fn give(&mut self, span: Span)
         requires pages { IsPages self.old span }
         requires taken { pages_of self.old span ≡ replicate (page_count span) false }
@@ -100,7 +105,7 @@ impl PagePool {
     }
 }
 
-/// The first page at which n free pages start.
+/// Returns the first page at which `n` free pages start, or None.
 fn first_run(free: &[bool], n: usize) -> Option<usize>
     requires short { length free.now ≤ 256 }
     requires small { n < 4294967296 }
@@ -115,7 +120,7 @@ fn first_run(free: &[bool], n: usize) -> Option<usize>
     None
 }
 
-/// Whether n free pages start at a page.
+/// Returns whether `n` free pages start at a page.
 fn starts_run(free: &[bool], first: usize, n: usize) -> bool
     requires short { length free.now ≤ 256 }
     requires there { first ≤ length free.now }
@@ -125,14 +130,14 @@ fn starts_run(free: &[bool], first: usize, n: usize) -> bool
     first + n <= free.len() && all_free(&free[first..first + n])
 }
 
-/// Whether each of these pages is free.
+/// Returns whether each of these pages is free.
 fn all_free(pages: &[bool]) -> bool
     ensures { result ≡ list_all (λ b. b) pages.now }
 {
     pages.iter().all(|free| *free)
 }
 
-/// Marks n pages from the page `first` on.
+/// Marks `n` pages from the page `first` on.
 #[tactic(auto, unfolding(crate::specs::Pages::marked))]
 fn mark(free: &mut [bool], first: usize, n: usize, to: bool)
     requires { first + n ≤ length free.old }
@@ -141,7 +146,8 @@ fn mark(free: &mut [bool], first: usize, n: usize, to: bool)
     free[first..first + n].fill(to);
 }
 
-/// The run that `find` gives is free, and no lower run is; where it gives none, no run of so many pages is free.
+/// Proves that the run that `find` returns is free and that no lower run is, and that no run of that length is free
+/// where it returns None.
 pub fn lowest_run_is_lowest()
     ensures { LowestRunIsLowest }
 {}

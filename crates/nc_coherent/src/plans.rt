@@ -10,9 +10,13 @@ use nc_num::{NoMemory, Span};
 use nc_plan::{Effects, HartOp, push_cbos, push_full};
 use std::alloc::Global;
 
-/// The operations that make an area zero and coherent (Linux DMA API: `dma_alloc_coherent`, whose memory is zeroed):
-/// each of its blocks is zeroed, then each is flushed, so that no cache holds one and memory has the zeros, then all is
-/// fenced. From then on it is accessed past the caches (Svpbmt: NC).
+/// Returns the operations that make an area zero and coherent (Linux DMA API: `dma_alloc_coherent`, whose memory is
+/// zeroed). Each of its blocks is zeroed, then each is flushed, so that no cache holds one and memory has the zeros,
+/// then all is fenced. From then on the area is accessed past the caches (Svpbmt: NC). `block_size` is in bytes.
+///
+/// # Errors
+///
+/// `NoMemory` where memory runs out.
 #[tactic(auto, unfolding(crate::specs::Areas::allocating))]
 pub fn plan_alloc(
     alloc: Global,
@@ -31,7 +35,11 @@ pub fn plan_alloc(
     Ok(ops)
 }
 
-/// The one fence by which an area goes to its channel and comes back: no cache holds a block of it.
+/// Returns the one fence by which an area goes to its channel and comes back: no cache holds a block of it.
+///
+/// # Errors
+///
+/// `NoMemory` where memory runs out.
 pub fn plan_fence(alloc: Global) -> Result<Vec<HartOp>, NoMemory>
     ensures { IfOk result (λ ops. ops.items ≡ full ∷ []) }
 {

@@ -1,9 +1,9 @@
-//! The operation enables of cache-block operations (RISC-V CMO 1.0): what a clean, a flush, an invalidate or a zero
-//! does in a hart's mode, by the fields CBIE, CBCFE and CBZE of `menvcfg` and `senvcfg`.
+//! The enables of cache-block operations (RISC-V CMO 1.0): what a clean, a flush, an invalidate or a zero does in the
+//! mode of a hart, by the fields CBIE, CBCFE and CBZE of `menvcfg` and `senvcfg`.
 //!
-//! The contract for the crates above: `decide` is the table of `specs/Enables.antt`, the field that it names in a
-//! refusal included. The definition reads the fields as numbers, where the code tests bits. The plans of a mapping
-//! and the driver's cache operations stand on it.
+//! The contract for the crates above: `decide` is the table of `specs/Enables.antt`, including the field that it names
+//! in a refusal. The definition reads the fields as numbers, where the code tests bits. The plans of a mapping and the
+//! driver's cache operations build on it.
 #![tactic(auto)]
 
 ghost use Rattle.std.specs.Prelude.{◌≡◌, ◌==◌};
@@ -50,15 +50,19 @@ pub enum Field {
     SCbze,
 }
 
-/// An operation is illegal: the field that forbids it, `menvcfg`'s where both registers do.
+/// An operation that is illegal, with the field that forbids it: the one of `menvcfg` where both registers forbid it.
 #[derive(Clone, Copy, Debug, PartialEq, Eq)]
 pub struct Illegal(pub Field);
 
-/// The operation that is performed for `op`, or that it is illegal, and by which field (RISC-V CMO 1.0).
+/// Returns the operation that is performed for `op` (RISC-V CMO 1.0).
 ///
 /// Mode M is not restricted, mode S is restricted by `menvcfg`, and mode U by both registers. An invalidate is
 /// performed as a flush where a register that restricts the mode has the value 01 in CBIE. The reserved value 10 of
-/// CBIE is no value of either register; their other bits mean nothing here.
+/// CBIE is no value of either register. Their other bits mean nothing here.
+///
+/// # Errors
+///
+/// `Illegal` with the field that forbids the operation: that of `menvcfg` where both registers forbid it.
 #[tactic(auto, unfolding(crate::specs::Enables::decided))]
 pub fn decide(mode: Mode, menvcfg: u64, senvcfg: u64, op: CboOp) -> Result<CboOp, Illegal>
     requires menvcfg_known { IsEnvcfg menvcfg }
@@ -85,16 +89,16 @@ pub fn decide(mode: Mode, menvcfg: u64, senvcfg: u64, op: CboOp) -> Result<CboOp
     }
 }
 
-/// The first of the two bits of CBIE in an envcfg register.
+/// The lower of the two bits of CBIE in an envcfg register.
 const CBIE: u32 = 4;
 
-/// The bit CBCFE.
+/// The bit of CBCFE.
 const CBCFE: u32 = 6;
 
-/// The bit CBZE.
+/// The bit of CBZE.
 const CBZE: u32 = 7;
 
-/// Whether a register that restricts the mode forbids an operation.
+/// Returns whether a register that restricts the mode forbids an operation.
 fn forbids(envcfg: u64, op: CboOp) -> bool
     ensures { result ≡ forbids op envcfg }
 {
@@ -105,13 +109,14 @@ fn forbids(envcfg: u64, op: CboOp) -> bool
     }
 }
 
-/// Whether a register has invalidates performed as flushes.
+/// Returns whether a register has invalidates performed as flushes.
 fn as_flush(envcfg: u64) -> bool
     ensures { result ≡ as_flush envcfg }
 {
     envcfg >> CBIE & 3 == 1
 }
 
+/// Returns what is performed where no register forbids the operation.
 fn performed(op: CboOp, as_flush: bool) -> CboOp
     ensures { result ≡ performed op as_flush }
 {
@@ -121,7 +126,7 @@ fn performed(op: CboOp, as_flush: bool) -> CboOp
     }
 }
 
-/// The field of `menvcfg` that enables an operation.
+/// Returns the field of `menvcfg` that enables an operation.
 fn m_field(op: CboOp) -> Field
     ensures { result ≡ m_field op }
 {
@@ -132,7 +137,7 @@ fn m_field(op: CboOp) -> Field
     }
 }
 
-/// The field of `senvcfg` that enables an operation.
+/// Returns the field of `senvcfg` that enables an operation.
 fn s_field(op: CboOp) -> Field
     ensures { result ≡ s_field op }
 {

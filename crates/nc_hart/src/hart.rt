@@ -12,7 +12,7 @@ use nc_plan::HartOp;
 use nc_queue::{Entry, Queue};
 use std::marker::Model;
 
-/// The entries that a queue has room for.
+/// The capacity of a queue, in entries.
 const ROOM: u8 = 8;
 
 /// A hart. Contracts see its queue and the bytes of its last load.
@@ -34,7 +34,7 @@ impl Model for Hart {
 }
 
 impl Hart {
-    /// A hart with an empty queue, for blocks of 32, 64 or 128 bytes, that has loaded nothing.
+    /// Makes a hart that has loaded nothing, with an empty queue for blocks of 32, 64 or 128 bytes.
     pub fn new(block_size: u32) -> Hart
         requires { IsBlockSize block_size }
         ensures { result ≡ record { queue = record { size = block_size; entries = [] }; last = [] } }
@@ -45,9 +45,9 @@ impl Hart {
         }
     }
 
-    /// Whether an operation may be issued now: the queue has room where it needs an entry, a fence that waits finds
-    /// no entry of its predecessor set, and an IO load finds none of class O. This project's own rules, after the
-    /// RISC-V FENCE.
+    /// Returns whether an operation may be issued now: the queue has room where the operation needs an entry, a fence
+    /// that waits finds no entry of its predecessor set, and an IO load finds none of class O. The rules are this
+    /// project's own, after the RISC-V FENCE.
     #[tactic(auto, unfolding(crate::specs::Issue::can_issue))]
     pub fn can_issue(&self, op: &HartOp) -> bool
         ensures { result ≡ can_issue self.now op.now }
@@ -57,8 +57,8 @@ impl Hart {
             && load_clear(&self.queue, op)
     }
 
-    /// Issues an operation that may be issued: its entry, where it has one, goes behind the others in the queue. A
-    /// store is one piece and has as many bytes as its span. A load changes nothing here but by `loaded`.
+    /// Issues an operation that may be issued: its entry, where it has one, becomes the newest of the queue. A store is
+    /// one piece and has as many bytes as its span. A load changes the hart only by `loaded`.
     pub fn issue(&mut self, op: HartOp)
         requires can { IsTrue (can_issue self.old op) }
         requires fits { OpFits self.old.last op }
@@ -69,28 +69,29 @@ impl Hart {
         }
     }
 
-    /// The bytes that a load gave, which a later store may name.
+    /// Sets the bytes that the last load gave, which a later store may name.
     pub fn loaded(&mut self, bytes: Bytes)
         ensures { self.new ≡ record { queue = self.old.queue; last = bytes } }
     {
         self.last = bytes;
     }
 
-    /// The bytes of the last load; none before the first.
+    /// Returns the bytes of the last load, or no bytes before the first load.
     pub fn last(&self) -> &Bytes
         ensures { result.now ≡ self.now.last }
     {
         &self.last
     }
 
-    /// The store queue.
+    /// Returns the store queue.
     pub fn queue(&self) -> &Queue
         ensures { result.now ≡ self.now.queue }
     {
         &self.queue
     }
 
-    /// Takes entry `i` out of the queue, where it may drain.
+    /// Removes and returns entry `i` of the queue, counted from the oldest, where it may drain. Otherwise the result is
+    /// None and the hart is unchanged.
     pub fn drain(&mut self, i: u8) -> Option<Entry>
         ensures entry { result ≡ drained self.old.queue.size self.old.queue.entries i }
         ensures fits { IfSome result (Fits self.old.queue.size) }
@@ -104,7 +105,7 @@ impl Hart {
     }
 }
 
-/// Puts an entry into a queue that has room for it.
+/// Adds an entry to a queue that has room for it.
 fn put(queue: &mut Queue, e: Entry)
     requires room { length queue.old.entries < 8 }
     requires fits { Fits queue.old.size e }

@@ -1,4 +1,4 @@
-//! What an operation needs of a hart's queue, and the entry that it puts there.
+//! What an operation needs of a hart's queue, and the entry that it adds there.
 
 ghost use Rattle.std.specs.Prelude.{◌≡◌};
 ghost use Rattle.nc_hart.specs.Issue.{cut, has_class, waits, marks, marker, payload, io_entry, entry_of, needs_entry, fence_clear, load_clear};
@@ -7,7 +7,7 @@ use nc_num::{Bytes, MemType};
 use nc_plan::{HartOp, IoTarget, Payload};
 use nc_queue::{Entry, Queue};
 
-/// Returns a FENCE set cut to W and O, the classes of a queue's entries (RISC-V FENCE).
+/// Returns a FENCE set restricted to W and O, the classes of a queue's entries (RISC-V FENCE).
 #[tactic(auto, using(crate::proofs::CutSets::cut_rules))]
 pub fn cut(set: u8) -> u8
     ensures { result ≡ cut set }
@@ -15,26 +15,29 @@ pub fn cut(set: u8) -> u8
     set & 0b0101
 }
 
+/// Returns whether a set has W or O.
 fn has_class(set: u8) -> bool
     ensures { result ≡ has_class set }
 {
     set & 1 == 1 || set >> 2 & 1 == 1
 }
 
-/// Whether a fence waits: it keeps loads or inputs behind entries of the queue.
+/// Returns whether a fence waits: later loads or inputs may come only after the earlier entries of its predecessor set
+/// have drained.
 fn waits(pred: u8, succ: u8) -> bool
     ensures { result ≡ waits pred succ }
 {
     has_class(pred) && (succ >> 1 & 1 == 1 || succ >> 3 & 1 == 1)
 }
 
-/// Whether a fence puts a marker in the queue.
+/// Returns whether a fence adds a marker to the queue.
 fn marks(pred: u8, succ: u8) -> bool
     ensures { result ≡ marks pred succ }
 {
     !waits(pred, succ) && has_class(pred) && has_class(succ)
 }
 
+/// Makes the marker of a fence.
 fn marker(pred: u8, succ: u8) -> Entry
     ensures { result ≡ marker pred succ }
 {
@@ -44,6 +47,7 @@ fn marker(pred: u8, succ: u8) -> Entry
     }
 }
 
+/// Returns the bytes of a store, for a hart whose last load gave `last`.
 fn payload(last: &Bytes, bytes: &Payload) -> Bytes
     ensures { result ≡ payload last.now bytes.now }
 {
@@ -53,6 +57,7 @@ fn payload(last: &Bytes, bytes: &Payload) -> Bytes
     }
 }
 
+/// Makes the entry of an IO store.
 fn io_entry(target: IoTarget) -> Entry
     ensures { result ≡ io_entry target }
 {
@@ -81,7 +86,7 @@ fn io_entry(target: IoTarget) -> Entry
     }
 }
 
-/// The entry that an operation puts in the queue, where it puts one.
+/// Returns the entry that an operation adds to the queue, or None where it adds none.
 pub(crate) fn entry_of(last: &Bytes, op: &HartOp) -> Option<Entry>
     ensures { result ≡ entry_of last.now op.now }
 {
@@ -108,7 +113,7 @@ pub(crate) fn entry_of(last: &Bytes, op: &HartOp) -> Option<Entry>
     }
 }
 
-/// Whether an operation puts an entry in the queue.
+/// Returns whether an operation adds an entry to the queue.
 pub(crate) fn needs_entry(op: &HartOp) -> bool
     ensures { result ≡ needs_entry op.now }
 {
@@ -120,7 +125,7 @@ pub(crate) fn needs_entry(op: &HartOp) -> bool
     }
 }
 
-/// Whether a fence that waits finds no entry of its predecessor set.
+/// Returns whether a fence that waits finds no entry of its predecessor set; true for every other operation.
 pub(crate) fn fence_clear(queue: &Queue, op: &HartOp) -> bool
     ensures { result ≡ fence_clear queue.now.entries op.now }
 {
@@ -135,7 +140,8 @@ pub(crate) fn fence_clear(queue: &Queue, op: &HartOp) -> bool
     }
 }
 
-/// Whether an IO load, from memory or from a register, finds no entry of class O.
+/// Returns whether an IO load, from memory or from a register, finds no entry of class O; true for every other
+/// operation.
 pub(crate) fn load_clear(queue: &Queue, op: &HartOp) -> bool
     ensures { result ≡ load_clear queue.now.entries op.now }
 {

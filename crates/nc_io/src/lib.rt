@@ -1,9 +1,9 @@
 //! Sources and sinks of bytes whose failures have a cause.
 //!
-//! The contract for the crates above: a source or a sink answers `Failed` only where its count of faults rose in the
-//! call, and `write_all` leaves the whole piece written, or a front of it where it stops. A generic program that is
-//! proved over `Source` and `Sink` is so proved over memory, over memory some of whose calls fail, and over the
-//! readers and writers of std.
+//! The contract for the crates above: a source or a sink returns `Failed` only where its count of faults rose in the
+//! call or stands at its limit of 2^64 - 1. `write_all` writes the whole piece, or a prefix of it where it stops. A
+//! generic program that is proved over `Source` and `Sink` is proved over memory, over memory some of whose calls fail,
+//! and over the readers and writers of std.
 #![tactic(auto)]
 
 mod memory;

@@ -12,7 +12,7 @@ use crate::sure::{SureSink, SureSource};
 use std::alloc::Global;
 use std::marker::Model;
 
-/// Bytes of memory, of which one read gives at most a chunk. Some reads fail, by their numbers.
+/// A source over bytes of memory. One read gives at most `chunk` bytes, and the reads whose indices are listed fail.
 #[derive(Drop)]
 pub struct MemSource {
     inner: SureSource,
@@ -37,8 +37,8 @@ impl Model for MemSource {
 }
 
 impl MemSource {
-    /// A source of these bytes, of which one read gives at most `chunk`, which is at least 1. The calls of `read` whose
-    /// numbers, counted from 0, are in `fails` fail.
+    /// Makes a source of these bytes, of which one read gives at most `chunk`, which is at least 1. The calls of `read`
+    /// whose indices, counted from 0, are in `fails` fail.
     pub fn new(bytes: Vec<u8>, chunk: usize, fails: Vec<u32>) -> MemSource
         requires { 0 < chunk }
         ensures { result ≡ record { left = bytes.items; chunk = chunk; ended = false; fails = fails.items; calls = 0; faults = 0 } }
@@ -79,14 +79,14 @@ impl Source for MemSource {
     }
 }
 
-/// Whether the number of a call is listed.
+/// Returns whether the index of a call is listed.
 fn is_listed(fails: &[u32], call: u64) -> bool
     ensures { IsTrue result ↔ Contains fails.now call }
 {
     fails.iter().any(|number| u64::from(*number) == call)
 }
 
-/// Keeps what is written in memory. Some writes fail, by their numbers.
+/// A sink that keeps in memory what is written to it. The writes whose indices are listed fail.
 #[derive(Drop)]
 pub struct MemSink {
     inner: SureSink,
@@ -104,7 +104,7 @@ impl Model for MemSink {
 }
 
 impl MemSink {
-    /// An empty sink. The calls of `write` whose numbers, counted from 0, are in `fails` fail.
+    /// Makes an empty sink. The calls of `write` whose indices, counted from 0, are in `fails` fail.
     pub fn new(alloc: Global, fails: Vec<u32>) -> MemSink
         ensures { result ≡ record { held = []; fails = fails.items; calls = 0; faults = 0 } }
     {
@@ -116,7 +116,7 @@ impl MemSink {
         }
     }
 
-    /// What was written.
+    /// Returns the bytes that were written so far.
     pub fn bytes(&self) -> &[u8]
         ensures { result.now ≡ self.now.held }
     {

@@ -1,4 +1,4 @@
-//! Where bytes go.
+//! Sinks: what bytes are written to.
 
 ghost use Rattle.std.specs.Prelude.{◌≡◌, ◌<◌, ◌≤◌, ℕ, List, length, Option, OnOk, OnErr, IfOk};
 ghost use Rattle.std.specs.Io.{WritesAtMost};
@@ -6,24 +6,28 @@ ghost use Rattle.std.specs.Io.KnownBytes.{Appends, WriteAppends};
 ghost use Rattle.nc_io.specs.Causes.{Rose};
 ghost use Rattle.nc_io.specs.Streams.{GrowsByFront};
 
-/// Why a sink took nothing.
+/// The reason why a sink took no bytes.
 #[derive(Clone, Copy, Debug, PartialEq, Eq)]
 pub enum Stop {
-    /// The write failed, and the sink's count of faults rose.
+    /// The write failed, and the sink's count of faults rose or stands at its limit.
     Failed,
     /// Memory ran out.
     NoMemory,
 }
 
-/// Where bytes go.
+/// A sink of bytes.
 pub trait Sink {
-    /// What it holds, where that is told.
+    /// The bytes that it holds, where they are known.
     ghost held: { Self → Option (List ℕ) };
     /// How often it has failed, at most 2^64 - 1. The count never falls.
     ghost faults: { Self → ℕ };
 
-    /// Takes a front of the piece, and says how many bytes it is: not 0 for a piece that is not empty. Where it stops,
-    /// it has taken nothing.
+    /// Takes a prefix of the piece and returns its length in bytes, which is not 0 for a piece that is not empty.
+    ///
+    /// # Errors
+    ///
+    /// `Stop`, and then no byte was taken. `Failed` comes only where the count of faults rose in this call or stands at
+    /// its limit.
     fn write(&mut self, piece: &[u8]) -> Result<usize, Stop>
         ensures bound { WritesAtMost result piece.now }
         ensures bytes { WriteAppends (held self.old) (held self.new) result piece.now }
@@ -32,7 +36,12 @@ pub trait Sink {
         ensures cause { result ≡ Err Stop.Failed → Rose (faults self.old) (faults self.new) };
 }
 
-/// Writes the whole piece, or a front of it where it stops.
+/// Writes the whole piece.
+///
+/// # Errors
+///
+/// The `Stop` of the sink, and then a prefix of the piece is written. `Failed` comes only where the sink's count of
+/// faults rose in this call or stands at its limit.
 pub fn write_all<K: Sink>(out: &mut K, piece: &[u8]) -> Result<(), Stop>
     ensures ok { OnOk result (Appends (K.held out.old) (K.held out.new) piece.now) }
     ensures stop { OnErr result (GrowsByFront (K.held out.old) (K.held out.new) piece.now) }

@@ -1,4 +1,4 @@
-//! Where bytes come from.
+//! Sources: what bytes are read from.
 
 ghost use Rattle.std.specs.Prelude.{◌≡◌, ℕ, List, Bool, length, Option};
 ghost use Rattle.std.specs.Io.{ReadsAtMost};
@@ -6,21 +6,26 @@ ghost use Rattle.std.specs.Io.KnownBytes.{ReadConsumes};
 ghost use Rattle.nc_io.specs.Causes.{HasCause};
 ghost use Rattle.nc_io.specs.Ends.{Tells};
 
-/// A read failed. Nothing of what is left was taken.
+/// The error of a read that failed. It took none of the bytes that are left.
 #[derive(Clone, Copy, Debug, PartialEq, Eq)]
 pub struct Failed;
 
-/// Where bytes come from.
+/// A source of bytes.
 pub trait Source {
-    /// What is left, where that is told.
+    /// The bytes that are left, where they are known.
     ghost left: { Self → Option (List ℕ) };
-    /// Whether it has told its end.
+    /// Whether a read has marked its end.
     ghost ended: { Self → Bool };
     /// How often it has failed, at most 2^64 - 1. The count never falls.
     ghost faults: { Self → ℕ };
 
-    /// Fills a front of the buffer with the next bytes, and says how many they are: 0 for a buffer that is not empty
-    /// tells the end. `Failed` comes only where the count of faults rose in this call.
+    /// Fills a prefix of the buffer with the next bytes and returns its length. A length of 0 for a buffer that is not
+    /// empty marks the end of the source.
+    ///
+    /// # Errors
+    ///
+    /// `Failed` only where the count of faults rose in this call or stands at its limit. Then none of the bytes that
+    /// are left was taken.
     fn read(&mut self, buf: &mut [u8]) -> Result<usize, Failed>
         ensures bound { ReadsAtMost result buf.new }
         ensures bytes { ReadConsumes (left self.old) (left self.new) result buf.new }

@@ -6,7 +6,8 @@ use crate::sink::{Sink, Stop};
 use crate::source::{Failed, Source};
 use std::io::{Read, Write};
 
-/// A reader of std, with a count of its failures and a flag for its end. What a real stream gives is not told.
+/// A source over a reader of std, with a count of its failures and a flag for its end. What a real stream gives is not
+/// known.
 #[derive(Drop)]
 pub struct StdSource<R: Read> {
     inner: R,
@@ -15,7 +16,7 @@ pub struct StdSource<R: Read> {
 }
 
 impl<R: Read> StdSource<R> {
-    /// A source over this reader, with no fault and no end told.
+    /// Makes a source over this reader, which has not failed and has not marked its end.
     pub fn new(inner: R) -> StdSource<R>
         ensures { result ≡ record { inner = inner; faults = 0; ended = false } }
     {
@@ -50,7 +51,7 @@ impl<R: Read> Source for StdSource<R> {
     }
 }
 
-/// A writer of std, with a count of its failures. What a real stream took is not told.
+/// A sink over a writer of std, with a count of its failures. What a real stream took is not known.
 #[derive(Drop)]
 pub struct StdSink<W: Write> {
     inner: W,
@@ -58,7 +59,7 @@ pub struct StdSink<W: Write> {
 }
 
 impl<W: Write> StdSink<W> {
-    /// A sink over this writer, with no fault.
+    /// Makes a sink over this writer, which has not failed.
     pub fn new(inner: W) -> StdSink<W>
         ensures { result ≡ record { inner = inner; faults = 0 } }
     {

@@ -11,7 +11,7 @@ use crate::source::{Failed, Source};
 use std::alloc::Global;
 use std::marker::Model;
 
-/// Bytes of memory, of which one read gives at most a chunk. No read fails.
+/// A source over bytes of memory. One read gives at most `chunk` bytes, and no read fails.
 #[derive(Drop)]
 pub struct SureSource {
     bytes: Vec<u8>,
@@ -32,7 +32,7 @@ impl Model for SureSource {
 }
 
 impl SureSource {
-    /// A source of these bytes, of which one read gives at most `chunk`, which is at least 1.
+    /// Makes a source of these bytes, of which one read gives at most `chunk`, which is at least 1.
     pub fn new(bytes: Vec<u8>, chunk: usize) -> SureSource
         requires { 0 < chunk }
         ensures { result ≡ record { left = bytes.items; chunk = chunk; ended = false } }
@@ -69,7 +69,7 @@ impl Source for SureSource {
     }
 }
 
-/// Gives the front of what is left, at most a chunk of it.
+/// Copies a prefix of what is left, at most `chunk` bytes, into the buffer, and returns its length.
 fn give(left: &[u8], chunk: usize, buf: &mut [u8]) -> usize
     requires { 0 < chunk }
     ensures within { result ≤ length left.now }
@@ -83,7 +83,7 @@ fn give(left: &[u8], chunk: usize, buf: &mut [u8]) -> usize
     count
 }
 
-/// Keeps what is written in memory. No write fails, but memory may run out.
+/// A sink that keeps in memory what is written to it. No write fails, but memory may run out.
 #[derive(Drop)]
 pub struct SureSink {
     bytes: Vec<u8>,
@@ -98,7 +98,7 @@ impl Model for SureSink {
 }
 
 impl SureSink {
-    /// An empty sink.
+    /// Makes an empty sink.
     pub fn new(alloc: Global) -> SureSink
         ensures { result ≡ [] }
     {
@@ -107,7 +107,7 @@ impl SureSink {
         }
     }
 
-    /// What was written.
+    /// Returns the bytes that were written so far.
     pub fn bytes(&self) -> &[u8]
         ensures { result.now ≡ self.now }
     {

@@ -1,9 +1,8 @@
-//! Lines: the entries of a store queue, and behind them what the plan of its hart is still to put there.
+//! Lines: the entries of a store queue, followed by those that the plan of its hart is still to push.
 //!
-//! The crate has no code. An entry that is issued from a plan leaves its line as it was, so that what holds of a line
-//! changes by drains alone, and by what scripts push; the laws say what these leave of the entries that others or
-//! markers cover. The contract for the
-//! layers above: the definitions of `specs/Lines.antt`, and the laws.
+//! The crate has no code. An entry that a plan issues leaves its line unchanged, so a property of a line changes only
+//! by drains and by what scripts push. The laws say how these keep the property that entries are covered by others or
+//! by markers. The contract for the layers above: the definitions of `specs/Lines.antt`, and the laws.
 #![tactic(auto)]
 
 mod laws;

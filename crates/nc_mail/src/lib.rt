@@ -1,8 +1,8 @@
-//! The mailbox: for each buffer, the hart for which a message about it waits, if there is one.
+//! The mailbox: for each buffer, the hart for which a message about it waits, if one waits.
 //!
-//! One hart passes a buffer to another by a message, which is posted when its store drains, and is taken by the hart
-//! that it is for. The mailbox is this project's own. The one contract for the crates above: a mailbox is a list of
-//! who waits, buffer by buffer.
+//! One hart passes a buffer to another by a message. It is posted when the sender's store drains, and the hart that it
+//! is for takes it. The mailbox is this project's own. The contract for the crates above: a mailbox is a list with an
+//! entry for each buffer, the hart for which its message waits.
 #![tactic(auto)]
 
 mod mail;

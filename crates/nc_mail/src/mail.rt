@@ -1,4 +1,4 @@
-//! One box for each buffer.
+//! A box for each buffer.
 
 ghost use Rattle.std.specs.Prelude.{◌≡◌, ◌<◌, ◌↔◌, Some, None, length, replicate, slice_set, IfOk, IsTrue};
 ghost use Rattle.std.specs.Bool.{OnTrue, OnFalse};
@@ -8,7 +8,7 @@ use nc_num::{HartNo, NoMemory};
 use std::alloc::Global;
 use std::marker::Model;
 
-/// A box for each buffer, with the hart for which its message waits. Contracts see the list of the boxes.
+/// A mailbox: a box for each buffer, with the hart for which its message waits. Contracts see the list of the boxes.
 #[derive(Drop)]
 pub struct Mail {
     boxes: Vec<Option<HartNo>>,
@@ -24,7 +24,7 @@ impl Model for Mail {
 }
 
 impl Mail {
-    /// Empty boxes for so many buffers, which are numbered from 0.
+    /// Makes an empty box for each of `buffers` buffers, which are counted from 0.
     ///
     /// # Errors
     ///
@@ -36,7 +36,8 @@ impl Mail {
         Ok(Mail { boxes })
     }
 
-    /// Puts a message for a hart into a buffer's box. It replaces what waits there.
+    /// Puts a message for the hart `to` into the box of buffer `buf`, which exists. It replaces a message that waits
+    /// there.
     pub fn post(&mut self, buf: u8, to: HartNo)
         requires { buf < length self.old }
         ensures { self.new ≡ slice_set self.old buf (Some to) }
@@ -44,7 +45,7 @@ impl Mail {
         self.boxes[usize::from(buf)] = Some(to);
     }
 
-    /// The hart for which a buffer's message waits, or None where nothing waits.
+    /// Returns the hart for which the message of buffer `buf` waits, or None where no message waits.
     pub fn waits(&self, buf: u8) -> Option<HartNo>
         requires { buf < length self.now }
         ensures { result ≡ waiting self.now buf }
@@ -52,7 +53,8 @@ impl Mail {
         self.boxes[usize::from(buf)]
     }
 
-    /// Takes the message of a buffer, if it waits for this hart, and says whether it did.
+    /// Takes the message of buffer `buf` where it waits for the hart `me`, and returns whether it did. Otherwise the
+    /// mailbox is unchanged.
     pub fn take(&mut self, buf: u8, me: HartNo) -> bool
         requires { buf < length self.old }
         ensures taken { IsTrue result ↔ (waiting self.old buf ≡ Some me) }

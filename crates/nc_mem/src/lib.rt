@@ -1,8 +1,8 @@
 //! RAM: the bytes of main memory, which the cache domain and the DMA channels read and write.
 //!
-//! The contract for the crates above: memory is a list of bytes, all zero at the start. A read gives the bytes of its
-//! span, and a write changes them and no other. `nc_num` has the two words, `span` and `splice`, and their laws place
-//! by place.
+//! The contract for the crates above: memory is a list of bytes, all zero at the start. A read returns the bytes of its
+//! span. A write changes the bytes of its span and no others. `nc_num` has the two definitions, `span` and `splice`,
+//! and their laws place by place.
 #![tactic(auto)]
 
 ghost use Rattle.std.specs.Prelude.{◌≡◌, ◌+◌, ◌^◌, ◌≤◌, ◌<◌, length, replicate, IfOk};
@@ -29,7 +29,11 @@ impl Model for Ram {
 }
 
 impl Ram {
-    /// Memory of `len` bytes, all of them 0. Fails only for want of memory.
+    /// Makes a memory of `len` bytes, all of them 0.
+    ///
+    /// # Errors
+    ///
+    /// `NoMemory` where memory runs out.
     pub fn new(alloc: Global, len: u32) -> Result<Ram, NoMemory>
         ensures { IfOk result (λ ram. ram ≡ replicate len 0) }
     {
@@ -37,7 +41,7 @@ impl Ram {
         Ok(Ram { bytes })
     }
 
-    /// The number of bytes.
+    /// Returns the number of bytes.
     pub fn len(&self) -> u32
         ensures value { result ≡ length self.now }
         ensures small { length self.now < 2 ^ 32 }
@@ -45,7 +49,7 @@ impl Ram {
         self.bytes.len() as u32
     }
 
-    /// The bytes of a span, which lies in RAM and has at most 128 bytes.
+    /// Returns the bytes of a span, which lies in RAM and has at most 128 bytes.
     #[tactic(auto, unfolding(nc_num::specs::Memory::span))]
     pub fn read(&self, span: Span) -> Bytes
         requires within { span.at + span.len ≤ length self.now }
@@ -59,7 +63,8 @@ impl Ram {
         Bytes::of(&self.bytes[at..at + len])
     }
 
-    /// Writes bytes to a span, which lies in RAM, has their length, and has at most 128 bytes.
+    /// Writes bytes to a span, which lies in RAM and has at most 128 bytes. There are as many bytes as the span is
+    /// long.
     #[tactic(auto, unfolding(nc_num::specs::Memory::splice))]
     pub fn write(&mut self, span: Span, bytes: &[u8])
         requires within { span.at + span.len ≤ length self.old }

@@ -7,7 +7,7 @@ use std::marker::Model;
 
 /// Bytes, each with the place that names it. Contracts see the list of the pairs.
 ///
-/// A channel's bytes are named by the places of the buffer that they stand for.
+/// The bytes of a channel are named by the places of the buffer that they stand for.
 #[derive(Debug, Drop)]
 pub struct NamedBytes {
     pairs: Vec<(Place, u8)>,
@@ -23,14 +23,14 @@ impl Model for NamedBytes {
 }
 
 impl NamedBytes {
-    /// These pairs.
+    /// Makes a list of these pairs.
     pub fn new(pairs: Vec<(Place, u8)>) -> NamedBytes
         ensures { result ≡ pairs.items }
     {
         NamedBytes { pairs }
     }
 
-    /// The pairs.
+    /// Returns the pairs, in order.
     pub fn as_slice(&self) -> &[(Place, u8)]
         ensures { result.now ≡ self.now }
     {
@@ -38,12 +38,12 @@ impl NamedBytes {
     }
 }
 
-/// One access of a run: a script's load or store, a channel's transaction, or a block that a script or the making of
-/// a coherent area zeroes. The loads and stores of a plan are none.
+/// One access of a run: a load or store of a script, a transaction of a channel, or the zeroing of a block by a script
+/// or by the making of a coherent area. The loads and stores of a plan are not among them.
 #[derive(Debug, Drop)]
 pub enum Deed {
-    /// It showed these bytes.
+    /// A read that showed these bytes.
     Read(NamedBytes),
-    /// It wrote these bytes.
+    /// A write of these bytes.
     Write(NamedBytes),
 }

@@ -1,9 +1,9 @@
-//! What ownership and flat memory mean: who owns a place, what the owner's table lets a hart and a channel do, what a
-//! touch is, and which bytes a read must show.
+//! The meaning of ownership and of flat memory: who owns a place, what the owner table lets a hart and a channel do,
+//! what a touch is, and which bytes a read must show.
 //!
-//! There is no product code here but the types and their accessors. The definitions stand in `specs/`, and each public
-//! function is a law about them. The contract for the crates above: of the transfers the newest that covers a place
-//! gives its owner, and flat memory is the writes of a list of accesses, applied in order.
+//! The only product code here is the types and their accessors. The definitions stand in `specs/`, and each public
+//! function without a receiver is a law about them. The contract for the crates above: the owner of a place is that of
+//! the newest transfer that covers it, and flat memory is the writes of a list of accesses, applied in order.
 #![tactic(auto)]
 
 mod deeds;

@@ -1,31 +1,31 @@
-//! Who owns a byte, who acts, and what a mapping grants to a channel.
+//! The owners of a byte, who makes an access, and what a mapping grants to a channel.
 
 use nc_num::{ChanNo, Dir, HartNo, MapId, Span};
 
 /// The owner of a byte of RAM.
 ///
-/// A streaming mapping belongs to the device from map to unmap, but between a sync for the CPU and the next sync for
-/// the device (Linux DMA API). The owners between two of these, and the passing of a buffer between harts, are this
-/// project's own.
+/// A streaming mapping belongs to the device from map to unmap, except between a sync for the CPU and the next sync for
+/// the device (Linux DMA API). The owners between two of these states, and the passing of a buffer between harts, are
+/// this project's own.
 #[derive(Clone, Copy, Debug, PartialEq, Eq)]
 pub enum Owner {
-    /// This hart may read and write.
+    /// A hart, which may read and write it.
     Thread(HartNo),
     /// On its way from the first hart to the second: nobody may use it.
     Passing(HartNo, HartNo),
     /// The plan that lends it to the device is under way: nobody may use it.
     Lending(MapId),
-    /// The mapping's channel may use it through the device range, by the mapping's direction.
+    /// A mapping, whose channel may use it through the device range, by the direction of the mapping.
     Device(MapId),
     /// The plan that takes it back from the device is under way: nobody may use it.
     Returning(MapId),
-    /// Synced for the CPU: the mapping's hart may read it, and write it unless the direction is `FromDev`.
+    /// A mapping synced for the CPU: its hart may read it, and write it unless the direction is `FromDev`.
     Synced(MapId),
-    /// No buffer's: nobody may use it.
+    /// It belongs to no buffer: nobody may use it.
     Pool,
 }
 
-/// Who makes an access.
+/// The maker of an access.
 #[derive(Clone, Copy, Debug, PartialEq, Eq)]
 pub enum Actor {
     /// A hart, by its script.
@@ -34,12 +34,12 @@ pub enum Actor {
     Chan(ChanNo),
 }
 
-/// What an access does.
+/// The kind of an access.
 #[derive(Clone, Copy, Debug, PartialEq, Eq)]
 pub enum Access {
-    /// It reads.
+    /// A read.
     Read,
-    /// It writes.
+    /// A write.
     Write,
 }
 
@@ -52,7 +52,7 @@ pub struct Grant {
     pub buffer: Span,
     /// The places that the channel uses for them: the same range, or as many bytes of a bounce slot.
     pub device: Span,
-    /// The mapping's direction; of a coherent area `Both`.
+    /// The direction of the mapping; `Both` for a coherent area.
     pub dir: Dir,
     /// The channel.
     pub chan: ChanNo,

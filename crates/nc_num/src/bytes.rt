@@ -5,7 +5,7 @@ ghost use Rattle.nc_num.specs.Padded.{padded};
 
 use std::marker::Model;
 
-/// At most 128 bytes: what one transfer of the machine moves. Contracts see the list of the bytes.
+/// A run of at most 128 bytes: what one transfer of the machine moves. Contracts see the list of the bytes.
 #[derive(Clone, Copy, Debug, PartialEq, Eq)]
 pub struct Bytes {
     cells: [u8; 128],
@@ -29,7 +29,7 @@ impl Model for Bytes {
     ghost inverse_ok = { fields_back };
 }
 
-/// The bytes, with zeros behind them.
+/// Returns the bytes, padded with zeros to 128.
 fn cells_of(s: &[u8]) -> [u8; 128]
     requires { length s.now ≤ 128 }
     ensures { result ≡ padded s.now }
@@ -40,7 +40,7 @@ fn cells_of(s: &[u8]) -> [u8; 128]
 }
 
 impl Bytes {
-    /// A copy of the bytes of a slice, of which there are at most 128.
+    /// Makes a copy of the bytes of a slice, of which there are at most 128.
     pub fn of(s: &[u8]) -> Bytes
         requires { length s.now ≤ 128 }
         ensures { result ≡ s.now }
@@ -52,7 +52,7 @@ impl Bytes {
         }
     }
 
-    /// The bytes.
+    /// Returns the bytes, at most 128 of them.
     pub fn as_slice(&self) -> &[u8]
         ensures value { result.now ≡ self.now }
         ensures short { length self.now ≤ 128 }

@@ -1,14 +1,14 @@
-//! Who acts, and on what.
+//! The names of those who act and of what they act on, and the error of memory that runs out.
 
 ghost use Rattle.std.specs.Prelude.{◌≡◌};
 
 use std::alloc::{AllocError, AllocFailed};
 
-/// The number of a hart, 0 to 3.
+/// The index of a hart, 0 to 3.
 #[derive(Clone, Copy, Debug, PartialEq, Eq, PartialOrd, Ord)]
 pub struct HartNo(pub u8);
 
-/// The number of a DMA channel, 0 to 3.
+/// The index of a DMA channel, 0 to 3.
 #[derive(Clone, Copy, Debug, PartialEq, Eq, PartialOrd, Ord)]
 pub struct ChanNo(pub u8);
 
@@ -17,14 +17,15 @@ pub struct ChanNo(pub u8);
 #[derive(Clone, Copy, Debug, PartialEq, Eq, PartialOrd, Ord)]
 pub struct Label(pub u32);
 
-/// A mapping: the entry of this number under a label of a hart. Entries of a scatter list are counted from 0.
+/// The name of a mapping: its hart, the hart's label, and the index of the entry under that label. Entries of a scatter
+/// list are counted from 0.
 #[derive(Clone, Copy, Debug, PartialEq, Eq, PartialOrd, Ord)]
 pub struct MapId {
     /// The hart that mapped it.
     pub hart: HartNo,
     /// The label that the hart gave it.
     pub label: Label,
-    /// The entry's number: 0 but in a scatter list, and 1 for the destination of a copy.
+    /// The index of the entry: 0 except in a scatter list, and 1 for the destination of a copy.
     pub entry: u8,
 }
 
@@ -42,7 +43,7 @@ pub enum Dir {
 /// The type of an access to memory, by the page's PBMT field (RISC-V Privileged Architecture, Svpbmt).
 #[derive(Clone, Copy, Debug, PartialEq, Eq)]
 pub enum MemType {
-    /// Main memory through the caches.
+    /// Main memory, accessed through the caches.
     Pma,
     /// Main memory, not cached.
     Nc,
@@ -50,7 +51,7 @@ pub enum MemType {
     Io,
 }
 
-/// Memory ran out. The call that says so has left everything as before.
+/// The error of a call for which memory ran out. The call has left everything unchanged.
 #[derive(Clone, Copy, Debug, PartialEq, Eq)]
 pub struct NoMemory;
 

@@ -5,15 +5,15 @@ ghost use Rattle.nc_num.specs.Sizes.{IsBlockSize};
 ghost use Rattle.nc_num.specs.Places.{block_at, piece, pieces, Tiles};
 ghost use Rattle.nc_num.specs.declared.places.Span.{Span};
 
-/// A place of RAM: a byte's offset from the start of RAM.
+/// A place of RAM: the offset of a byte from the start of RAM.
 #[derive(Clone, Copy, Debug, PartialEq, Eq, PartialOrd, Ord)]
 pub struct Place(pub u32);
 
-/// The number of a cache block: its start, divided by the block size.
+/// The index of a cache block: its start in bytes, divided by the block size.
 #[derive(Clone, Copy, Debug, PartialEq, Eq, PartialOrd, Ord)]
 pub struct Block(pub u32);
 
-/// A run of places: the `len` bytes from the place `at` on.
+/// A run of places: the `len` bytes that begin at the place `at`.
 #[derive(Clone, Copy, Debug, PartialEq, Eq)]
 pub struct Span {
     /// The place of the first byte.
@@ -22,7 +22,7 @@ pub struct Span {
     pub len: u32,
 }
 
-/// The first piece of a span: its longest start of 8, 4, 2 or 1 bytes that is naturally aligned.
+/// Returns the first piece of a span: its longest prefix of 8, 4, 2 or 1 bytes that is naturally aligned.
 ///
 /// A hart loads and stores a span piece by piece: the first piece, and then the pieces of the rest. This is this
 /// project's own rule.
@@ -44,7 +44,7 @@ pub fn first_piece(span: Span) -> Span
     Span { at, len: taken }
 }
 
-/// The block that a place is in, for a block size of 32, 64 or 128 bytes (RISC-V CMO 1.0: a cache block is a
+/// Returns the block that contains a place, for a block size of 32, 64 or 128 bytes (RISC-V CMO 1.0: a cache block is a
 /// naturally aligned power-of-two range, of one size throughout the system).
 pub fn block_of(at: Place, size: u32) -> Block
     requires { IsBlockSize size }
@@ -53,8 +53,8 @@ pub fn block_of(at: Place, size: u32) -> Block
     Block(at.0 / size)
 }
 
-/// The pieces of a span cover it, in order, each of 8, 4, 2 or 1 bytes, naturally aligned and in one block of each
-/// size.
+/// Proves that the pieces of a span cover it in order, each of 8, 4, 2 or 1 bytes, naturally aligned and in one block
+/// of each size.
 #[tactic(auto, using(crate::proofs::Tiling::tiles))]
 pub fn pieces_tile()
     ensures { (span : Span) → Tiles span.at span.len (pieces span) }

@@ -1,4 +1,4 @@
-//! The book.
+//! The book of owners and grants.
 
 ghost use Rattle.std.specs.Prelude.{◌≡◌, ◌+◌, ◌^◌, ◌<◌, ◌≤◌, true, [], ◌∷◌, ◌++◌, length, replicate, Option, Some, None, IfOk, IfErr, IfSome, MatchOption, OnOk, OnErr, false};
 ghost use Rattle.std.specs.List.{find};
@@ -21,10 +21,10 @@ use nc_num::{ChanNo, HartNo, MapId, NoMemory, Place, Span};
 use std::alloc::Global;
 use std::marker::Model;
 
-/// Who owns each byte of RAM, and what is granted to the channels.
+/// The owners of all bytes of RAM, and the grants of the channels.
 ///
 /// Contracts see the list of the owners of all places, the list of the grants in order of adding, and `spare`, the
-/// number of changes that there is room for.
+/// number of changes that the book has room for.
 #[derive(Drop)]
 pub struct Book {
     ram: u32,
@@ -47,7 +47,11 @@ impl Model for Book {
 }
 
 impl Book {
-    /// A book over so many bytes of RAM: all are the pool's, and nothing is granted.
+    /// Makes a book over `ram` bytes of RAM: all are the pool's, and nothing is granted.
+    ///
+    /// # Errors
+    ///
+    /// `NoMemory` where memory runs out.
     pub fn new(alloc: Global, ram: u32) -> Result<Book, NoMemory>
         ensures owners { IfOk result (λ b. b.owners ≡ replicate ram owner.Pool) }
         ensures grants { IfOk result (λ b. b.grants ≡ []) }
@@ -63,7 +67,11 @@ impl Book {
         })
     }
 
-    /// Makes room for n changes. Owners and grants stay, and room that was there stays, whatever the answer.
+    /// Makes room for `n` changes. Owners, grants and the room that the book had stay.
+    ///
+    /// # Errors
+    ///
+    /// `NoMemory` where memory runs out; then the room is unchanged.
     pub fn reserve(&mut self, n: u32) -> Result<(), NoMemory>
         ensures room { OnOk result (n ≤ self.new.spare) }
         ensures kept { self.old.spare ≤ self.new.spare }
@@ -79,14 +87,14 @@ impl Book {
         Ok(())
     }
 
-    /// Returns the intervals of RAM by owner, ascending: each as long as its places have one owner. It takes no memory.
+    /// Returns the intervals of RAM by owner, ascending. Neighbours have different owners. It takes no memory.
     pub fn intervals(&self) -> &[Interval]
         ensures { AreIntervals self.now.owners result.now }
     {
         &self.intervals
     }
 
-    /// The owner of a place of RAM.
+    /// Returns the owner of a place of RAM.
     pub fn owner(&self, at: Place) -> Owner
         requires { at.0 < length self.now.owners }
         ensures { result ≡ owner_in self.now.owners at.0 }
@@ -94,7 +102,8 @@ impl Book {
         self.interval(at.0).owner
     }
 
-    /// Gives the bytes of a span another owner. It takes no memory, and one unit of room.
+    /// Gives the bytes of a span, which is not empty and lies in RAM, another owner. It takes no memory, and at most
+    /// one unit of room.
     pub fn transfer(&mut self, span: Span, owner: Owner)
         requires room { 1 ≤ self.old.spare }
         requires some { 0 < span.len }
@@ -110,7 +119,8 @@ impl Book {
         self.room -= 1;
     }
 
-    /// Grants to a channel what a mapping lends it, behind all other grants. It takes no memory, and one unit of room.
+    /// Adds the grant of a mapping to its channel, after all other grants. The caller shows that its device range meets
+    /// no other's and that its mapping has no grant yet. It takes no memory, and at most one unit of room.
     pub fn add(&mut self, g: Grant)
         requires room { 1 ≤ self.old.spare }
         requires can { CanAdd (length self.old.owners) self.old.grants g }
@@ -122,7 +132,7 @@ impl Book {
         self.room -= 1;
     }
 
-    /// Takes the grant of a mapping away.
+    /// Removes the grant of a mapping, where it has one.
     pub fn remove(&mut self, id: MapId)
         ensures owners { self.new.owners ≡ self.old.owners }
         ensures grants { self.new.grants ≡ without self.old.grants id }
@@ -131,8 +141,8 @@ impl Book {
         remove_with_id(&mut self.grants, id);
     }
 
-    /// The mapping and the place of its buffer for which a channel may use a place: by the channel's own grants alone,
-    /// and None exactly where the place lies in none of their device ranges.
+    /// Returns the mapping and the place of its buffer for which a channel may use a place, by the channel's own grants
+    /// alone. The result is None exactly where the place lies in none of their device ranges.
     pub fn resolve(&self, c: ChanNo, at: Place) -> Option<(MapId, Place)>
         ensures found { result ≡ resolve self.now.grants c at.0 }
         ensures in_ram { IfSome result (λ p. p.1.0 < length self.now.owners) }
@@ -144,11 +154,16 @@ impl Book {
         }
     }
 
-    /// Judges an access by the owner table: Ok where it may use each byte of the span, and else the touch that it is,
-    /// of kind `Load` or `Store` for a hart and `Channel` for a channel. Memory types are not looked at.
+    /// Judges an access by the owner table: returns Ok where it may use each byte of the span. Memory types are not
+    /// looked at.
     ///
-    /// A channel uses a byte through a device range of its own grants. The holder is the owner of the first byte at
-    /// fault, and in a channel's transaction of the buffer's byte that it stands for through any grant.
+    /// A channel uses a byte through a device range of its own grants.
+    ///
+    /// # Errors
+    ///
+    /// The touch that the access is, of kind `Load` or `Store` for a hart and `Channel` for a channel. Its holder is
+    /// the owner of the first byte at fault; in a transaction of a channel, the owner of the buffer's byte that this
+    /// byte stands for through any grant.
     pub fn may(&self, who: Actor, access: Access, span: Span) -> Result<(), Touch>
         requires some { 0 < span.len }
         requires inside { span.at + span.len ≤ length self.now.owners }
@@ -165,8 +180,8 @@ impl Book {
         }
     }
 
-    /// The first place of a span whose byte is not a hart's own, with its owner. None exactly where each byte is the
-    /// hart's own. It looks at each interval of the span once.
+    /// Returns the first place of a span whose byte is not the hart's own, with its owner, or None exactly where each
+    /// byte is the hart's own. It looks at each interval of the span once.
     pub fn first_other(&self, me: HartNo, span: Span) -> Option<(Place, Owner)>
         requires { span.at + span.len ≤ length self.now.owners }
         ensures first { option_map (λ p. p.0.0) result ≡ first_fault (λ x. thread_of me (owner_in self.now.owners x)) span }
@@ -184,7 +199,7 @@ impl Book {
         None
     }
 
-    /// The touch that a hart's access is.
+    /// Returns the touch that a hart's access is, or None where it is none.
     fn hart_touch(&self, h: HartNo, access: Access, span: Span) -> Option<Touch>
         requires some { 0 < span.len }
         requires inside { span.at + span.len ≤ length self.now.owners }
@@ -203,7 +218,7 @@ impl Book {
         })
     }
 
-    /// The touch that a channel's transaction is.
+    /// Returns the touch that a channel's transaction is, or None where it is none.
     fn channel_touch(&self, c: ChanNo, access: Access, span: Span) -> Option<Touch>
         requires some { 0 < span.len }
         requires inside { span.at + span.len ≤ length self.now.owners }
@@ -218,7 +233,7 @@ impl Book {
         })
     }
 
-    /// The first place of a span that the hart may not use.
+    /// Returns the first place of a span that the hart may not use.
     fn hart_fault(&self, h: HartNo, access: Access, span: Span) -> Option<Place>
         requires { span.at + span.len ≤ length self.now.owners }
         ensures first { option_map (λ p. p.0) result ≡ first_fault (λ x. hart_may self.now.grants h access (owner_in self.now.owners x)) span }
@@ -236,7 +251,7 @@ impl Book {
         None
     }
 
-    /// The first place of a span that the channel may not use.
+    /// Returns the first place of a span that the channel may not use.
     fn channel_fault(&self, c: ChanNo, access: Access, span: Span) -> Option<Place>
         requires { span.at + span.len ≤ length self.now.owners }
         ensures first { option_map (λ p. p.0) result ≡ first_fault (channel_may (owner_in self.now.owners) self.now.grants c access) span }
@@ -253,7 +268,7 @@ impl Book {
         None
     }
 
-    /// The place behind a span of RAM.
+    /// Returns the place after a span of RAM.
     fn end_of(&self, span: Span) -> u32
         requires { span.at + span.len ≤ length self.now.owners }
         ensures { result ≡ span.at + span.len }
@@ -262,7 +277,7 @@ impl Book {
         span.at + span.len
     }
 
-    /// The interval that has a place of RAM.
+    /// Returns the interval that contains a place of RAM.
     fn interval(&self, at: u32) -> Interval
         requires { at < length self.now.owners }
         ensures around { IsAround self.now.owners at result }
@@ -271,7 +286,7 @@ impl Book {
         interval_at(&self.intervals, self.guesses.at(at), at)
     }
 
-    /// Whether a hart may use a byte of this owner.
+    /// Returns whether a hart may use a byte of this owner.
     fn hart_may(&self, h: HartNo, access: Access, owner: Owner) -> bool
         ensures { result ≡ hart_may self.now.grants h access owner }
     {
@@ -282,7 +297,7 @@ impl Book {
         }
     }
 
-    /// Whether the hart of a mapping that is synced for the CPU may use its bytes so.
+    /// Returns whether the hart of a mapping that is synced for the CPU may make this access to its bytes.
     fn synced_may(&self, access: Access, m: MapId) -> bool
         ensures { result ≡ synced_may access (grant_of self.now.grants m) }
     {
@@ -292,7 +307,8 @@ impl Book {
         }
     }
 
-    /// The place before which a channel may use all from a place on, None where it may not use that place.
+    /// Returns the end of a range that begins at `at` and that the channel may use whole, or None where it may not use
+    /// `at`.
     fn channel_reach(&self, c: ChanNo, access: Access, at: u32) -> Option<u32>
         ensures { MatchOption result (channel_may (owner_in self.now.owners) self.now.grants c access at ≡ false) (Reaches (channel_may (owner_in self.now.owners) self.now.grants c access) at) }
     {
@@ -308,7 +324,7 @@ impl Book {
         }
     }
 
-    /// The grant through which a channel uses a place.
+    /// Returns the grant through which a channel uses a place.
     fn serving(&self, c: ChanNo, at: u32) -> Option<Grant>
         ensures found { result ≡ served_by self.now.grants c at }
         ensures fits { IfSome result (FitsIn (length self.now.owners)) }
@@ -320,7 +336,7 @@ impl Book {
         grant_for_channel(&self.grants, c, at)
     }
 
-    /// The place that a place stands for in a transaction.
+    /// Returns the place that a place stands for in a transaction.
     fn stands_for(&self, at: Place) -> Place
         requires { at.0 < length self.now.owners }
         ensures place { result.0 ≡ stands_for self.now.grants at.0 }
@@ -332,7 +348,7 @@ impl Book {
         }
     }
 
-    /// The grant whose device range has a place.
+    /// Returns the grant whose device range contains a place.
     fn granted(&self, at: u32) -> Option<Grant>
         ensures found { result ≡ find (has_device at) self.now.grants }
         ensures fits { IfSome result (FitsIn (length self.now.owners)) }

@@ -9,14 +9,14 @@ ghost use Rattle.nc_model.specs.Rights.{is_thread as thread_of, grant_of, served
 use nc_model::{Access, Grant, Owner};
 use nc_num::{ChanNo, Dir, HartNo, MapId, Span};
 
-/// Whether the place lies in the span.
+/// Returns whether the place lies in the span.
 fn covers(span: Span, at: u32) -> bool
     ensures { result ≡ span_covers span at }
 {
     span.at <= at && at - span.at < span.len
 }
 
-/// Whether a byte of this owner is the hart's own.
+/// Returns whether a byte of this owner is the hart's own.
 pub fn is_thread(me: HartNo, owner: Owner) -> bool
     ensures { result ≡ thread_of me owner }
 {
@@ -31,14 +31,14 @@ pub fn is_thread(me: HartNo, owner: Owner) -> bool
     }
 }
 
-/// The grant of a mapping.
+/// Returns the grant of a mapping, or None where it has none.
 pub fn grant_with_id(grants: &[Grant], id: MapId) -> Option<Grant>
     ensures { result ≡ grant_of grants.now id }
 {
     grants.iter().copied().find(|g| g.id == id)
 }
 
-/// The grant through which a channel uses a place.
+/// Returns the first grant of the channel `c` whose device range contains the place, or None.
 pub fn grant_for_channel(grants: &[Grant], c: ChanNo, at: u32) -> Option<Grant>
     ensures { result ≡ served_by grants.now c at }
 {
@@ -48,14 +48,14 @@ pub fn grant_for_channel(grants: &[Grant], c: ChanNo, at: u32) -> Option<Grant>
         .find(|g| g.chan == c && covers(g.device, at))
 }
 
-/// The grant whose device range has the place.
+/// Returns the first grant of any channel whose device range contains the place, or None.
 pub fn grant_over(grants: &[Grant], at: u32) -> Option<Grant>
     ensures { result ≡ find (has_device at) grants.now }
 {
     grants.iter().copied().find(|g| covers(g.device, at))
 }
 
-/// The place of the buffer that a place of the grant's device range stands for.
+/// Returns the place of the buffer that a place of the grant's device range stands for.
 pub fn buffer_place(g: Grant, at: u32) -> u32
     requires covers { span_covers g.device at ≡ true }
     requires lengths { g.buffer.len ≡ g.device.len }
@@ -65,7 +65,7 @@ pub fn buffer_place(g: Grant, at: u32) -> u32
     g.buffer.at + (at - g.device.at)
 }
 
-/// What the CPU may do with a mapping that is synced for it.
+/// Returns whether the CPU may make an access to a mapping that is synced for it, by the direction of the mapping.
 pub fn cpu_may(access: Access, dir: Dir) -> bool
     ensures { result ≡ may_by_cpu access dir }
 {
@@ -75,7 +75,7 @@ pub fn cpu_may(access: Access, dir: Dir) -> bool
     }
 }
 
-/// What the device may do with a mapping that is its own.
+/// Returns whether the device may make an access to a mapping that is its own, by the direction of the mapping.
 pub fn device_may(access: Access, dir: Dir) -> bool
     ensures { result ≡ may_by_device access dir }
 {
@@ -85,7 +85,7 @@ pub fn device_may(access: Access, dir: Dir) -> bool
     }
 }
 
-/// Whether a channel may use through a grant a byte of the buffer that has this owner.
+/// Returns whether a channel may use a byte of the buffer, which has this owner, through a grant.
 pub fn grant_allows(g: Grant, access: Access, owner: Owner) -> bool
     ensures { result ≡ (is_device g.id owner && may_by_device access g.dir) }
 {
@@ -95,7 +95,7 @@ pub fn grant_allows(g: Grant, access: Access, owner: Owner) -> bool
     }
 }
 
-/// Takes the grants of a mapping out, and leaves the others in order.
+/// Removes the grants of a mapping, and leaves the others in order.
 pub fn remove_with_id(grants: &mut Vec<Grant>, id: MapId)
     ensures grants { grants.new.items ≡ without grants.old.items id }
     ensures shorter { vec_len grants.new ≤ vec_len grants.old }

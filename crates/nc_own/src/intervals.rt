@@ -1,4 +1,4 @@
-//! Intervals of RAM, one behind another, each with its owner.
+//! Intervals of RAM without gaps, each with its owner.
 
 ghost use Rattle.std.specs.Prelude.{◌≡◌, ◌≢◌, ◌⊎◌, ◌++◌, ◌+◌, ◌-◌, ◌^◌, ◌<◌, ◌≤◌, ℕ, true, length, take, drop, vec_len, vec_capacity, if◌then◌else◌};
 ghost use Rattle.std.specs.List.{HoldsAt};
@@ -9,16 +9,16 @@ ghost use Rattle.nc_own.specs.Tiles.{places, Tile, Joined, made, run, Has, Found
 use nc_model::Owner;
 use nc_num::Span;
 
-/// Places of RAM that lie side by side and have one owner (this project's own).
+/// A run of adjacent places of RAM that have one owner (this project's own).
 #[derive(Clone, Copy, Debug, PartialEq, Eq)]
 pub struct Interval {
     /// The places.
     pub span: Span,
-    /// Their owner.
+    /// The owner of the places.
     pub owner: Owner,
 }
 
-/// The place behind a span.
+/// Returns the place after a span.
 pub fn end_of(span: Span) -> u32
     requires { span.at + span.len < 2 ^ 32 }
     ensures { result ≡ span.at + span.len }
@@ -26,7 +26,7 @@ pub fn end_of(span: Span) -> u32
     span.at + span.len
 }
 
-/// The number of the interval that has a place, by halving.
+/// Returns the index of the interval that contains a place, by binary search.
 pub fn index_of(intervals: &[Interval], at: u32) -> usize
     requires tile { Tile 0 intervals.now }
     requires inside { at < places intervals.now }
@@ -36,7 +36,7 @@ pub fn index_of(intervals: &[Interval], at: u32) -> usize
     intervals.partition_point(|i| i.span.at <= at) - 1
 }
 
-/// The interval that has a place, with its number.
+/// Returns the interval that contains a place, with its index.
 fn find(intervals: &[Interval], at: u32) -> (usize, Interval)
     requires tile { Tile 0 intervals.now }
     requires inside { at < places intervals.now }
@@ -46,7 +46,8 @@ fn find(intervals: &[Interval], at: u32) -> (usize, Interval)
     (number, intervals[number])
 }
 
-/// The number of the interval that has a place: a guessed one where that has it, or else by halving.
+/// Returns the index of the interval that contains a place: the guessed one where it does, else one found by binary
+/// search.
 fn index_near(intervals: &[Interval], guess: usize, at: u32) -> usize
     requires tile { Tile 0 intervals.now }
     requires inside { at < places intervals.now }
@@ -60,7 +61,7 @@ fn index_near(intervals: &[Interval], guess: usize, at: u32) -> usize
     }
 }
 
-/// The interval that has a place, from a guess at its number.
+/// Returns the interval that contains a place, from a guess at its index.
 pub fn interval_at(intervals: &[Interval], guess: usize, at: u32) -> Interval
     requires tile { Tile 0 intervals.now }
     requires inside { at < places intervals.now }
@@ -69,23 +70,23 @@ pub fn interval_at(intervals: &[Interval], guess: usize, at: u32) -> Interval
     intervals[index_near(intervals, guess, at)]
 }
 
-/// Whether the place lies in the span.
+/// Returns whether the place lies in the span.
 fn has(span: Span, at: u32) -> bool
     ensures { result ≡ covers span at }
 {
     span.at <= at && at - span.at < span.len
 }
 
-/// Where an owner's interval ends and a neighbour's begins: at the outer place where they are one owner's, else at the
-/// inner one.
+/// Returns where the interval of an owner ends and that of a neighbour begins: the outer place where both have one
+/// owner, else the inner place.
 fn border(neighbour: Owner, owner: Owner, outer: u32, inner: u32) -> u32
     ensures { IsBorder neighbour owner outer inner result }
 {
     if neighbour == owner { outer } else { inner }
 }
 
-/// Inserts the interval from one place to another as number `at`, or none where there is nothing between them. It takes
-/// no memory.
+/// Inserts the interval from `start` to `end` at the index `at`, or nothing where the range is empty. It takes no
+/// memory.
 pub fn insert_run(intervals: &mut Vec<Interval>, at: usize, start: u32, end: u32, owner: Owner)
     requires room { vec_len intervals.old < vec_capacity intervals.old }
     requires inside { at ≤ vec_len intervals.old }
@@ -107,7 +108,7 @@ pub fn insert_run(intervals: &mut Vec<Interval>, at: usize, start: u32, end: u32
     }
 }
 
-/// Removes the intervals from number `first` on, up to the one before number `end`.
+/// Removes the intervals from index `first` on, up to but without index `end`.
 fn remove_from(intervals: &mut Vec<Interval>, first: usize, end: usize)
     requires order { first ≤ end }
     requires inside { end ≤ vec_len intervals.old }
@@ -120,8 +121,8 @@ fn remove_from(intervals: &mut Vec<Interval>, first: usize, end: usize)
     }
 }
 
-/// Gives the places of a span an owner: cuts what lies before and behind them, or joins it where it is the same
-/// owner's. It takes no memory.
+/// Gives the places of a span an owner. What lies before and after it in a cut interval keeps its owner, and is joined
+/// where that is the same one. It takes no memory.
 pub fn give(intervals: &mut Vec<Interval>, ram: u32, span: Span, owner: Owner)
     requires tile { Tile 0 intervals.old.items }
     requires joined { Joined intervals.old.items }

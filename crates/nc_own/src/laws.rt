@@ -1,14 +1,14 @@
-//! How the list of owners follows the transfers.
+//! The laws of the list of owners.
 
 ghost use Rattle.nc_own.specs.Laws.{EachFollows, JudgeAlike};
 
-/// The list of the owners of all places is that of the transfers made, place by place the newest, and a change of it is
-/// one more transfer.
+/// Proves that the list of the owners of all places follows the list of transfers: each place has the owner of the
+/// newest transfer over it, and a change of the list is one more transfer.
 pub fn book_is_transfers()
     ensures { EachFollows }
 {}
 
-/// Two functions of owners that agree in RAM judge each access inside it alike.
+/// Proves that two functions of owners that agree in RAM judge each access inside RAM alike.
 pub fn same_touches()
     ensures { JudgeAlike }
 {}

@@ -1,4 +1,4 @@
-//! Where a script's access goes.
+//! The target of an access of a script.
 
 use nc_num::MemType;
 

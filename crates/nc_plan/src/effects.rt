@@ -1,4 +1,4 @@
-//! What cache operations do for a hart, and whether the plans of a mapping may use them.
+//! The effects of cache operations for a hart, and whether the plans of a mapping may use them.
 
 ghost use Rattle.std.specs.Prelude.{◌≡◌};
 ghost use Rattle.nc_env.specs.Enables.{IsEnvcfg};
@@ -7,7 +7,8 @@ ghost use Rattle.nc_plan.specs.Effects.{effects_of, legal, needs};
 use nc_env::{CboOp, Field, Illegal, Mode, decide};
 use nc_num::Dir;
 
-/// What each cache operation is performed as for a hart, or by which field it is illegal (RISC-V CMO 1.0).
+/// The operation that each cache operation is performed as for a hart, or the field that makes it illegal (RISC-V CMO
+/// 1.0).
 #[derive(Clone, Copy, Debug, PartialEq, Eq)]
 pub struct Effects {
     /// `cbo.clean`.
@@ -20,12 +21,12 @@ pub struct Effects {
     pub zero: Result<CboOp, Illegal>,
 }
 
-/// A mapping needs a cache operation that is illegal: the field that forbids it.
+/// The error of a mapping that needs a cache operation which is illegal, with the field that forbids it.
 #[derive(Clone, Copy, Debug, PartialEq, Eq)]
 pub struct CboOff(pub Field);
 
-/// The effects of the four operations in a mode, by the two registers, of which neither has the reserved value 10 in
-/// CBIE (RISC-V CMO 1.0).
+/// Returns the effects of the four operations in a mode, by the registers `menvcfg` and `senvcfg`, neither of which has
+/// the reserved value 10 in CBIE (RISC-V CMO 1.0).
 pub fn effects_of(mode: Mode, menvcfg: u64, senvcfg: u64) -> Effects
     requires menvcfg_known { IsEnvcfg menvcfg }
     requires senvcfg_known { IsEnvcfg senvcfg }
@@ -39,9 +40,12 @@ pub fn effects_of(mode: Mode, menvcfg: u64, senvcfg: u64) -> Effects
     }
 }
 
-/// Whether a hart may map in this direction, as the Linux DMA API needs it: a mapping to the device is cleaned, and
-/// another one is flushed as it is lent and invalidated as it returns. The error names the first field that forbids
-/// one of these, in this order.
+/// Checks that a hart may map in this direction, as the Linux DMA API needs it: a mapping to the device is cleaned, and
+/// any other is flushed as it is lent and invalidated as it returns.
+///
+/// # Errors
+///
+/// `CboOff` with the first field that forbids one of these operations, in this order.
 pub fn needs(e: &Effects, dir: Dir) -> Result<(), CboOff>
     ensures { result ≡ needs e.now dir }
 {
@@ -54,6 +58,7 @@ pub fn needs(e: &Effects, dir: Dir) -> Result<(), CboOff>
     }
 }
 
+/// Checks that an operation is legal.
 fn legal(effect: Result<CboOp, Illegal>) -> Result<(), CboOff>
     ensures { result ≡ legal effect }
 {

@@ -1,10 +1,10 @@
-//! What a hart is asked to do: its operations, the effects that its cache operations have, the plans of a mapping, and
-//! the steps of an access or of a channel's set-up by their number.
+//! The operations that a hart performs: their kinds, the effects of its cache operations, the plans of a mapping, and
+//! the steps of an access or of a channel's set-up by their index.
 //!
-//! The contract for the crates above: `effects_of` and `needs` are the definitions of `specs/Effects.antt`, `bounces` is
-//! the rule of `specs/Parts.antt`, and the four plans are the whole lists of `specs/Plans.antt`. The definitions of steps
-//! in `specs/` are offered to the crates that give one step at a time. Harts, the driver, scatter lists, coherent areas,
-//! copies and the written machine stand on it.
+//! The contract for the crates above: `effects_of` and `needs` are the definitions of `specs/Effects.antt`, `bounces`
+//! is the rule of `specs/Parts.antt`, and the four plans are the whole lists of `specs/Plans.antt`. The definitions of
+//! steps in `specs/` serve the crates that give one step at a time. Harts, the driver, scatter lists, coherent areas,
+//! copies and the written machine build on it.
 #![tactic(auto)]
 
 mod access;

@@ -12,7 +12,7 @@ pub enum Payload {
     Last,
 }
 
-/// What an IO store stores to.
+/// The target of an IO store.
 #[derive(Clone, Copy, Debug, PartialEq, Eq)]
 pub enum IoTarget {
     /// A register of a DMA channel.
@@ -28,23 +28,23 @@ pub enum IoTarget {
     },
     /// The mailbox of a buffer, which is handed to a hart.
     Mail {
-        /// The buffer's number.
+        /// The index of the buffer.
         buf: u8,
         /// The hart that may take it.
         to: HartNo,
     },
-    /// An ownership token: as it drains, parts of a mapping become the device's. This project's own.
+    /// An ownership token: when it drains, parts of a mapping become the device's. This project's own.
     Lend {
-        /// The mapping's label.
+        /// The label of the mapping.
         label: Label,
-        /// The number of the first part.
+        /// The index of the first part.
         first: u8,
-        /// How many parts there are.
+        /// The number of parts.
         count: u8,
     },
 }
 
-/// One operation of a hart. FENCE sets have the bits I 8, O 4, R 2 and W 1 (RISC-V).
+/// One operation of a hart. FENCE sets have the bits I 8, O 4, R 2 and W 1 (RISC-V FENCE).
 #[derive(Clone, Copy, Debug, PartialEq, Eq)]
 pub enum HartOp {
     /// A load of one piece.
@@ -60,12 +60,12 @@ pub enum HartOp {
         span: Span,
         /// The type of their page.
         kind: MemType,
-        /// What is written.
+        /// The bytes that are written.
         bytes: Payload,
     },
     /// A cache operation, by its effect.
     Cbo {
-        /// What is performed, which for an invalidate may be a flush.
+        /// The operation that is performed, which for an invalidate may be a flush.
         op: CboOp,
         /// The block that it names.
         block: Block,

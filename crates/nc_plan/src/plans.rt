@@ -1,4 +1,4 @@
-//! The lending and the returning plan.
+//! The lending plan and the returning plan.
 
 ghost use Rattle.std.specs.Prelude.{◌≡◌, ◌+◌, ◌-◌, ◌≤◌, ◌<◌, ◌^◌, ◌++◌, [], ◌∷◌, IfOk, OnOk, flat_map, All};
 ghost use Rattle.nc_num.specs.Sizes.{IsBlockSize};
@@ -12,7 +12,12 @@ use nc_env::CboOp;
 use nc_num::{Block, Dir, MemType, NoMemory, Span, first_piece};
 use std::alloc::Global;
 
-/// The operations that lend parts to their channel (Linux DMA API: `dma_map_single`, `dma_map_sg`): the lending plan.
+/// Returns the operations that lend parts to their channel (Linux DMA API: `dma_map_single`, `dma_map_sg`): the lending
+/// plan, which writes each block back before the device sees it. `block_size` is in bytes.
+///
+/// # Errors
+///
+/// `NoMemory` where memory runs out.
 pub fn plan_map(
     alloc: Global,
     e: &Effects,
@@ -26,8 +31,12 @@ pub fn plan_map(
     lending_plan(alloc, e, block_size, parts)
 }
 
-/// The operations that take parts back from their channel (Linux DMA API: `dma_unmap_single`, `dma_unmap_sg`): the
-/// returning plan.
+/// Returns the operations that take parts back from their channel (Linux DMA API: `dma_unmap_single`, `dma_unmap_sg`):
+/// the returning plan, which drops each block that the device may have written. `block_size` is in bytes.
+///
+/// # Errors
+///
+/// `NoMemory` where memory runs out.
 pub fn plan_unmap(
     alloc: Global,
     e: &Effects,
@@ -41,8 +50,12 @@ pub fn plan_unmap(
     returning_plan(alloc, e, block_size, parts)
 }
 
-/// The operations before the processor may see a mapping that stays (Linux DMA API: `dma_sync_single_for_cpu`): the
-/// returning plan.
+/// Returns the operations that a sync for the CPU performs before the processor may see a mapping that stays (Linux DMA
+/// API: `dma_sync_single_for_cpu`): the returning plan.
+///
+/// # Errors
+///
+/// `NoMemory` where memory runs out.
 pub fn plan_to_cpu(
     alloc: Global,
     e: &Effects,
@@ -56,8 +69,12 @@ pub fn plan_to_cpu(
     returning_plan(alloc, e, block_size, parts)
 }
 
-/// The operations before the device may see a mapping that stays (Linux DMA API: `dma_sync_single_for_device`): the
-/// lending plan.
+/// Returns the operations that a sync for the device performs before the device may see a mapping that stays (Linux DMA
+/// API: `dma_sync_single_for_device`): the lending plan.
+///
+/// # Errors
+///
+/// `NoMemory` where memory runs out.
 pub fn plan_to_dev(
     alloc: Global,
     e: &Effects,
@@ -71,23 +88,23 @@ pub fn plan_to_dev(
     lending_plan(alloc, e, block_size, parts)
 }
 
-/// The blocks of a span are those that it meets, ascending, each once.
+/// Proves that the blocks of a span are those that it meets, ascending, each once.
 pub fn blocks_are_met()
     ensures { BlocksAreMet }
 {}
 
-/// The pieces of a range, moved to one of equal length and equal start mod 8, are the pieces of that one: the loads of
-/// a copy cover the one range, and its stores the other.
+/// Proves that the pieces of a range, moved to one of equal length and equal start mod 8, are the pieces of that range:
+/// the loads of a copy cover the one range, and its stores the other.
 pub fn pieces_move()
     ensures { PiecesMove }
 {}
 
-/// In each plan the cache operations of the blocks stand before its fence.
+/// Proves that in each plan the cache operations of the blocks stand before its fence.
 pub fn plans_are_fenced()
     ensures { PlansAreFenced }
 {}
 
-/// Each bounced part goes into its slot, then each block is written back, then all is fenced.
+/// Returns the lending plan: each bounced part goes into its slot, then each block is written back, then all is fenced.
 #[tactic(auto, unfolding(crate::specs::Plans::lending))]
 fn lending_plan(
     alloc: Global,
@@ -106,8 +123,8 @@ fn lending_plan(
     Ok(lent)
 }
 
-/// Each block that the device may have written is dropped, then all is fenced, then each bounced part comes back out
-/// of its slot.
+/// Returns the returning plan: each block that the device may have written is dropped, then all is fenced, then each
+/// bounced part comes back out of its slot.
 #[tactic(auto, unfolding(crate::specs::Plans::returning))]
 fn returning_plan(
     alloc: Global,
@@ -126,6 +143,7 @@ fn returning_plan(
     Ok(back)
 }
 
+/// Adds the copies of the bounced parts into their slots.
 fn copy_all_in(ops: &mut Vec<HartOp>, parts: &[Part]) -> Result<(), NoMemory>
     requires { All IsPart parts.now }
     ensures { OnOk result (ops.new.items ≡ ops.old.items ++ flat_map copied_in parts.now) }
@@ -136,6 +154,7 @@ fn copy_all_in(ops: &mut Vec<HartOp>, parts: &[Part]) -> Result<(), NoMemory>
     Ok(())
 }
 
+/// Adds the write-back of each block of the parts.
 fn write_all_back(
     ops: &mut Vec<HartOp>,
     e: &Effects,
@@ -152,6 +171,7 @@ fn write_all_back(
     Ok(())
 }
 
+/// Adds the drop of each block of the parts that the device may have written.
 fn drop_all(
     ops: &mut Vec<HartOp>,
     e: &Effects,
@@ -168,6 +188,7 @@ fn drop_all(
     Ok(())
 }
 
+/// Adds the copies of the bounced parts out of their slots.
 fn copy_all_back(ops: &mut Vec<HartOp>, parts: &[Part]) -> Result<(), NoMemory>
     requires { All IsPart parts.now }
     ensures { OnOk result (ops.new.items ≡ ops.old.items ++ flat_map copied_back parts.now) }
@@ -178,7 +199,7 @@ fn copy_all_back(ops: &mut Vec<HartOp>, parts: &[Part]) -> Result<(), NoMemory>
     Ok(())
 }
 
-/// A bounced part goes into its slot.
+/// Adds the copy of a bounced part into its slot.
 #[tactic(auto, unfolding(crate::specs::Plans::copied_in))]
 fn copy_in(ops: &mut Vec<HartOp>, part: &Part) -> Result<(), NoMemory>
     requires { IsPart part.now }
@@ -190,7 +211,7 @@ fn copy_in(ops: &mut Vec<HartOp>, part: &Part) -> Result<(), NoMemory>
     Ok(())
 }
 
-/// The blocks of a part are written back: cleaned where the device only reads them, and flushed else.
+/// Adds the write-back of the blocks of a part: a clean where the device only reads them, else a flush.
 #[tactic(auto, unfolding(crate::specs::Plans::written_back))]
 fn write_back(
     ops: &mut Vec<HartOp>,
@@ -205,7 +226,7 @@ fn write_back(
     push_cbos(ops, lend_op(e, part.dir), block_size, part.device)
 }
 
-/// The blocks of a part that the device may have written are dropped.
+/// Adds the drop of the blocks of a part that the device may have written.
 #[tactic(auto, unfolding(crate::specs::Plans::dropped))]
 fn drop_blocks(
     ops: &mut Vec<HartOp>,
@@ -228,7 +249,7 @@ fn drop_blocks(
     Ok(())
 }
 
-/// A bounced part that the device may have written comes back out of its slot.
+/// Adds the copy of a bounced part that the device may have written out of its slot.
 #[tactic(auto, unfolding(crate::specs::Plans::copied_back))]
 fn copy_back(ops: &mut Vec<HartOp>, part: &Part) -> Result<(), NoMemory>
     requires { IsPart part.now }
@@ -240,7 +261,7 @@ fn copy_back(ops: &mut Vec<HartOp>, part: &Part) -> Result<(), NoMemory>
     Ok(())
 }
 
-/// What the hart performs to write a block back.
+/// Returns the operation that the hart performs to write a block back.
 fn lend_op(e: &Effects, dir: Dir) -> CboOp
     ensures { result ≡ lend_op e.now dir }
 {
@@ -250,7 +271,11 @@ fn lend_op(e: &Effects, dir: Dir) -> CboOp
     }
 }
 
-/// A cache operation on each block of a span.
+/// Adds to `ops` a cache operation on each block of a span, ascending. `block_size` is in bytes.
+///
+/// # Errors
+///
+/// `NoMemory` where memory runs out; the contents of `ops` are then unspecified.
 pub fn push_cbos(
     ops: &mut Vec<HartOp>,
     op: CboOp,
@@ -276,7 +301,8 @@ pub fn push_cbos(
     Ok(())
 }
 
-/// Each piece of a span is loaded, and stored as far from the start of `to` as it lies from that of `from`.
+/// Adds the copy of a span, piece by piece: each piece is loaded, and stored as far from the start of `to` as it lies
+/// from the start of `from`.
 #[tactic(auto, using(crate::proofs::PieceLaws::piece_rules))]
 fn push_copies(ops: &mut Vec<HartOp>, from: Span, to: Span) -> Result<(), NoMemory>
     requires from { from.at + from.len < 2 ^ 32 }
@@ -296,7 +322,7 @@ fn push_copies(ops: &mut Vec<HartOp>, from: Span, to: Span) -> Result<(), NoMemo
     Ok(())
 }
 
-/// A piece is loaded, and stored as far from the place `to` as it lies from the place `from`.
+/// Adds the copy of a piece: it is loaded, and stored as far from the place `to` as it lies from the place `from`.
 fn push_copy(ops: &mut Vec<HartOp>, piece: Span, from: u32, to: u32) -> Result<(), NoMemory>
     requires after { from ≤ piece.at }
     requires room { to + (piece.at - from) < 2 ^ 32 }
@@ -322,17 +348,22 @@ fn push_copy(ops: &mut Vec<HartOp>, piece: Span, from: u32, to: u32) -> Result<(
     )
 }
 
-/// FENCE iorw, iorw.
+/// Adds to `ops` a full fence, FENCE iorw, iorw (RISC-V).
+///
+/// # Errors
+///
+/// `NoMemory` where memory runs out; the contents of `ops` are then unspecified.
 pub fn push_full(ops: &mut Vec<HartOp>) -> Result<(), NoMemory>
     ensures { OnOk result (ops.new.items ≡ ops.old.items ++ full ∷ []) }
 {
     push(ops, HartOp::Fence { pred: 15, succ: 15 })
 }
 
+/// Adds an operation.
 fn push(ops: &mut Vec<HartOp>, op: HartOp) -> Result<(), NoMemory>
     ensures { OnOk result (ops.new.items ≡ ops.old.items ++ op ∷ []) }
 {
-    // the prover looks for the types inside an operation among those that the function names
+    // The prover looks for the types inside an operation among those that the function names.
     let _inside = Payload::Last;
     ops.push(op)?;
     Ok(())

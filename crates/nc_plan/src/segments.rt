@@ -14,7 +14,7 @@ pub struct Segment {
     pub len: u32,
 }
 
-/// At most 16 segments, kept in place and copied. Contracts see the list of the segments.
+/// A list of at most 16 segments, kept in place and copied. Contracts see the list of the segments.
 #[derive(Clone, Copy, Debug, PartialEq, Eq)]
 pub struct SegList {
     cells: [Segment; 16],
@@ -39,7 +39,7 @@ impl Model for SegList {
     ghost inverse_ok = { fields_back };
 }
 
-/// The segments, with empty ones behind them.
+/// Returns the segments, padded with empty ones to 16.
 fn cells_of(s: &[Segment]) -> [Segment; 16]
     requires { length s.now ≤ 16 }
     ensures { result ≡ padded s.now }
@@ -50,7 +50,7 @@ fn cells_of(s: &[Segment]) -> [Segment; 16]
 }
 
 impl SegList {
-    /// A copy of the segments of a slice, of which there are at most 16.
+    /// Makes a copy of the segments of a slice, of which there are at most 16.
     pub fn of(s: &[Segment]) -> SegList
         requires { length s.now ≤ 16 }
         ensures { result ≡ s.now }
@@ -62,7 +62,7 @@ impl SegList {
         }
     }
 
-    /// The segments.
+    /// Returns the segments, in order; at most 16.
     pub fn as_slice(&self) -> &[Segment]
         ensures value { result.now ≡ self.now }
         ensures few { length self.now ≤ 16 }

@@ -7,15 +7,15 @@ ghost use Rattle.nc_queue.specs.Entries.{is_io, is_w, is_o, in_set, block_of, ha
 use nc_env::CboOp;
 use nc_num::{Block, Bytes, ChanNo, HartNo, Label, MemType, Place, Span, block_of};
 
-/// What a hart has issued and others do not see yet. The kinds and their classes are this project's own, after the
-/// predecessor and successor sets of the RISC-V FENCE.
+/// An entry: what a hart has issued and others do not see yet. The kinds and their classes are this project's own,
+/// after the predecessor and successor sets of the RISC-V FENCE.
 #[derive(Clone, Copy, Debug, PartialEq, Eq)]
 pub enum Entry {
     /// A store of at most 8 bytes in one block.
     Store {
         /// The places that are written.
         span: Span,
-        /// As many bytes as the span has.
+        /// The bytes, as many as the span has.
         bytes: Bytes,
         /// The type of the page that the store went through.
         kind: MemType,
@@ -24,7 +24,7 @@ pub enum Entry {
     Cbo {
         /// The block that it names.
         block: Block,
-        /// What is performed, which for an invalidate may be a flush.
+        /// The operation that is performed, which for an invalidate may be a flush.
         op: CboOp,
     },
     /// A store to a register of a DMA channel.
@@ -38,36 +38,36 @@ pub enum Entry {
         /// The value that is stored.
         value: u64,
     },
-    /// A mailbox store: a buffer is handed to a hart.
+    /// A mailbox store, which hands a buffer to a hart.
     Mail {
-        /// The buffer's number.
+        /// The index of the buffer.
         buf: u8,
         /// The hart that may take it.
         to: HartNo,
     },
     /// An ownership token: when it drains, parts of a mapping become the device's.
     Lend {
-        /// The mapping's label.
+        /// The label of the mapping.
         label: Label,
-        /// The number of the first part.
+        /// The index of the first part.
         first: u8,
-        /// How many parts there are.
+        /// The number of parts.
         count: u8,
     },
-    /// A fence marker: later entries of a class in `succ` stay behind earlier ones of a class in `pred`.
+    /// A fence marker: later entries of a class in `succ` wait for earlier ones of a class in `pred`.
     Mark {
-        /// The predecessor set, of the bits I 8, O 4, R 2 and W 1.
+        /// The predecessor set, by the bits I 8, O 4, R 2 and W 1.
         pred: u8,
-        /// The successor set, of the same bits.
+        /// The successor set, by the same bits.
         succ: u8,
     },
 }
 
-/// The queue was full: the entry that found no room.
+/// The error of a push into a full queue, with the entry that found no room.
 #[derive(Clone, Copy, Debug, PartialEq, Eq)]
 pub struct Full(pub Entry);
 
-/// Whether an entry is of class W.
+/// Returns whether an entry is of class W.
 fn is_w(e: &Entry) -> bool
     ensures { result ≡ is_w e.now }
 {
@@ -77,7 +77,7 @@ fn is_w(e: &Entry) -> bool
     }
 }
 
-/// Whether an entry is of class O.
+/// Returns whether an entry is of class O.
 pub(crate) fn is_o(e: &Entry) -> bool
     ensures { result ≡ is_o e.now }
 {
@@ -88,6 +88,7 @@ pub(crate) fn is_o(e: &Entry) -> bool
     }
 }
 
+/// Returns whether a memory type is IO.
 pub(crate) fn is_io(kind: MemType) -> bool
     ensures { result ≡ is_io kind }
 {
@@ -97,14 +98,14 @@ pub(crate) fn is_io(kind: MemType) -> bool
     }
 }
 
-/// Whether an entry is of a class in a FENCE set, whose bits 0 and 2 stand for W and O.
+/// Returns whether an entry is of a class in a FENCE set, whose bits 0 and 2 stand for W and O.
 pub(crate) fn in_set(e: &Entry, set: u8) -> bool
     ensures { result ≡ in_set e.now set }
 {
     (is_w(e) && set & 1 == 1) || (is_o(e) && set >> 2 & 1 == 1)
 }
 
-/// The block of an entry, where it has one.
+/// Returns the block of an entry, where it has one.
 pub(crate) fn entry_block(e: &Entry, size: u32) -> Option<u32>
     requires { IsBlockSize size }
     ensures { result ≡ block_of size e.now }
@@ -116,6 +117,7 @@ pub(crate) fn entry_block(e: &Entry, size: u32) -> Option<u32>
     }
 }
 
+/// Returns whether an entry has this block.
 pub(crate) fn has_block(e: &Entry, block: u32, size: u32) -> bool
     requires { IsBlockSize size }
     ensures { result ≡ has_block size block e.now }
@@ -126,7 +128,7 @@ pub(crate) fn has_block(e: &Entry, block: u32, size: u32) -> bool
     }
 }
 
-/// Whether an entry gives the byte of a place: a store over it, or a zero of its block.
+/// Returns whether an entry gives the byte of a place: a store over it, or a zero of its block.
 pub(crate) fn gives_byte(e: &Entry, x: u32, size: u32) -> bool
     requires { IsBlockSize size }
     ensures { result ≡ is_some (entry_gives size e.now x) }
@@ -138,6 +140,7 @@ pub(crate) fn gives_byte(e: &Entry, x: u32, size: u32) -> bool
     }
 }
 
+/// Returns whether a cache operation gives the byte of a place: a zero of its block.
 fn op_gives(op: CboOp, block: Block, x: u32, size: u32) -> bool
     requires { IsBlockSize size }
     ensures { result ≡ is_some (op_gives size op block.0 x) }
@@ -148,6 +151,7 @@ fn op_gives(op: CboOp, block: Block, x: u32, size: u32) -> bool
     }
 }
 
+/// Returns whether an entry is a token of the label.
 pub(crate) fn lends_label(e: &Entry, label: Label) -> bool
     ensures { result ≡ lends_label label.0 e.now }
 {

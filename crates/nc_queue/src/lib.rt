@@ -1,9 +1,9 @@
-//! The store queue of a hart: at most eight stores, cache operations, register stores, mailbox stores, ownership
-//! tokens and fence markers that are issued and not yet visible to others.
+//! The store queue of a hart: at most eight stores, cache operations, register stores, mailbox stores, ownership tokens
+//! and fence markers that are issued and not yet visible to others.
 //!
-//! The contract for the crates above: contracts see a queue as the list of its entries, the oldest first, and each
-//! call is exactly the rule of `specs/Rules.antt` on that list. The laws of `proofs/` say what a push and a drain
-//! leave of the bytes that a queue gives and of the order that its markers keep. A hart and the machine stand on it.
+//! The contract for the crates above: contracts see a queue as the list of its entries, the oldest first, and each call
+//! is exactly the rule of `specs/Rules.antt` on that list. The laws say how a push and a drain keep the bytes that a
+//! queue gives and the order that its markers set. A hart and the machine build on it.
 #![tactic(auto)]
 
 mod entry;

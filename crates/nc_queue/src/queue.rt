@@ -1,4 +1,4 @@
-//! The queue: a ring of eight places, with a start and a length.
+//! The queue: a ring of eight cells, with a start and a length.
 
 ghost use Rattle.std.specs.Prelude.{◌≡◌, ◌↔◌, ◌≤◌, ◌<◌, List, [], ◌∷◌, ◌++◌, length, remove, slice_get, Ok, Err, IsNone, IsErr, OnOk, OnErr, IfErr, IfSome, IfNone};
 ghost use Rattle.nc_num.specs.Sizes.{IsBlockSize};
@@ -12,7 +12,7 @@ use crate::rules;
 use nc_num::{Label, MemType, Place};
 use std::marker::Model;
 
-/// A hart's store queue. Contracts see the block size and the list of the entries, the oldest first.
+/// The store queue of a hart. Contracts see the block size in bytes and the list of the entries, the oldest first.
 #[derive(Clone, Debug, Drop)]
 pub struct Queue {
     cells: [Entry; 8],
@@ -33,7 +33,7 @@ impl Model for Queue {
 }
 
 impl Queue {
-    /// An empty queue, for blocks of 32, 64 or 128 bytes.
+    /// Makes an empty queue for blocks of 32, 64 or 128 bytes.
     pub fn new(block_size: u32) -> Queue
         requires { IsBlockSize block_size }
         ensures { result ≡ record { size = block_size; entries = [] } }
@@ -46,7 +46,7 @@ impl Queue {
         }
     }
 
-    /// The number of entries, 0 to 8. Each of them meets the condition of `push`.
+    /// Returns the number of entries, 0 to 8. Each of them meets the condition of `push`.
     pub fn len(&self) -> u8
         ensures value { result ≡ length self.now.entries }
         ensures few { result ≤ 8 }
@@ -56,7 +56,11 @@ impl Queue {
         self.len
     }
 
-    /// Puts an entry behind the others, where fewer than eight are queued. A store has 1 to 8 bytes in one block.
+    /// Adds an entry as the newest. A store has 1 to 8 bytes in one block.
+    ///
+    /// # Errors
+    ///
+    /// `Full` with the entry, exactly where eight entries are queued; then the queue is unchanged.
     pub fn push(&mut self, e: Entry) -> Result<(), Full>
         requires { Fits self.old.size e }
         ensures full { IsErr result ↔ (length self.old.entries ≡ 8) }
@@ -73,15 +77,18 @@ impl Queue {
         Ok(())
     }
 
-    /// Whether entry `i`, counted from the oldest, may drain: no earlier entry has its block or keeps it back by
-    /// its class, and no marker holds it back. This project's own rules.
+    /// Returns whether entry `i`, counted from the oldest, may drain. An entry that is no marker may where no earlier
+    /// entry has its block, no earlier one is of class O where it is of class O itself, and no marker holds it back. A
+    /// marker may where no earlier entry is of its predecessor set. The rules are this project's own. Where `i` is out
+    /// of range the result is false.
     pub fn may_drain(&self, i: u8) -> bool
         ensures { result ≡ may_drain self.now.size self.now.entries i }
     {
         rules::may_drain(self.entries(), i as usize, self.size)
     }
 
-    /// Takes entry `i` out, where it may drain. Those behind it move up.
+    /// Removes and returns entry `i`, counted from the oldest, where it may drain. Later entries move up. Where it may
+    /// not drain, or `i` is out of range, the result is None and the queue is unchanged.
     pub fn drain(&mut self, i: u8) -> Option<Entry>
         ensures entry { result ≡ drained self.old.size self.old.entries i }
         ensures fits { IfSome result (Fits self.old.size) }
@@ -98,14 +105,15 @@ impl Queue {
         Some(e)
     }
 
-    /// Whether a load of this type may be performed: one of type IO waits for the entries of class O.
+    /// Returns whether a load of this type may be performed: one of type IO waits until no entry of class O is queued.
     pub fn may_load(&self, kind: MemType) -> bool
         ensures { result ≡ may_load self.now.entries kind }
     {
         !(is_io(kind) && rules::any_o(self.entries()))
     }
 
-    /// The number of the newest entry that gives the byte of a place: a store over it, or a zero of its block.
+    /// Returns the index, counted from the oldest, of the newest entry that gives the byte of a place: a store over it,
+    /// or a zero of its block. The result is None where no entry gives it.
     pub fn newest(&self, at: Place) -> Option<u8>
         ensures value { result ≡ newest self.now.size self.now.entries at.0 }
         ensures none { IsNone result ↔ (gives self.now.size self.now.entries at.0 ≡ None) }
@@ -117,7 +125,7 @@ impl Queue {
         }
     }
 
-    /// A copy of entry `i`, counted from the oldest.
+    /// Returns a copy of entry `i`, counted from the oldest, or None where `i` is out of range.
     pub fn get(&self, i: u8) -> Option<Entry>
         ensures entry { result ≡ slice_get self.now.entries i }
         ensures fits { IfSome result (Fits self.now.size) }
@@ -129,20 +137,21 @@ impl Queue {
         }
     }
 
-    /// Whether an entry is of a class in the FENCE set.
+    /// Returns whether some entry is of a class in the FENCE set.
     pub fn holds(&self, set: u8) -> bool
         ensures { result ≡ any_in self.now.entries set }
     {
         rules::any_in(self.entries(), set)
     }
 
-    /// Whether an ownership token of the label is queued.
+    /// Returns whether an ownership token of the label is queued.
     pub fn lends(&self, label: Label) -> bool
         ensures { result ≡ lends self.now.entries label.0 }
     {
         rules::any_lends(self.entries(), label)
     }
 
+    /// Returns the entries, the oldest first.
     fn entries(&self) -> Entries<'_>
         ensures entries { listed result ≡ self.now.entries }
         ensures few { length (listed result) ≤ 8 }

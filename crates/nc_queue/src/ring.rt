@@ -1,14 +1,14 @@
-//! Eight places in a ring: entries stand one behind another from a start on, and behind the last place is the first.
+//! A ring of eight cells: the entries follow one another from a start on, and the first cell follows the last.
 
 ghost use Rattle.std.specs.Prelude.{◌≡◌, ◌+◌, ◌-◌, ◌%◌, ◌<◌, ◌≤◌, length, take, remove, slice_index_or};
 ghost use Rattle.nc_queue.specs.Ring.{listed, window};
 
 use crate::entry::Entry;
 
-/// The places of a ring.
+/// The number of cells of a ring.
 pub(crate) const ROOM: u8 = 8;
 
-/// Entries of a ring, the oldest first: those up to its last place, and behind them those from its first place on.
+/// The entries of a ring, the oldest first: those up to its last cell, and then those from its first cell on.
 #[derive(Clone, Copy)]
 pub(crate) struct Entries<'a> {
     pub(crate) older: &'a [Entry],
@@ -16,14 +16,14 @@ pub(crate) struct Entries<'a> {
 }
 
 impl<'a> Entries<'a> {
-    /// How many there are.
+    /// Returns the number of entries.
     pub(crate) fn len(self) -> usize
         ensures { result ≡ length (listed self.entry) }
     {
         self.older.len() + self.newer.len()
     }
 
-    /// The first `n` of them.
+    /// Returns the `n` oldest of them.
     pub(crate) fn first(self, n: usize) -> Entries<'a>
         requires { n ≤ length (listed self) }
         ensures { listed result ≡ take n (listed self.entry) }
@@ -35,7 +35,7 @@ impl<'a> Entries<'a> {
         }
     }
 
-    /// Entry `i`, counted from the oldest.
+    /// Returns entry `i`, counted from the oldest.
     pub(crate) fn get(self, i: usize) -> &'a Entry
         requires { i < length (listed self) }
         ensures { result.now ≡ slice_index_or (listed self.entry) i result.now }
@@ -48,7 +48,7 @@ impl<'a> Entries<'a> {
     }
 }
 
-/// The place of entry `i` of those from a start on.
+/// Returns the index of the cell of entry `i`, for entries from a start on.
 pub(crate) fn place(start: u8, i: u8) -> usize
     requires start { start < 8 }
     requires entry { i ≤ 8 }
@@ -58,7 +58,7 @@ pub(crate) fn place(start: u8, i: u8) -> usize
     ((start + i) % ROOM) as usize
 }
 
-/// The entries from a start on.
+/// Returns the `len` entries from a start on.
 pub(crate) fn entries_of(cells: &[Entry], start: u8, len: u8) -> Entries<'_>
     requires room { length cells.now ≡ 8 }
     requires start { start < 8 }
@@ -74,7 +74,7 @@ pub(crate) fn entries_of(cells: &[Entry], start: u8, len: u8) -> Entries<'_>
     }
 }
 
-/// Moves those behind entry `i` up by one, so that the gap comes to the end.
+/// Moves the entries after entry `i` up by one, so that the gap comes to the end.
 fn close_gap(cells: &mut [Entry], start: u8, i: u8, len: u8)
     requires room { length cells.old ≡ 8 }
     requires start { start < 8 }
@@ -87,7 +87,7 @@ fn close_gap(cells: &mut [Entry], start: u8, i: u8, len: u8)
     }
 }
 
-/// Takes entry `i` out and returns where the oldest of the others is: behind the oldest nothing moves.
+/// Removes entry `i` and returns the cell of the oldest of the others. No other entry moves where `i` is the oldest.
 pub(crate) fn take_out(cells: &mut [Entry], start: u8, i: u8, len: u8) -> u8
     requires room { length cells.old ≡ 8 }
     requires start { start < 8 }

@@ -1,4 +1,4 @@
-//! What entries, the oldest first, let drain and give.
+//! The rules of what may drain and which byte a queue gives, over entries with the oldest first.
 
 ghost use Rattle.std.specs.Prelude.{◌≡◌, ◌<◌, length, IsTrue, IfSome};
 ghost use Rattle.std.specs.List.{list_any};
@@ -11,7 +11,7 @@ use crate::entry::{Entry, entry_block, gives_byte, has_block, in_set, is_o, lend
 use crate::ring::Entries;
 use nc_num::Label;
 
-/// Whether some entry is of a class in the set.
+/// Returns whether some entry is of a class in the set.
 pub(crate) fn any_in(entries: Entries, set: u8) -> bool
     ensures { result ≡ any_in (listed entries.entry) set }
 {
@@ -22,7 +22,7 @@ pub(crate) fn any_in(entries: Entries, set: u8) -> bool
         .any(|e| in_set(e, set))
 }
 
-/// Whether some entry is of class O.
+/// Returns whether some entry is of class O.
 pub(crate) fn any_o(entries: Entries) -> bool
     ensures { result ≡ list_any is_o (listed entries.entry) }
 {
@@ -33,7 +33,7 @@ pub(crate) fn any_o(entries: Entries) -> bool
         .any(|e| is_o(e))
 }
 
-/// Whether a token of the label stands among the entries.
+/// Returns whether a token of the label is among the entries.
 pub(crate) fn any_lends(entries: Entries, label: Label) -> bool
     ensures { result ≡ lends (listed entries.entry) label.0 }
 {
@@ -44,7 +44,7 @@ pub(crate) fn any_lends(entries: Entries, label: Label) -> bool
         .any(|e| lends_label(e, label))
 }
 
-/// Whether some entry has the block.
+/// Returns whether some entry has the block.
 fn any_of_block(entries: Entries, block: u32, size: u32) -> bool
     requires { IsBlockSize size }
     ensures { result ≡ list_any (λ e. has_block size block e) (listed entries.entry) }
@@ -56,7 +56,7 @@ fn any_of_block(entries: Entries, block: u32, size: u32) -> bool
         .any(|e| has_block(e, block, size))
 }
 
-/// Whether some entry has the block, if it is one.
+/// Returns whether there is a block and some entry has it.
 fn meets(entries: Entries, block: Option<u32>, size: u32) -> bool
     requires { IsBlockSize size }
     ensures { result ≡ meets size (listed entries.entry) block }
@@ -67,7 +67,7 @@ fn meets(entries: Entries, block: Option<u32>, size: u32) -> bool
     }
 }
 
-/// Whether `m` is a marker that orders `e` behind one of the entries that stand before `m`.
+/// Returns whether `m` is a marker that orders `e` after one of the entries before `m`.
 fn holds_back(m: &Entry, earlier: Entries, e: &Entry) -> bool
     ensures { result ≡ list_any (λ a. orders m.now a e.now) (listed earlier.entry) }
 {
@@ -77,7 +77,7 @@ fn holds_back(m: &Entry, earlier: Entries, e: &Entry) -> bool
     }
 }
 
-/// Whether some marker among these holds back an entry that comes behind them.
+/// Returns whether some marker among these holds back an entry that comes after them.
 fn held_back(before: Entries, e: &Entry) -> bool
     ensures { result ≡ held_back (listed before.entry) e.now }
 {
@@ -89,6 +89,7 @@ fn held_back(before: Entries, e: &Entry) -> bool
     false
 }
 
+/// Returns whether an entry that is no marker may drain after these.
 fn is_free(before: Entries, e: &Entry, size: u32) -> bool
     requires { IsBlockSize size }
     ensures { result ≡ is_free size (listed before.entry) e.now }
@@ -98,7 +99,7 @@ fn is_free(before: Entries, e: &Entry, size: u32) -> bool
         && !held_back(before, e)
 }
 
-/// Whether an entry may drain where these stand before it.
+/// Returns whether an entry may drain after these.
 fn may_leave(before: Entries, e: &Entry, size: u32) -> bool
     requires { IsBlockSize size }
     ensures { result ≡ may_leave size (listed before.entry) e.now }
@@ -113,7 +114,7 @@ fn may_leave(before: Entries, e: &Entry, size: u32) -> bool
     }
 }
 
-/// Whether entry `i` may drain.
+/// Returns whether entry `i`, counted from the oldest, may drain.
 #[tactic(auto, unfolding(crate::specs::Rules::may_drain))]
 pub(crate) fn may_drain(entries: Entries, i: usize, size: u32) -> bool
     requires { IsBlockSize size }
@@ -123,7 +124,7 @@ pub(crate) fn may_drain(entries: Entries, i: usize, size: u32) -> bool
     i < entries.len() && may_leave(entries.first(i), entries.get(i), size)
 }
 
-/// The number of the newest entry that gives the byte of a place.
+/// Returns the index of the newest entry that gives the byte of a place.
 pub(crate) fn newest(entries: Entries, x: u32, size: u32) -> Option<usize>
     requires { IsBlockSize size }
     ensures value { result ≡ newest size (listed entries.entry) x }

@@ -12,24 +12,24 @@ use nc_plan::{Part, SegList, Segment, bounces};
 use std::alloc::Global;
 use std::marker::Model;
 
-/// The bytes of a bounce slot.
+/// The size of a bounce slot in bytes.
 const SLOT: u32 = 2048;
 
-/// Where RAM starts on the bus.
+/// The bus address of the first byte of RAM.
 const BUS: u32 = 0x8000_0000;
 
 /// One entry of a list.
 #[derive(Clone, Copy, Debug, PartialEq, Eq)]
 pub struct Entry {
-    /// Its range of RAM.
+    /// The range of RAM.
     pub span: Span,
     /// Whether it bounces.
     pub bounced: bool,
-    /// The slot that it holds.
+    /// The slot that it holds, if it holds one.
     pub slot: Option<u32>,
 }
 
-/// A segment that may go on, and its last entry.
+/// A segment that may still grow, and its last entry.
 #[derive(Clone, Copy, Debug, PartialEq, Eq)]
 struct Run {
     segment: Segment,
@@ -56,7 +56,12 @@ impl Model for SgList {
 }
 
 impl SgList {
-    /// A list of at most 16 ranges, none of which is empty, each ending at 1,048,576 at most. No entry has a slot yet.
+    /// Makes a list of at most 16 ranges, of which none has a slot yet. Each range is not empty and ends at 1,048,576
+    /// at most. `block_size` and `reach`, the end of what the channel reaches, are in bytes.
+    ///
+    /// # Errors
+    ///
+    /// `NoMemory` where memory runs out.
     pub fn new(
         alloc: Global,
         spans: &[Span],
@@ -73,7 +78,11 @@ impl SgList {
         Ok(SgList { dir, entries })
     }
 
-    /// A list of one range, which never bounces. It has bytes, and ends at 1,048,576 at most.
+    /// Makes a list of one range, which never bounces. The range is not empty and ends at 1,048,576 at most.
+    ///
+    /// # Errors
+    ///
+    /// `NoMemory` where memory runs out.
     pub fn direct(alloc: Global, span: Span, dir: Dir) -> Result<SgList, NoMemory>
         requires range { IsRange span }
         ensures { IfOk result (λ l. l ≡ direct dir span) }
@@ -87,7 +96,8 @@ impl SgList {
         Ok(SgList { dir, entries })
     }
 
-    /// The number of the first entry that bounces and has no slot, None exactly where there is none.
+    /// Returns the index of the first entry that bounces and has no slot, or None exactly where each entry that bounces
+    /// has one.
     pub fn next_bounced(&self) -> Option<u8>
         ensures { result ≡ next_waiting self.now.entries }
     {
@@ -97,7 +107,8 @@ impl SgList {
         }
     }
 
-    /// Gives a slot to the first entry that bounces and has none.
+    /// Gives a slot, 0 to 63, to the first entry that bounces and has none. The caller shows that there is such an
+    /// entry.
     pub fn got(&mut self, slot: u32)
         requires slot { slot < 64 }
         requires waits { IsSome (next_waiting self.old.entries) }
@@ -106,7 +117,7 @@ impl SgList {
         give(&mut self.entries, slot);
     }
 
-    /// Takes the slot of entry `i` away: that entry has none any more.
+    /// Removes the slot of entry `i`, which is in range.
     pub fn put_back(&mut self, i: u8)
         requires entry { i < length self.old.entries }
         ensures { self.new ≡ record self.old { entries = slot_taken i self.old.entries } }
@@ -114,14 +125,14 @@ impl SgList {
         take_slot(&mut self.entries, i as usize);
     }
 
-    /// The direction in which it is mapped.
+    /// Returns the direction in which the list is mapped.
     pub fn dir(&self) -> Dir
         ensures { result ≡ self.now.dir }
     {
         self.dir
     }
 
-    /// The entries, in order.
+    /// Returns the entries, in order; at most 16.
     pub fn entries(&self) -> &[Entry]
         ensures value { result.now ≡ self.now.entries }
         ensures few { length result.now ≤ 16 }
@@ -130,14 +141,18 @@ impl SgList {
         &self.entries
     }
 
-    /// No entry holds a slot any more. The slots that they held are read from `entries`, or given by `unwind`.
+    /// Removes the slots of all entries. `entries` shows beforehand which they are; `unwind` returns them.
     pub fn forget(&mut self)
         ensures { self.new ≡ record self.old { entries = map forgotten self.old.entries } }
     {
         forget(&mut self.entries);
     }
 
-    /// The slots that the list holds, in order of its entries; it holds none afterwards.
+    /// Removes the slots of all entries and returns them, in order of the entries.
+    ///
+    /// # Errors
+    ///
+    /// `NoMemory` where memory runs out; then the list is unchanged.
     pub fn unwind(&mut self) -> Result<Vec<u32>, NoMemory>
         ensures slots { IfOk result (λ slots. slots.items ≡ held self.old.entries) }
         ensures forgets { OnOk result (self.new ≡ record self.old { entries = map forgotten self.old.entries }) }
@@ -148,8 +163,12 @@ impl SgList {
         Ok(slots)
     }
 
-    /// The parts that are lent, in order. Each entry that bounces has its slot; the slots start at the place `slots_at`,
-    /// which is at most 1,048,576.
+    /// Returns the parts that are lent, in order of the entries. The caller shows that each entry that bounces has its
+    /// slot. The slots start at the place `slots_at`, which is at most 1,048,576.
+    ///
+    /// # Errors
+    ///
+    /// `NoMemory` where memory runs out.
     pub fn parts(&self, alloc: Global, slots_at: u32) -> Result<Vec<Part>, NoMemory>
         requires slots { slots_at ≤ 1048576 }
         requires all { next_waiting self.now.entries ≡ None }
@@ -158,9 +177,14 @@ impl SgList {
         parts_of(alloc, self.dir, slots_at, &self.entries)
     }
 
-    /// The segments that the channel sees, in order: the device ranges of the entries, by their places on the bus, where
-    /// neighbours are one exactly where both are direct and the first ends where the next starts. Each entry that
-    /// bounces has its slot.
+    /// Returns the segments that the channel sees, in order: the device ranges of the entries, by their addresses on
+    /// the bus. Neighbours are one segment exactly where both are direct and the first ends where the next starts. The
+    /// caller shows that each entry that bounces has its slot. The slots start at the place `slots_at`, which is at
+    /// most 1,048,576.
+    ///
+    /// # Errors
+    ///
+    /// `NoMemory` where memory runs out.
     pub fn segments(&self, alloc: Global, slots_at: u32) -> Result<Vec<Segment>, NoMemory>
         requires slots { slots_at ≤ 1048576 }
         requires all { next_waiting self.now.entries ≡ None }
@@ -170,7 +194,7 @@ impl SgList {
         Ok(Vec::from_slice(alloc, merged.as_slice())?)
     }
 
-    /// The same segments, in place: it takes no memory.
+    /// Returns the segments of `segments` under the same conditions, in place. It takes no memory.
     pub fn seg_list(&self, slots_at: u32) -> SegList
         requires slots { slots_at ≤ 1048576 }
         requires all { next_waiting self.now.entries ≡ None }
@@ -179,7 +203,8 @@ impl SgList {
         merged(slots_at, &self.entries)
     }
 
-    /// The segment of this number, from 0. None exactly where there are not so many.
+    /// Returns segment `number` of `segments`, counted from 0, under the same conditions, or None exactly where there
+    /// are not so many.
     pub fn segment(&self, slots_at: u32, number: u32) -> Option<Segment>
         requires slots { slots_at ≤ 1048576 }
         requires all { next_waiting self.now.entries ≡ None }
@@ -190,7 +215,7 @@ impl SgList {
     }
 }
 
-/// The entries as a list begins.
+/// Makes the entries of a new list.
 fn fresh_entries(
     alloc: Global,
     spans: &[Span],
@@ -213,7 +238,7 @@ fn fresh_entries(
     Ok(entries)
 }
 
-/// The place of the first entry that bounces and has no slot.
+/// Returns the index of the first entry that bounces and has no slot.
 fn first_waiting(entries: &[Entry]) -> Option<usize>
     ensures first { result ≡ next_waiting entries.now }
     ensures within { IfSome result (λ i. i < length entries.now) }
@@ -221,7 +246,7 @@ fn first_waiting(entries: &[Entry]) -> Option<usize>
     entries.iter().position(|e| e.bounced && e.slot.is_none())
 }
 
-/// The first entry that waits for a slot gets this one.
+/// Gives a slot to the first entry that waits for one.
 fn give(entries: &mut Vec<Entry>, slot: u32)
     requires { IsSome (next_waiting entries.old.items) }
     ensures { entries.new.items ≡ give_slot slot entries.old.items }
@@ -231,7 +256,7 @@ fn give(entries: &mut Vec<Entry>, slot: u32)
     }
 }
 
-/// Entry i has no slot any more.
+/// Removes the slot of entry `i`.
 fn take_slot(entries: &mut Vec<Entry>, i: usize)
     requires { i < length entries.old.items }
     ensures { entries.new.items ≡ slot_taken i entries.old.items }
@@ -239,7 +264,7 @@ fn take_slot(entries: &mut Vec<Entry>, i: usize)
     entries[i].slot = None;
 }
 
-/// The slots that entries hold, in order.
+/// Returns the slots that entries hold, in order.
 fn held_slots(alloc: Global, entries: &[Entry]) -> Result<Vec<u32>, NoMemory>
     ensures { IfOk result (λ slots. slots.items ≡ held entries.now) }
 {
@@ -252,7 +277,7 @@ fn held_slots(alloc: Global, entries: &[Entry]) -> Result<Vec<u32>, NoMemory>
     Ok(slots)
 }
 
-/// No entry holds a slot any more.
+/// Removes the slots of all entries.
 fn forget(entries: &mut Vec<Entry>)
     ensures { entries.new.items ≡ map forgotten entries.old.items }
 {
@@ -261,8 +286,8 @@ fn forget(entries: &mut Vec<Entry>)
     }
 }
 
-/// The range of RAM by which the channel sees an entry: its own, or that in its slot. The slots start at the place
-/// `slots_at`, which is at most 1,048,576.
+/// Returns the range of RAM by which the channel sees an entry: its own range, or the one in its slot. The slots start
+/// at the place `slots_at`, which is at most 1,048,576.
 pub fn device(slots_at: u32, entry: &Entry) -> Span
     requires slots { slots_at ≤ 1048576 }
     requires entry { IsEntry entry.now }
@@ -280,6 +305,7 @@ pub fn device(slots_at: u32, entry: &Entry) -> Span
     }
 }
 
+/// Makes the part of an entry.
 fn part_of(dir: Dir, slots_at: u32, entry: &Entry) -> Part
     requires slots { slots_at ≤ 1048576 }
     requires entry { IsEntry entry.now }
@@ -292,6 +318,7 @@ fn part_of(dir: Dir, slots_at: u32, entry: &Entry) -> Part
     }
 }
 
+/// Makes the segment of an entry that begins one.
 fn segment_of(slots_at: u32, entry: &Entry) -> Segment
     requires slots { slots_at ≤ 1048576 }
     requires entry { IsEntry entry.now }
@@ -301,6 +328,7 @@ fn segment_of(slots_at: u32, entry: &Entry) -> Segment
     Segment { bus: BUS + at, len }
 }
 
+/// Returns whether two neighbouring entries are one segment.
 fn joins(entry: &Entry, next: &Entry) -> bool
     requires { IsEntry entry.now }
     ensures { result ≡ joins entry.now next.now }
@@ -308,6 +336,7 @@ fn joins(entry: &Entry, next: &Entry) -> bool
     !entry.bounced && !next.bounced && entry.span.at + entry.span.len == next.span.at
 }
 
+/// Makes the parts of entries, in order.
 fn parts_of(
     alloc: Global,
     dir: Dir,
@@ -325,7 +354,7 @@ fn parts_of(
     Ok(parts)
 }
 
-/// The segments of entries.
+/// Returns the segments of entries.
 fn merged(slots_at: u32, entries: &[Entry]) -> SegList
     requires slots { slots_at ≤ 1048576 }
     requires few { length entries.now ≤ 16 }
@@ -347,7 +376,7 @@ fn merged(slots_at: u32, entries: &[Entry]) -> SegList
     SegList::of(&cells[..done])
 }
 
-/// Puts a segment, where there is one, behind the first so many cells. Returns how many have segments then.
+/// Stores a segment, where there is one, after the first `done` cells. Returns how many cells have segments then.
 fn add(cells: &mut [Segment; 16], done: usize, segment: Option<Segment>) -> usize
     requires { done < 16 }
     ensures cells { take result cells.new ≡ take done cells.old ++ option_to_list segment }
@@ -362,7 +391,8 @@ fn add(cells: &mut [Segment; 16], done: usize, segment: Option<Segment>) -> usiz
     }
 }
 
-/// What one entry more makes of a run: the entry joins it, or it has ended, as the segment before the new run.
+/// Extends a run by an entry: the entry joins the run, or the run has ended and its segment is returned with the run
+/// that the entry begins.
 fn go_on(slots_at: u32, run: Run, entry: &Entry) -> (Option<Segment>, Run)
     requires slots { slots_at ≤ 1048576 }
     requires room { run.segment.len ≤ 16777216 }
@@ -383,7 +413,7 @@ fn go_on(slots_at: u32, run: Run, entry: &Entry) -> (Option<Segment>, Run)
     (None, Run { segment, last })
 }
 
-/// The run that an entry begins.
+/// Makes the run that an entry begins.
 fn begun(slots_at: u32, entry: &Entry) -> Run
     requires slots { slots_at ≤ 1048576 }
     requires entry { IsEntry entry.now }
@@ -396,7 +426,7 @@ fn begun(slots_at: u32, entry: &Entry) -> Run
     }
 }
 
-/// The bytes of the segments, one after another, are those of the entries' device ranges.
+/// Proves that the bytes of the segments, one after another, are those of the device ranges of the entries.
 pub fn segments_keep_the_bytes()
     ensures { SegmentsKeepTheBytes }
 {}

@@ -1,4 +1,4 @@
-//! One word for each slot.
+//! A word for each bounce slot.
 
 ghost use Rattle.std.specs.Prelude.{◌≡◌, ◌<◌, Some, None, length, replicate, slice_set, IfOk};
 ghost use Rattle.nc_slots.specs.SlotWords.{holder_of, answer_to, tried};
@@ -7,7 +7,7 @@ use nc_num::{HartNo, NoMemory};
 use std::alloc::Global;
 use std::marker::Model;
 
-/// What a try of a slot word answers.
+/// The answer to a try of a slot word.
 #[derive(Clone, Copy, Debug, PartialEq, Eq)]
 pub enum TryAnswer {
     /// The word was free, and is now held by the hart that tried it.
@@ -16,7 +16,7 @@ pub enum TryAnswer {
     Held(HartNo),
 }
 
-/// A word for each slot, with the hart that holds it. Contracts see the list of the holders.
+/// The slot words: for each slot, the hart that holds it. Contracts see the list of the holders.
 #[derive(Drop)]
 pub struct Slots {
     words: Vec<Option<HartNo>>,
@@ -32,7 +32,7 @@ impl Model for Slots {
 }
 
 impl Slots {
-    /// Free words for so many slots, which are numbered from 0.
+    /// Makes a free word for each of `n` slots, which are counted from 0.
     ///
     /// # Errors
     ///
@@ -44,7 +44,8 @@ impl Slots {
         Ok(Slots { words })
     }
 
-    /// Tries to get slot `k` for a hart. Held comes exactly where a hart holds the word, also where that is `h`.
+    /// Tries to get slot `k`, which is in range, for the hart `h`. The answer is `Held` exactly where a hart holds the
+    /// word, even where that hart is `h`; then the words are unchanged.
     pub fn try_word(&mut self, h: HartNo, k: u32) -> TryAnswer
         requires { k < length self.old }
         ensures answer { result ≡ answer_to (holder_of self.old k) }
@@ -60,7 +61,7 @@ impl Slots {
         }
     }
 
-    /// Gives slot `k` back, which this hart holds.
+    /// Gives back slot `k`, which the hart `h` holds: its word becomes free.
     pub fn back(&mut self, h: HartNo, k: u32)
         requires { holder_of self.old k ≡ Some h }
         ensures { self.new ≡ slice_set self.old k None }
@@ -68,7 +69,7 @@ impl Slots {
         self.words[k as usize] = None;
     }
 
-    /// The hart that holds slot `k`, or None where the word is free or not there.
+    /// Returns the hart that holds slot `k`, or None where the word is free or `k` is out of range.
     pub fn holder(&self, k: u32) -> Option<HartNo>
         ensures { result ≡ holder_of self.now k }
     {

@@ -5,7 +5,8 @@ ghost use Rattle.nc_num.specs.Places.{piece_len, pieces};
 
 use nc_num::{Span, first_piece};
 
-/// How many pieces of a span, at least one and at most `most`, may be passed at once: they have one length.
+/// Returns how many pieces of a span, at least one and at most `most`, may be passed at once because they have one
+/// length.
 fn alike(left: Span, size: u32, most: u32) -> u32
     requires some { 0 < left.len }
     requires more { 0 < most }
@@ -19,7 +20,7 @@ fn alike(left: Span, size: u32, most: u32) -> u32
     if size == 8 { most.min(left.len / 8) } else { 1 }
 }
 
-/// Piece n of a span, counted from 0, or None where the span has no such piece.
+/// Returns piece n of a span, counted from 0, or None where the span has no such piece.
 ///
 /// The pieces of 8 bytes in the middle of the span are passed at once, so that a step takes a few turns, whatever n and
 /// the length are.

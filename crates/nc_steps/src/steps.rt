@@ -1,4 +1,4 @@
-//! Steps by their number.
+//! Steps by their index.
 
 ghost use Rattle.std.specs.Prelude.{◌≡◌, ◌+◌, ◌≤◌, ◌<◌, ◌^◌, length};
 ghost use Rattle.nc_plan.specs.Accesses.{found, load_step, range, store_step};
@@ -11,7 +11,7 @@ use nc_num::{Bytes, ChanNo, MemType, Place, Span};
 use nc_plan::{At, HartOp, IoTarget, Payload};
 use nc_pte::{PageFault, translate};
 
-/// The places, or the virtual addresses, of an access of so many bytes.
+/// Returns the places, or the virtual addresses, of an access of `len` bytes.
 fn range(to: At, len: u32) -> Span
     ensures { result ≡ range to len }
 {
@@ -20,8 +20,12 @@ fn range(to: At, len: u32) -> Span
     }
 }
 
-/// Step n of a load of `len` bytes, counted from 0: its operation, None where the load has no such step, or the fault
-/// where the piece's virtual address is not translated (RISC-V Privileged Architecture, Svpbmt).
+/// Returns the operation of step `n`, counted from 0, of a load of `len` bytes, or None where the load has no such
+/// step.
+///
+/// # Errors
+///
+/// `PageFault` where the virtual address of the piece is not translated (RISC-V Privileged Architecture, Svpbmt).
 #[tactic(auto, unfolding(nc_plan::specs::Accesses::load_step))]
 pub fn load_step(
     to: At,
@@ -41,7 +45,12 @@ pub fn load_step(
     Ok(Some(HartOp::Load { span, kind }))
 }
 
-/// Step n of a store of these bytes, counted from 0, each piece with its part of them: as for a load.
+/// Returns the operation of step `n`, counted from 0, of a store of these bytes, or None where the store has no such
+/// step. Each piece has its part of the bytes.
+///
+/// # Errors
+///
+/// `PageFault` as for a load.
 #[tactic(auto, unfolding(nc_plan::specs::Accesses::store_step))]
 pub fn store_step(
     to: At,
@@ -67,9 +76,9 @@ pub fn store_step(
     }))
 }
 
-/// Store n, counted from 0, of the four that set a channel up: NextConfig, NextBytes, NextDestination and NextSource,
-/// or None from 4 on. The registers' names are after the SiFive FU540 PDMA; offsets, widths and order are this
-/// project's own.
+/// Returns store `n`, counted from 0, of the four that set a channel up: NextConfig, NextBytes, NextDestination and
+/// NextSource, or None from 4 on. The names of the registers are after the SiFive FU540 PDMA; offsets, widths and order
+/// are this project's own.
 ///
 /// `src` and `dst` are bus addresses, and `len` is in bytes.
 pub fn regs_step(chan: ChanNo, src: u64, dst: u64, len: u64, cfg: u32, n: u32) -> Option<HartOp>
@@ -90,7 +99,7 @@ pub fn regs_step(chan: ChanNo, src: u64, dst: u64, len: u64, cfg: u32, n: u32) -
     }))
 }
 
-/// The type and the places of a piece, whose first byte says them.
+/// Returns the type and the places of a piece, both by its first byte.
 fn placed(to: At, pbmte: bool, table: &[u64], piece: Span) -> Result<(MemType, Span), PageFault>
     requires { IsFindable to table.now piece.at }
     ensures { result ≡ placed (found to pbmte table.now piece.at) piece.len }
@@ -106,7 +115,7 @@ fn placed(to: At, pbmte: bool, table: &[u64], piece: Span) -> Result<(MemType, S
     Ok((kind, span))
 }
 
-/// So many of the bytes, from one on.
+/// Returns `len` of the bytes, from index `from` on.
 #[tactic(auto, unfolding(nc_num::specs::Memory::span))]
 fn part(bytes: &[u8], from: u32, len: u32) -> Bytes
     requires within { from + len ≤ length bytes.now }

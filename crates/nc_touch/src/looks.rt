@@ -11,12 +11,12 @@ ghost use Rattle.nc_touch.specs.Looks.{span_of, IsSpanIn, look_touch};
 use nc_num::{ChanNo, HartNo, MemType, Place, Span};
 use nc_own::{Access, Actor, Book, Owner, Touch, TouchKind};
 
-/// What a script is about to do.
+/// An access that a script is about to make.
 #[derive(Clone, Copy, Debug, PartialEq, Eq)]
 pub enum Look {
     /// A piece of a load or a store, by a memory type.
     Piece {
-        /// A load reads, a store writes.
+        /// A read for a load, a write for a store.
         access: Access,
         /// The piece.
         span: Span,
@@ -35,12 +35,12 @@ pub enum Look {
     },
 }
 
-/// The touch that a script's access is, None where it is none (this project's own).
+/// Returns the touch that an access of the script of hart `h` is, or None where it is none (this project's own).
 ///
 /// `pool` is the range of the coherent pool, which may be empty. A piece over a byte that the hart may not use is a
-/// `Load` or a `Store`; else one by another type than NC over a byte of the coherent pool, or by another type than PMA
-/// over any other byte, is an `Alias`. A zero over a byte that the hart may not write is a `Store` of the block. A
-/// discard is always a touch.
+/// `Load` or a `Store`. Any other piece is an `Alias` where it accesses a byte of the coherent pool by another type
+/// than NC, or any other byte by another type than PMA. A zero over a byte that the hart may not write is a `Store` of
+/// the block. A discard is always a touch.
 pub fn hart_touch(book: &Book, pool: Span, h: HartNo, look: Look) -> Option<Touch>
     requires { IsSpanIn (length book.now.owners) (span_of look) }
     ensures { result ≡ look_touch (owner_in book.now.owners) book.now.grants pool h look }
@@ -55,8 +55,9 @@ pub fn hart_touch(book: &Book, pool: Span, h: HartNo, look: Look) -> Option<Touc
     }
 }
 
-/// The touch that a register access is: one to a channel that is granted to another hart, None where `grantee` is None
-/// or `h` (this project's own). `off` and `width` are the register's offset and width in bytes.
+/// Returns the touch that a register access of hart `h` is: one to a channel that is granted to another hart. The
+/// result is None where `grantee` is None or `h` (this project's own). `off` and `width` are the register's offset and
+/// width in bytes.
 pub fn register_touch(
     h: HartNo,
     chan: ChanNo,
@@ -81,7 +82,7 @@ pub fn register_touch(
     }
 }
 
-/// The touch of a piece by the wrong memory type.
+/// Returns the touch of a piece that is accessed by the wrong memory type.
 fn touch_by_type(book: &Book, pool: Span, h: HartNo, span: Span, kind: MemType) -> Option<Touch>
     requires { IsSpanIn (length book.now.owners) span }
     ensures { result ≡ alias_touch (owner_in book.now.owners) pool h span kind }
@@ -95,7 +96,7 @@ fn touch_by_type(book: &Book, pool: Span, h: HartNo, span: Span, kind: MemType) 
     })
 }
 
-/// The first byte of a span that is accessed by the wrong type.
+/// Returns the first byte of a span that is accessed by the wrong type.
 fn first_alias(pool: Span, span: Span, kind: MemType) -> Option<Place>
     requires { span.at + span.len < 2 ^ 32 }
     ensures first { option_map (λ p. p.0) result ≡ first_fault (is_its_type pool kind) span }
@@ -109,7 +110,7 @@ fn first_alias(pool: Span, span: Span, kind: MemType) -> Option<Place>
     None
 }
 
-/// Whether a byte is accessed by its type: NC in the coherent pool, PMA elsewhere.
+/// Returns whether a byte is accessed by its type: NC in the coherent pool, PMA elsewhere.
 fn is_its_type(pool: Span, kind: MemType, at: u32) -> bool
     ensures { result ≡ is_its_type pool kind at }
 {
@@ -120,13 +121,14 @@ fn is_its_type(pool: Span, kind: MemType, at: u32) -> bool
     }
 }
 
+/// Returns whether the place lies in the span.
 fn covers(span: Span, at: u32) -> bool
     ensures { result ≡ span_covers span at }
 {
     span.at <= at && at - span.at < span.len
 }
 
-/// The touch of an invalidate.
+/// Returns the touch of an invalidate.
 fn touch_by_discard(book: &Book, h: HartNo, block: Span) -> Touch
     requires { IsSpanIn (length book.now.owners) block }
     ensures { result ≡ discard_touch (owner_in book.now.owners) h block }
@@ -143,7 +145,7 @@ fn touch_by_discard(book: &Book, h: HartNo, block: Span) -> Touch
     }
 }
 
-/// The first byte of a block that is not the hart's own.
+/// Returns the first byte of a block that is not the hart's own.
 fn first_foreign(book: &Book, h: HartNo, block: Span) -> Option<Place>
     requires { IsSpanIn (length book.now.owners) block }
     ensures first { option_map (λ p. p.0) result ≡ first_fault (λ x. is_thread h (owner_in book.now.owners x)) block }
@@ -157,7 +159,7 @@ fn first_foreign(book: &Book, h: HartNo, block: Span) -> Option<Place>
     None
 }
 
-/// Whether the owner is the hart itself.
+/// Returns whether the owner is the hart itself.
 fn is_own(h: HartNo, owner: Owner) -> bool
     ensures { result ≡ is_thread h owner }
 {
