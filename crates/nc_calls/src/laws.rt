@@ -55,7 +55,8 @@ pub fn moves_by_place()
 
 /// Proves, of a sound machine, that a channel's write changes memory exactly at the places of the span that it moves,
 /// and that a channel's read, a claim and a take change no byte. It says as well what each makes of the channels, the
-/// grants and the boxes.
+/// grants and the boxes. A claim of a channel that is granted, and a take that may not happen, leave the machine
+/// unchanged.
 #[tactic(auto, using(crate::proofs::CallProofs::channels_by_place))]
 pub fn channels_by_place()
     ensures { ChannelsByPlace }

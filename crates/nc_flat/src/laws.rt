@@ -10,7 +10,7 @@ pub fn latest_law()
     ensures { EachRunIsLatest }
 {}
 
-/// Proves that after each prefix of a run without a touch the bytes that are kept are flat memory's: in the caches
+/// Proves that after each prefix without a touch of a run the bytes that are kept are flat memory's: in the caches
 /// where they hold the block, else in memory. Kept are the bytes outside the bounce slots that threads own, that are
 /// passed on, that belong to mappings that are synced, or that nobody owns. A byte that a queue still gives is
 /// excepted. It holds of every accepted scenario and every list of events that name what exists.

@@ -9,9 +9,10 @@ pub fn refusals_leave_all()
     ensures { RefusalsLeaveAll }
 {}
 
-/// Proves, of each event before a refusal that the hart makes with the refused operation in hand: it changes nothing
-/// but that it may take one free slot word, or it makes one step of an operation by number and changes nothing else. It
-/// holds in every run of an accepted scenario. The law does not speak of other events in between.
+/// Proves, of each event before a refusal that the hart makes with the refused operation in hand, that it leaves the
+/// machine, the owners, the grants and the pages unchanged and takes at most one free slot word; or that it makes one
+/// step of an operation by number, and changes the machine by that step's act alone. It holds in every run of an
+/// accepted scenario whose events name what exists. The law does not speak of other events in between.
 pub fn earlier_events_leave_all()
     ensures { EarlierEventsLeaveAll }
 {}
@@ -29,14 +30,15 @@ pub fn fences_empty_queues()
 {}
 
 /// Proves that a hart has no end of a copy left after an event that answers its operation, be the answer that a copy
-/// failed. It holds in every run of an accepted scenario.
+/// failed. It holds in every run of an accepted scenario whose events name what exists.
 pub fn answers_leave_no_ends()
     ensures { AnswersLeaveNoEnds }
 {}
 
 /// Proves that an end of a copy that is lent, or was, leaves the lots of its hart only by an event after which each of
 /// its bytes is the hart's own, its grant is gone and its slot is free. So a copy that failed has given back both its
-/// ranges. The law does not speak of the bytes that its transfer wrote. It holds in every run of an accepted scenario.
+/// ranges. The law does not speak of the bytes that its transfer wrote. It holds in every run of an accepted scenario
+/// whose events name what exists.
 pub fn copies_give_back()
     ensures { CopiesGiveBack }
 {}

@@ -1,10 +1,14 @@
-//! The laws of what drains and what caches do at any moment, over the definitions alone.
+//! The laws of drains, fills and evictions, over the definitions alone.
 
 ghost use Rattle.nc_row_moves.specs.Laws.{RowsDrain, RowsMove};
 ghost use Rattle.nc_row_moves.specs.Parts.{PartsStay};
 
 /// Proves that an entry that drains keeps each row, and that the token of a mapping that is being lent makes the row
-/// the device's. The conditions: the machine is sound, and the entry loses no byte that the row tells.
+/// the device's.
+///
+/// The machine is sound, and the entry loses no byte that the row tells. What is still to come of a mapping's place
+/// lies in the place's block. The token of an area is that of one that is given, not allocated, and no hart holds the
+/// place.
 #[tactic(auto, using(crate::proofs::RowDrains::rows_drain))]
 pub fn rows_drain()
     ensures { RowsDrain }

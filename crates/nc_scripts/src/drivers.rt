@@ -9,7 +9,8 @@ pub fn every_driver_begins()
 {}
 
 /// Proves that the calls `start`, `told`, `done` and `lent` keep the invariant `IsDriver` of a driver and what it knows
-/// of its scenario.
+/// of its scenario. `start` comes where a start is next, `done` where an act is next, and `lent` names no lot that is
+/// still to be lent.
 ///
 /// What the driver does next exists in every machine of its scenario's size. What it changes exists there too, and is
 /// at most 32 of each: owners of ranges of RAM, grants of ranges of RAM to a channel, mappings that end, and slots that

@@ -59,7 +59,7 @@ impl<N: SceneName> DoneState<N> {
         }
     }
 
-    // ---- events behind the turns
+    // ---- events after the turns
 
     /// Makes event `e`, done or skipped, and appends it to the history. The event is no answer of a pool. Returns what
     /// the step answered.
