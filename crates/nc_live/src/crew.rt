@@ -86,7 +86,7 @@ impl<N: SceneName, P: PoolName> Worker<N, P> {
     ///
     /// # Errors
     ///
-    /// `NoMemory` where memory runs out; then no slot was tried.
+    /// `NoMemory` where memory runs out.
     pub fn try_slot(&mut self, crew: &Crew<N, P>, k: u32) -> Result<PoolTry, NoMemory>
         requires { k < N.scene.slots }
         ensures log { IfOk result (λ a. EndsWith self.new.seat.log (k, found_of a)) }

@@ -110,9 +110,8 @@ fn gather<N: SceneName, P: PoolName, R: Threads>(
     Ok(Team::new(workers))
 }
 
-/// Makes at most `most` turns of each thread, and hands the workers back. A driver that no thread could be made for
-/// makes its turns in the caller's thread, and so do the drivers of the harts after it. Where no thread could be made
-/// for the channels or the caches, they make no turn here.
+/// Makes at most `most` turns of each driver and of the channels and the caches, each in a thread of its own where one
+/// can be made, and hands the workers back.
 ///
 /// # Errors
 ///
