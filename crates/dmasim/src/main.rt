@@ -9,8 +9,11 @@ use std::io::{BufWriter, ErrorKind, Write};
 use std::process::ExitCode;
 use std::rt::Env;
 
-/// Returns the words after the program's name, or none where one is not UTF-8, which no command is. The error is that
-/// memory ran out.
+/// Returns the words after the program's name, or no words where one is not UTF-8, which no command is.
+///
+/// # Errors
+///
+/// `AllocError` where memory runs out.
 fn words<R: Env + AllocGlobal>(rt: &R, alloc: Global) -> Result<Vec<String>, AllocError> {
     let mut words = Vec::new(alloc);
     match env::args(rt) {
@@ -39,7 +42,7 @@ fn main(rt: HostRuntime) -> ExitCode {
     let mut src = StdSource::new(rt.reader());
     let status = dmasim(alloc, &words, &mut src, &mut StdSink::new(&mut buffered));
     if status == 2 {
-        // A help beside the answer: where it can't be written, the status stays.
+        // A usage line beside the answer. Where it can't be written, the status stays.
         let _ = eprintln!(rt; "usage: dmasim run | migrate | pool | gen N");
     }
     match buffered.flush() {

@@ -1,10 +1,10 @@
-//! Fixtures: scenarios with what stands behind them, the parts of what a run wrote, and the run of its history again.
+//! Fixtures: scenarios without the end of their text, the parts of what a run wrote, and the run of its history again.
 
 use nc_io::{MemSink, MemSource};
 use nc_top::dmasim;
 use std::alloc::{AllocError, Global};
 
-/// Two harts store into one block, each into a buffer of its own. The schedule stands behind it.
+/// Two harts store into one block, each into a buffer of its own. The schedule comes after this text.
 pub const FALSE_SHARING: &str = r#"{
   "version": 1,
   "ram": 65536,
@@ -19,7 +19,7 @@ pub const FALSE_SHARING: &str = r#"{
   "slots": {"at": 32768, "count": 1},
   "pool": {"at": 49152, "pages": 2}"#;
 
-/// The same in machine mode over 4,096 bytes of RAM, with a limit.
+/// The scenario of `FALSE_SHARING` in machine mode over 4,096 bytes of RAM, with a limit.
 pub const TWO_DRIVERS: &str = r#"{
   "version": 1,
   "ram": 4096,
@@ -57,7 +57,7 @@ pub const ROUNDS_ALONE: &str = r#"{
 /// A scenario with no hart is refused.
 pub const NO_HART: &str = r#"{"version": 1, "ram": 4096, "harts": [], "buffers": []"#;
 
-/// Two harts map a bounced range each. The slots stand behind it.
+/// Two harts map a bounced range each. The slots come after this text.
 const BOUNCED_RANGES: &str = r#"{
   "version": 1,
   "ram": 65536,
@@ -71,32 +71,32 @@ const BOUNCED_RANGES: &str = r#"{
   ],
   "#;
 
-/// Two slots for them.
+/// Two slots for `BOUNCED_RANGES`.
 pub const TWO_SLOTS: &str =
     r#""slots": {"at": 32768, "count": 2}, "pool": {"at": 49152, "pages": 2}"#;
 
-/// One slot for them.
+/// One slot for `BOUNCED_RANGES`.
 pub const ONE_SLOT: &str =
     r#""slots": {"at": 32768, "count": 1}, "pool": {"at": 49152, "pages": 2}"#;
 
-/// One slot for them, with a limit.
+/// One slot for `BOUNCED_RANGES`, with a limit.
 pub const SEARCH: &str = r#""slots": {"at": 32768, "count": 1}, "limit": 400"#;
 
-/// Two harts that map a bounced range each, over such slots.
+/// Makes the scenario of two harts that map a bounced range each, over these slots.
 pub fn bounced_over(alloc: Global, slots: &str) -> Result<String, AllocError> {
     let mut scenario = String::from_str(alloc, BOUNCED_RANGES)?;
     scenario.push_str(slots)?;
     Ok(scenario)
 }
 
-/// A scenario's text, with an empty schedule behind it.
+/// Returns the text of a scenario with an empty schedule.
 pub fn whole(alloc: Global, scenario: &str) -> Result<Vec<u8>, AllocError> {
     let mut input = String::from_str(alloc, scenario)?;
     input.push_str(",\"schedule\":[]}")?;
     Ok(input.into_bytes())
 }
 
-/// What is due for `ROUNDS_ALONE`: seven events, of which two are done.
+/// Returns what is due for `ROUNDS_ALONE`: seven events, of which two are done.
 pub fn rounds_alone_text(alloc: Global) -> Result<String, AllocError> {
     let zeros = "0".repeat(alloc, 128)?;
     let text = format!(in alloc;
@@ -120,25 +120,25 @@ end events 2 touches 0
     Ok(text)
 }
 
-/// The words of a command line.
+/// Makes a command line of one word.
 pub fn words(alloc: Global, word: &str) -> Result<Vec<String>, AllocError> {
     let mut words = Vec::new(alloc);
     words.push(String::from_str(alloc, word)?)?;
     Ok(words)
 }
 
-/// What a run in threads wrote: its history, a token each, and the report behind it.
+/// What a run in threads wrote: its history, a token each, and then the report.
 #[derive(Drop)]
 pub struct Told {
     /// The status.
     pub status: u8,
     /// The events, a token each.
     pub tokens: Vec<String>,
-    /// The lines behind them.
+    /// The lines of the report.
     pub report: String,
 }
 
-/// Takes the text of a run apart.
+/// Parses what a run wrote into its history and its report.
 pub fn told_of(alloc: Global, status: u8, text: &str) -> Result<Told, AllocError> {
     let mut tokens = Vec::new(alloc);
     let mut report = String::new(alloc);

@@ -6,7 +6,8 @@ use std::sync::atomic::{AtomicU64, Ordering};
 /// How often a driver looks for the other before it goes on alone.
 const LOOKS: u64 = 100_000_000;
 
-/// Holds the first turn of each of two drivers until that of the other was announced, and counts the turns of both.
+/// A gate that holds the first turn of each of two drivers until that of the other was announced, and counts the turns
+/// of both.
 #[derive(Drop)]
 pub struct Meeting {
     first: AtomicU64,
@@ -15,7 +16,7 @@ pub struct Meeting {
 }
 
 impl Meeting {
-    /// Nobody has come yet.
+    /// Makes a gate that no driver has come to yet.
     pub fn new() -> Meeting {
         Meeting {
             first: AtomicU64::new(0),
@@ -24,7 +25,7 @@ impl Meeting {
         }
     }
 
-    /// How many turns of the hart were announced.
+    /// Returns the count of turns of the hart that were announced.
     pub fn turns(&self, hart: u8) -> u64 {
         if hart == 0 {
             return self.first.load(Ordering::SeqCst);
@@ -32,12 +33,12 @@ impl Meeting {
         self.second.load(Ordering::SeqCst)
     }
 
-    /// How often a driver went on although the other had not come.
+    /// Returns how often a driver went on although the other had not come.
     pub fn alone(&self) -> u64 {
         self.alone.load(Ordering::SeqCst)
     }
 
-    /// Looks for the other driver, and tells whether it has come.
+    /// Looks for the other driver, and returns whether it has come.
     fn meets(&self, hart: u8) -> bool {
         for _ in 0..LOOKS {
             if 0 < self.turns(1 - hart.min(1)) {

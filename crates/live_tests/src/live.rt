@@ -27,13 +27,13 @@ fn live<R: Threads + Wait + Sync, G: Gate>(
     }
 }
 
-/// Tells whether the history runs again to the same report and status.
+/// Returns whether the history runs again to the same report and status.
 fn runs_again(alloc: Global, scenario: &str, told: &Told) -> Result<bool, AllocError> {
     let (status, report) = again(alloc, scenario, &told.tokens)?;
     Ok(status == told.status && report.as_slice() == told.report.as_bytes())
 }
 
-/// How many of the tokens are steps and drains of the hart.
+/// Counts the tokens that are steps and drains of the hart.
 fn events_of(tokens: &[String], hart: char) -> u64 {
     let mut count = 0u64;
     for token in tokens {
@@ -46,7 +46,7 @@ fn events_of(tokens: &[String], hart: char) -> u64 {
     count
 }
 
-/// How many lines of the report begin with one of these.
+/// Counts the lines of the report that begin with one of these.
 fn lines_with(report: &str, starts: &[&str]) -> usize {
     report
         .lines()

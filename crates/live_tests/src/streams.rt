@@ -11,13 +11,13 @@ use std::sync::Wait;
 use std::test::Fail;
 use std::thread::Threads;
 
-/// How many calls are made to fail at most.
+/// The most calls that are made to fail.
 const MOST: u32 = 1000;
 
 /// The most bytes that a read gives.
 const CHUNK: usize = 64;
 
-/// Runs a scenario in threads, where the reads and the writes of these numbers fail. Returns the status and what was
+/// Runs a scenario in threads, where the reads and the writes of these indices fail. Returns the status and what was
 /// written.
 fn answer<R: Threads + Wait + Sync>(
     rt: &R,
@@ -33,7 +33,7 @@ fn answer<R: Threads + Wait + Sync>(
     Ok((status, Vec::from_slice(alloc, out.bytes())?))
 }
 
-/// Lets each read of a run fail in turn, and tells how many did: each was answered with 4, and nothing was written.
+/// Lets each read of a run fail in turn, and returns how many did: each was answered with 4, and nothing was written.
 fn failed_reads<R: Threads + Wait + Sync>(
     rt: &R,
     alloc: Global,
@@ -59,7 +59,7 @@ fn failed_reads<R: Threads + Wait + Sync>(
     Ok(None)
 }
 
-/// What is due for the history of a run: the status and the text, by `dmasim` over the history's own events.
+/// Returns what is due for the history of a run: the status and the text, by `dmasim` over the history's own events.
 fn due(alloc: Global, scenario: &str, tokens: &[String]) -> Result<(u8, Vec<u8>), AllocError> {
     let count = tokens.len();
     let mut text = format!(in alloc; "history {count}\n")?.into_bytes();
@@ -72,8 +72,8 @@ fn due(alloc: Global, scenario: &str, tokens: &[String]) -> Result<(u8, Vec<u8>)
     Ok((status, text))
 }
 
-/// Tells whether a run answered what is due for the history that it wrote: all of it, with its status, or where a write
-/// failed, 5 with a front of it. A front that is not empty has the whole history.
+/// Returns whether a run answered what is due for the history that it wrote: all of it, with its status, or where a
+/// write failed, 5 with a prefix of it. A prefix that is not empty has the whole history.
 fn is_due(alloc: Global, scenario: &str, status: u8, text: &[u8]) -> Result<bool, AllocError> {
     let Ok(told) = str::from_utf8(text) else {
         return Ok(false);
@@ -86,8 +86,8 @@ fn is_due(alloc: Global, scenario: &str, status: u8, text: &[u8]) -> Result<bool
     Ok(status == wanted && text == all.as_slice())
 }
 
-/// Lets each write of a run in threads fail in turn, up to the first run that makes fewer, and tells how many failed:
-/// each run answered what is due for its history.
+/// Lets each write of a run in threads fail in turn, up to the first run that makes fewer writes, and returns how many
+/// failed: each run answered what is due for its history.
 fn failed_writes<R: Threads + Wait + Sync>(
     rt: &R,
     alloc: Global,
@@ -138,7 +138,7 @@ fn each_write_fails(rt: HostRuntime) -> Result<(), Fail> {
             assert!(rt; false);
             return Ok(());
         };
-        // One for the history, one for an event at least, and one for what stands behind the events.
+        // One for the history, one for an event at least, and one for what comes after the events.
         assert!(rt; 2 < failed);
     }
     Ok(())

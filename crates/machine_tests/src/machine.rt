@@ -23,8 +23,8 @@ const ONE: HartNo = HartNo(1);
 
 const C: ChanNo = ChanNo(0);
 
-/// Two harts over 8,192 bytes of RAM in blocks of 64, of which the 64 from place 128 on are 21, 22, .. and the others
-/// 0. The page at 4,096 is the coherent pool.
+/// A machine of two harts over 8,192 bytes of RAM in blocks of 64. The 64 bytes from place 128 on are 21, 22, .. (in
+/// hexadecimal), and the others 0. The page at place 4,096 is the coherent pool.
 #[derive(Drop)]
 struct Bench {
     machine: Machine,
@@ -103,7 +103,7 @@ impl Bench {
         self.machine.issue(h, op)
     }
 
-    /// The operation puts an entry in the queue.
+    /// Issues an operation that puts an entry in the queue.
     fn queue(&mut self, rt: &impl Abort, h: HartNo, op: HartOp)
         requires hart { h.0 < 2 }
         requires there { OpIsThere self.old.machine.machine h.0 op }
@@ -112,7 +112,7 @@ impl Bench {
         assert!(rt; matches!(issued, Issued::Queued));
     }
 
-    /// The operation has no entry.
+    /// Issues a fence that puts no entry in the queue.
     fn pass(&mut self, rt: &impl Abort, h: HartNo, pred: u8, succ: u8)
         requires { h.0 < 2 }
     {
@@ -120,7 +120,7 @@ impl Bench {
         assert!(rt; matches!(issued, Issued::Passed));
     }
 
-    /// A load shows these bytes, and makes these transfers.
+    /// Issues a load, which shows these bytes and makes these transfers.
     fn load(
         &mut self,
         rt: &impl Abort,
@@ -157,7 +157,7 @@ impl Bench {
         self.queue(rt, h, HartOp::Cbo { op, block });
     }
 
-    /// A store to a register of channel 0.
+    /// Issues a store to a register of channel 0.
     fn set(&mut self, rt: &impl Abort, h: HartNo, off: u16, width: u8, value: u64)
         requires hart { h.0 < 2 }
         requires known { is_some (register_at off width) ≡ true }
@@ -171,7 +171,7 @@ impl Bench {
         self.queue(rt, h, HartOp::IoStore(target));
     }
 
-    /// A load of Control shows this value.
+    /// Issues a load of channel 0's Control, which shows this value.
     fn control(&mut self, rt: &impl Abort, h: HartNo, want: u64)
         requires { h.0 < 2 }
     {
@@ -192,7 +192,8 @@ impl Bench {
         self.machine.drain(h, i)
     }
 
-    /// Entry i of hart h's queue drains with these transfers, or may not; a look showed it before.
+    /// Drains entry `i` of hart `h`'s queue, which makes these transfers, or may not drain where there are none; `peek`
+    /// showed the same before.
     fn drain(&mut self, rt: &impl Abort, h: HartNo, i: u8, want: Option<&[BusRec]>)
         requires { h.0 < 2 }
     {
@@ -244,7 +245,7 @@ impl Bench {
     }
 }
 
-/// A block that begins with these bytes, and has 0 behind them.
+/// Makes a block that begins with these bytes, and whose other bytes are 0.
 fn block(first: &[u8]) -> Bytes
     requires { length first.now ≤ 64 }
 {
@@ -440,7 +441,8 @@ fn a_claim_is_refused_with_its_grantee(rt: HostRuntime) -> Result<(), NoMemory> 
     Ok(())
 }
 
-/// The registers of a copy of 8 bytes from place 128 to place 64, and its start; none has an effect before it drains.
+/// Writes the registers of a copy of 8 bytes from place 128 to place 64, and starts it. No register has an effect
+/// before its store drains.
 fn start_copy(rt: &impl Abort, bench: &mut Bench) {
     assert!(rt; bench.claim(ZERO).is_ok());
     bench.set(rt, ZERO, 0x008, 8, 8);

@@ -1,9 +1,9 @@
 //! The laws of the written machine's calls.
 //!
-//! The crate has no code. Each law is a public function with an empty body, whose contract says what holds of the
-//! definitions of nc_rules: the calls keep a machine sound and of its shape (`specs/MachineLaws`), and do at each place
-//! of memory, to each queue and to channels and boxes exactly this (`specs/PlaceLaws`, `specs/CallLaws`). The contract
-//! for the layers above: these laws, and the lemmas of `proofs/` that say them one call at a time.
+//! The crate has no code. Each law is a public function with an empty body. Its contract says what holds of the
+//! definitions of nc_rules: each call keeps a machine sound and of its shape (`specs/MachineLaws`), and what each call
+//! does at each place of memory, to each queue, and to the channels and boxes (`specs/PlaceLaws`, `specs/CallLaws`).
+//! The contract for the layers above: these laws, and the lemmas of `proofs/` that state them one call at a time.
 #![tactic(auto)]
 
 mod laws;

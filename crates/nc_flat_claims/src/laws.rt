@@ -2,8 +2,9 @@
 
 ghost use Rattle.nc_flatness.specs.Steps.{ClaimsAreFlat};
 
-/// Flat memory's bytes stand behind the claim of a copy, with which both ends of it are lent, or which finds its channel
-/// granted.
+/// Proves that the claim of a copy, with which both ends of it are lent, or which finds its channel granted, begins
+/// with a touch, or that flat memory's bytes stand after it. The step may happen, in a world of an accepted scenario
+/// whose bytes stand before it.
 pub fn claims_go()
     ensures { ClaimsAreFlat }
 {}

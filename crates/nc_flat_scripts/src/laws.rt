@@ -2,13 +2,16 @@
 
 ghost use Rattle.nc_flatness.specs.Steps.{StepsAreFlat, TransfersAreFlat};
 
-/// A step of an operation that neither lends nor takes back is a touch, or its reads show flat memory, and flat memory
-/// stands behind it, with its writes made.
+/// Proves that a step of an operation that neither lends nor takes back begins with a touch, or that its reads show
+/// flat memory and flat memory's bytes, with its writes made, stand after it. The step may happen, in a world of an
+/// accepted scenario whose bytes stand before it.
 pub fn steps_go()
     ensures { StepsAreFlat }
 {}
 
-/// Flat memory's bytes stand behind a store of a copy to its channel's registers, its poll and its release.
+/// Proves that a copy's store to its channel's registers, its poll and its release begin with a touch, or that flat
+/// memory's bytes stand after them and their reads show it. The step may happen, in a world of an accepted scenario
+/// whose bytes stand before it.
 pub fn transfers_go()
     ensures { TransfersAreFlat }
 {}

@@ -1,8 +1,8 @@
 //! Scripts: what a step of an operation that goes by number, or that passes a buffer, keeps of flat memory, and what a
-//! step of a copy that is of its channel's registers does.
+//! copy's step on its channel's registers does.
 //!
-//! The crate has no code. A step is a touch, or its loads show flat memory and its stores write it, and the rows stand
-//! behind it. The contract for the layers above: the two laws.
+//! The crate has no code. A step is a touch, or its loads show flat memory, its stores write it, and the rows stand
+//! after it. The contract for the layers above: the two laws.
 #![tactic(auto)]
 
 mod laws;

@@ -13,7 +13,7 @@ use nc_world::World;
 use std::alloc::Global;
 use std::marker::{Brand, PhantomData};
 
-/// Names one pool, in contracts alone.
+/// The name of one pool, in contracts alone.
 pub trait PoolName {
     ghost use Rattle.atomic_table.specs.Seated.{TableId};
 
@@ -26,7 +26,7 @@ impl PoolName for Brand {
     ghost pool = { no_pool };
 }
 
-/// The pool that P names, which has as many slots as the scenario that N names.
+/// The pool that P names, with as many slots and seats as the scenario that N names has slots and harts.
 #[derive(Drop)]
 pub struct Crew<N: SceneName, P: PoolName> {
     pool: Pool,
@@ -62,7 +62,7 @@ pub struct Team<N: SceneName, P: PoolName> {
 }
 
 impl<N: SceneName, P: PoolName> Team<N, P> {
-    /// These drivers.
+    /// Makes the team of these drivers, one for each hart, in the order of the harts.
     pub fn new(workers: Vec<Worker<N, P>>) -> Team<N, P>
         requires all { vec_len workers ≡ length N.scene.harts }
         requires seated { (k : ℕ) (w : _) → k < length N.scene.harts → (get_or workers.items k w).me.0 ≡ k }
@@ -70,7 +70,7 @@ impl<N: SceneName, P: PoolName> Team<N, P> {
         Team { workers }
     }
 
-    /// The drivers, in the order of their harts.
+    /// Returns the drivers, in the order of their harts.
     pub fn into_workers(self) -> Vec<Worker<N, P>>
         ensures all { vec_len result ≡ length N.scene.harts }
         ensures seated { (k : ℕ) (w : _) → k < length N.scene.harts → (get_or result.items k w).me.0 ≡ k }
@@ -81,7 +81,12 @@ impl<N: SceneName, P: PoolName> Team<N, P> {
 }
 
 impl<N: SceneName, P: PoolName> Worker<N, P> {
-    /// Tries a slot once, and keeps it where it was free.
+    /// Tries slot `k` of the pool once with the driver's seat, and keeps the slot where it was free. Returns what the
+    /// pool answered.
+    ///
+    /// # Errors
+    ///
+    /// `NoMemory` where memory runs out.
     pub fn try_slot(&mut self, crew: &Crew<N, P>, k: u32) -> Result<PoolTry, NoMemory>
         requires { k < N.scene.slots }
         ensures log { IfOk result (λ a. EndsWith self.new.seat.log (k, found_of a)) }
@@ -98,29 +103,30 @@ impl<N: SceneName, P: PoolName> Worker<N, P> {
         }
     }
 
-    /// The hart whose driver it is.
+    /// Returns the hart of the driver.
     pub fn me(&self) -> HartNo
         ensures { result ≡ self.now.me }
     {
         self.me
     }
 
-    /// Its seat of the pool.
+    /// Returns the driver's seat of the pool.
     pub fn seat(&self) -> &PoolSeat
         ensures { result.now ≡ self.now.seat }
     {
         &self.seat
     }
 
-    /// Tells whether the seat holds a slot.
+    /// Returns whether the seat holds slot `k`.
     fn holds(&self, k: u32) -> bool
         ensures { result ≡ has k self.now.mine.items }
     {
         self.mine.iter().any(|x| *x == k)
     }
 
-    /// Gives back each slot that the core does not have as the hart's: its operation gave the core's word back, or its search
-    /// was told of a word that the core had as another hart's.
+    /// Gives back each slot that the seat holds and that the world does not have as the hart's. Such a slot is one
+    /// whose word the hart's operation gave back, or one that the search was told was free while the world had its word
+    /// as another hart's.
     pub fn release(&mut self, crew: &Crew<N, P>, world: &World)
         ensures slots { (k : ℕ) → k < N.scene.slots → has k self.new.mine.items ≡ (has k self.old.mine.items && is_held_by world.now.state.slots k self.old.me) }
         ensures hart { self.new.me ≡ self.old.me }
@@ -132,14 +138,14 @@ impl<N: SceneName, P: PoolName> Worker<N, P> {
         }
     }
 
-    /// Tells whether the seat holds a slot that the core does not have as the hart's.
+    /// Returns whether the seat holds slot `k` and the world does not have it as the hart's.
     fn is_left(&self, world: &World, k: u32) -> bool
         ensures { result ≡ (has k self.now.mine.items && not (is_held_by world.now.state.slots k self.now.me)) }
     {
         self.holds(k) && !self.is_mine(world, k)
     }
 
-    /// Tells whether the core has slot word k as the hart's.
+    /// Returns whether the world has slot word `k` as the hart's.
     fn is_mine(&self, world: &World, k: u32) -> bool
         ensures { result ≡ is_held_by world.now.state.slots k self.now.me }
     {
@@ -149,7 +155,7 @@ impl<N: SceneName, P: PoolName> Worker<N, P> {
         }
     }
 
-    /// Gives a slot back.
+    /// Gives slot `k` back.
     fn give(&mut self, crew: &Crew<N, P>, k: u32)
         requires { has k self.old.mine.items ≡ true }
         ensures slots { self.new.mine.items ≡ without k self.old.mine.items }
@@ -173,7 +179,7 @@ impl<N: SceneName, P: PoolName> Worker<N, P> {
 }
 
 impl<N: SceneName, P: PoolName> Crew<N, P> {
-    /// Shares a pool of so many slots.
+    /// Makes the crew of a pool with `slots` slots.
     pub fn new(pool: Pool, slots: u32) -> Crew<N, P>
         requires named { pool.id ≡ P.pool }
         requires size { pool.slots ≡ slots }
@@ -188,7 +194,7 @@ impl<N: SceneName, P: PoolName> Crew<N, P> {
         }
     }
 
-    /// Makes the seat of a hart's driver.
+    /// Takes the next seat of the pool for the driver of hart `me`, which holds no slot yet.
     fn recruit(&self, alloc: Global, root: &mut PoolRoot, me: HartNo) -> Worker<N, P>
         requires hart { me.0 < length N.scene.harts }
         requires root { root.old.pool ≡ P.pool }
@@ -209,7 +215,11 @@ impl<N: SceneName, P: PoolName> Crew<N, P> {
         }
     }
 
-    /// Makes the seats of all drivers, in the order of their harts.
+    /// Takes the seats of all drivers, in the order of their harts, from a root that has given none.
+    ///
+    /// # Errors
+    ///
+    /// `NoMemory` where memory runs out; then no team is made.
     pub fn recruit_all(
         &self,
         alloc: Global,
@@ -228,7 +238,7 @@ impl<N: SceneName, P: PoolName> Crew<N, P> {
         Ok(Team::new(workers))
     }
 
-    /// Gives back what a driver's seat holds, and ends the seat.
+    /// Gives back the slots that a driver's seat holds, and gives the seat back to the root.
     pub fn dismiss(&self, root: &mut PoolRoot, worker: Worker<N, P>)
         requires { root.old.pool ≡ P.pool }
         ensures { root.new.pool ≡ P.pool }

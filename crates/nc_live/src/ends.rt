@@ -1,4 +1,4 @@
-//! What the caller does once the threads have ended: the turns that they left.
+//! The turns that the threads left, which the caller makes once the threads have ended.
 
 ghost use Rattle.std.specs.Prelude.{◌≡◌, ◌+◌, ◌<◌, ◌≤◌, length, OnOk};
 ghost use Rattle.nc_turns.specs.Threads.{made_by, most, AreThrough, IsThread};
@@ -8,7 +8,7 @@ use crate::turns::aim;
 use nc_num::NoMemory;
 use nc_turns::{LiveState, SceneName, Turner};
 
-/// Makes the next event of a driver. A slot is tried by its seat.
+/// Makes the next event of a driver. At a search its seat tries the slot first.
 fn make_event<N: SceneName, P: PoolName>(
     state: &mut LiveState<N>,
     crew: &Crew<N, P>,
@@ -32,7 +32,7 @@ fn make_event<N: SceneName, P: PoolName>(
     Ok(())
 }
 
-/// Makes the next event of a thread that has made fewer than its most.
+/// Makes the next event of thread `t`, which has made fewer than its most.
 fn further_turn<N: SceneName, P: PoolName>(
     state: &mut LiveState<N>,
     crew: &Crew<N, P>,
@@ -58,6 +58,10 @@ fn further_turn<N: SceneName, P: PoolName>(
 }
 
 /// Makes the turns that the threads left, until the run is at its end or each thread has made its most.
+///
+/// # Errors
+///
+/// `NoMemory` where memory runs out; then some of these turns may have been made.
 pub fn make_up<N: SceneName, P: PoolName>(
     state: &mut LiveState<N>,
     crew: &Crew<N, P>,

@@ -1,13 +1,13 @@
-//! Who is told of a driver's turn before it is made.
+//! The gate that a driver's turn passes before it is made.
 
-/// Is told of each turn that a driver's thread makes, right before it, while no lock is held. A turn that the caller makes
-/// once the threads have ended is not told.
+/// A gate for the turns of the drivers' threads. Each turn passes it right before it is made, while no lock is held. A
+/// turn that the caller makes once the threads have ended does not pass it.
 pub trait Gate: Sync {
-    /// Returns once hart `hart` may make its thread's turn of this number; each thread counts its turns from 0.
+    /// Returns once hart `hart` may make turn `turn` of its thread. Each thread counts its turns from 0.
     fn before(&self, hart: u8, turn: u64);
 }
 
-/// Lets every turn begin at once.
+/// A gate that lets every turn begin at once.
 pub struct NoGate;
 
 impl Gate for NoGate {

@@ -1,7 +1,7 @@
 //! Driver threads over one locked machine.
 //!
-//! There is a thread for each driver, one for the channels and one for the caches. They share the history of nc_turns under
-//! one lock, and the drivers take slots of one pool (nc_pool) outside it. The contract for the layer above: `dmalive`
+//! Each driver has a thread, and so have the channels and the caches. They share the history of nc_turns under one
+//! lock, and the drivers take slots of one pool (nc_pool) outside it. The contract for the layer above: `dmalive`
 //! writes the history that was made, and the report of exactly that history's run. The program stands above it.
 #![tactic(auto)]
 

@@ -24,7 +24,7 @@ use std::marker::Brand;
 use std::sync::{Mutex, Wait};
 use std::thread::Threads;
 
-/// Makes the turns of all threads over one lock and one pool, and then those that they left.
+/// Makes the turns of all threads over one lock and one pool, and then the turns that they left.
 fn with_pool<
     N: SceneName + Send + Sync,
     P: PoolName + Send + Sync,
@@ -80,7 +80,13 @@ fn make_history<N: SceneName + Send + Sync, R: Threads + Wait + Sync, G: Gate>(
     Ok(done)
 }
 
-/// Runs a scenario in threads, and writes the history that they made and the report of its run. Its status is answered.
+/// Runs a scenario in threads, and writes the history that they made and the report of its run. Returns the status of
+/// the run: 0, 1 or 7.
+///
+/// # Errors
+///
+/// `Failed` where a write fails, and `NoMemory` where memory runs out; then nothing was written, or a prefix of what is
+/// due for a history of the scenario's threads.
 pub fn live_run<N: SceneName + Send + Sync, R: Threads + Wait + Sync, K: Sink, G: Gate>(
     rt: &R,
     alloc: Global,

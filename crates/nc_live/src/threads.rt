@@ -13,7 +13,7 @@ use std::sync::{Mutex, Wait};
 use std::thread;
 use std::thread::{Promise, PromisedHandle, Threads};
 
-/// Makes a turn of a driver's thread. A slot is tried before the lock is taken.
+/// Makes a turn of a driver's thread. It tries a slot before it takes the lock.
 fn driver_turn<N: SceneName, P: PoolName, R: Wait>(
     rt: &R,
     live: &Mutex<LiveState<N>>,
@@ -39,7 +39,7 @@ fn driver_turn<N: SceneName, P: PoolName, R: Wait>(
     }
 }
 
-/// Makes the turns of a driver's thread, at most so many. Where memory runs out it stops.
+/// Makes at most `most` turns of a driver's thread. The thread stops where memory runs out.
 fn drive<N: SceneName, P: PoolName, R: Wait, G: Gate>(
     rt: &R,
     live: &Mutex<LiveState<N>>,
@@ -65,7 +65,7 @@ fn drive<N: SceneName, P: PoolName, R: Wait, G: Gate>(
     worker
 }
 
-/// Makes a turn of the channels' or the caches' thread, and tells whether the thread goes on.
+/// Makes a turn of the channels' or the caches' thread, and returns whether the thread goes on.
 fn other_turn<N: SceneName, R: Wait>(rt: &R, live: &Mutex<LiveState<N>>, caches: bool) -> bool {
     let t = if caches {
         Turner::Caches
@@ -76,7 +76,7 @@ fn other_turn<N: SceneName, R: Wait>(rt: &R, live: &Mutex<LiveState<N>>, caches:
     goes_on(&state, t) && state.turn(t).is_ok()
 }
 
-/// Makes the turns of the channels' or the caches' thread, at most so many. Where memory runs out it stops.
+/// Makes at most `most` turns of the channels' or the caches' thread. The thread stops where memory runs out.
 fn go_round<N: SceneName, R: Wait>(rt: &R, live: &Mutex<LiveState<N>>, caches: bool, most: u64) {
     for _ in 0..most {
         if !other_turn(rt, live, caches) {
@@ -85,7 +85,7 @@ fn go_round<N: SceneName, R: Wait>(rt: &R, live: &Mutex<LiveState<N>>, caches: b
     }
 }
 
-/// Promises that the worker that a thread hands back is that of this hart.
+/// The promise that the worker that a thread hands back is that of this hart.
 #[derive(Clone, Copy)]
 struct DriverOf(HartNo);
 
@@ -93,7 +93,7 @@ impl<N: SceneName, P: PoolName> Promise<Worker<N, P>> for DriverOf {
     ghost kept_by = { λ p w. w.me ≡ p.0 };
 }
 
-/// Joins the threads of the first harts, and puts the workers of the others, which no thread could be made for, behind.
+/// Joins the threads of the first harts, and appends the workers of the other harts, for which no thread could be made.
 fn gather<N: SceneName, P: PoolName, R: Threads>(
     rt: &R,
     handles: Vec<PromisedHandle<Worker<N, P>, DriverOf>>,
@@ -110,7 +110,12 @@ fn gather<N: SceneName, P: PoolName, R: Threads>(
     Ok(Team::new(workers))
 }
 
-/// Makes the turns of all threads, each in a thread of its own where one can be made, and hands the workers back.
+/// Makes at most `most` turns of each driver and of the channels and the caches, each in a thread of its own where one
+/// can be made, and hands the workers back.
+///
+/// # Errors
+///
+/// `NoMemory` where memory runs out for the threads or the team; then some turns may have been made.
 pub fn drive_all<
     'x,
     N: SceneName + Send + Sync,

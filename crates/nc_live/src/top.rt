@@ -47,13 +47,13 @@ fn answer_to<R: Threads + Wait + Sync, K: Sink, G: Gate>(
     }
 }
 
-/// Reads a scenario, for the words `run`, and runs it in threads: one for each driver, one for the channels and one for the
-/// caches, over one locked machine and one pool of slots. It writes the history that they made, a token a line behind
-/// the number of its events, and then the report of that history's run. Other words are refused.
+/// Reads a scenario, for the words `run`, and runs it in threads: one for each driver, one for the channels and one for
+/// the caches, over one locked machine and one pool of slots. It writes the history that they made, as its count of
+/// events and a token a line, and then the report of that history's run. Other words are refused.
 ///
-/// Statuses: 0 the run ended with no touch and every script at its end; 1 a touch was reported; 2 unknown words; 3 the
-/// input is refused; 4 a read failed; 5 a write failed; 6 memory ran out; 7 no touch, and a script is not at its end.
-/// It waits for locks and threads, and its return is not promised.
+/// Returns the status: 0 the run ended with no touch and every script at its end; 1 a touch was reported; 2 unknown
+/// words; 3 the input is refused; 4 a read failed; 5 a write failed; 6 memory ran out; 7 no touch, and a script is not
+/// at its end. It waits for locks and threads, and its return is not promised.
 pub fn dmalive<R: Threads + Wait + Sync, S: Source, K: Sink, G: Gate>(
     rt: &R,
     alloc: Global,
@@ -72,8 +72,8 @@ pub fn dmalive<R: Threads + Wait + Sync, S: Source, K: Sink, G: Gate>(
         × WroteFor (K.held out.old) (K.held out.new) (reading bytes) result
         × IsRunWhereRead result bytes }
 
-    // Words that are no command are refused before anything is read, and of the source never more is taken than one byte
-    // beyond the most that a scenario may have.
+    // Words that are no command are refused before anything is read. At most one byte more than a scenario may have is
+    // taken from the source.
     ensures words { is_run (map string_bytes words.now.items) ≡ false → (src.new ≡ src.old) × (result ≢ 4) }
     ensures stops { TakesFew (S.left src.old) (S.left src.new) }
 
@@ -81,7 +81,7 @@ pub fn dmalive<R: Threads + Wait + Sync, S: Source, K: Sink, G: Gate>(
     ensures source { result ≡ 4 → Rose (S.faults src.old) (S.faults src.new) × Keeps (K.held out.old) (K.held out.new) }
     ensures sink { result ≡ 5 → Rose (K.faults out.old) (K.faults out.new) }
 
-    // Whatever is answered, what was written is a front of what is due.
+    // Whatever is answered, what was written is a prefix of what is due.
     ensures front { WroteFront (map string_bytes words.now.items) (S.left src.old) (S.left src.new) (S.ended src.new) (K.held out.old) (K.held out.new) }
 {
     if !is_run(words) {

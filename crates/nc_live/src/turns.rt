@@ -1,4 +1,4 @@
-//! The turns of the threads: what is done while the lock is held.
+//! The turns of the threads: what a thread does while it holds the lock.
 
 ghost use Rattle.std.specs.Prelude.{◌≡◌, ◌<◌, length, IfOk, IfSome};
 ghost use Rattle.nc_pool.specs.Answers.{found_of};
@@ -10,7 +10,7 @@ use nc_num::{HartNo, NoMemory};
 use nc_pool::PoolTry;
 use nc_turns::{LiveState, SceneName, Turner};
 
-/// Tells whether a thread goes on: the run is not at its end, and the thread has made fewer events than its most.
+/// Returns whether thread `t` goes on: the run is not at its end, and the thread has made fewer events than its most.
 pub fn goes_on<N: SceneName>(state: &LiveState<N>, t: Turner) -> bool
     requires { IsThread N.scene t }
     ensures { result ≡ goes_on N.scene state.now t }
@@ -18,7 +18,8 @@ pub fn goes_on<N: SceneName>(state: &LiveState<N>, t: Turner) -> bool
     !state.ended() && state.made(t) < state.most()
 }
 
-/// Returns the slot word that a driver's next event is an answer to; None where it is no answer.
+/// Returns the slot word whose answer the next event of hart `h`'s driver tells, or None where that event tells no
+/// answer.
 pub fn aim<N: SceneName>(state: &LiveState<N>, h: HartNo) -> Option<u32>
     requires { h.0 < length N.scene.harts }
     ensures value { result ≡ aim_of N.scene state.now h }
@@ -30,7 +31,7 @@ pub fn aim<N: SceneName>(state: &LiveState<N>, h: HartNo) -> Option<u32>
     None
 }
 
-/// How a driver's thread goes on after a turn.
+/// What a driver's thread does after a turn.
 #[derive(Clone, Copy, Debug, PartialEq, Eq)]
 pub enum Ahead {
     /// It stops.
@@ -41,8 +42,7 @@ pub enum Ahead {
     Slot(u32),
 }
 
-/// Looks where a driver stands after a turn: gives back the slots that the core does not have as its hart's, and says
-/// how its thread goes on.
+/// Gives back the slots that the world does not have as the hart's, and returns what the driver's thread does next.
 fn look<N: SceneName, P: PoolName>(
     state: &LiveState<N>,
     crew: &Crew<N, P>,
@@ -58,7 +58,12 @@ fn look<N: SceneName, P: PoolName>(
     }
 }
 
-/// Makes a driver's turn that is no answer. It adds nothing where the thread does not go on, or the driver is at a search.
+/// Makes a turn of a driver that tells no answer, and returns what its thread does next. It makes no event where the
+/// thread does not go on, or where the driver is at a search.
+///
+/// # Errors
+///
+/// `NoMemory` where memory runs out.
 pub fn step_turn<N: SceneName, P: PoolName>(
     state: &mut LiveState<N>,
     crew: &Crew<N, P>,
@@ -77,8 +82,13 @@ pub fn step_turn<N: SceneName, P: PoolName>(
     Ok(look(state, crew, worker))
 }
 
-/// Makes a driver's turn that tells it the answer to a try of the slot word k. It adds nothing where the thread does not go
-/// on, or the driver is not at a search for that word.
+/// Makes a turn that tells a driver the pool's answer to the try of slot word `k`, its seat's last try, and returns
+/// what the driver's thread does next. It makes no event where the thread does not go on, or where the driver is not at
+/// a search for that word.
+///
+/// # Errors
+///
+/// `NoMemory` where memory runs out.
 pub fn tell_turn<N: SceneName, P: PoolName>(
     state: &mut LiveState<N>,
     crew: &Crew<N, P>,

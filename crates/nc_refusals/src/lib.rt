@@ -2,10 +2,10 @@
 //!
 //! The crate has no code. Each law is a public function with an empty body. The contract for the layers above: in every
 //! run of an accepted scenario the event that refuses an operation, and each earlier event of that operation, leave the
-//! machine, the owners, the grants and the pages as they were, but for the steps that an operation by number has made;
-//! and slot words that such an operation got are given back. Beside it: a copy that is over, failed or done, has given
-//! back both its ranges, and behind a full fence its hart has no write and no output queued; and an operation has a start
-//! step exactly where it goes by a plan.
+//! machine, the owners, the grants and the pages unchanged, but for the steps that an operation by number has made.
+//! Slot words that the operation got are given back. Beside it: a copy that is over, failed or done, has given back
+//! both its ranges; after a full fence its hart has no write and no output queued; and an operation has a start step
+//! exactly where it goes by a plan.
 #![tactic(auto)]
 
 mod laws;

@@ -2,8 +2,10 @@
 
 ghost use Rattle.nc_row_channels.specs.Laws.{RowsOfChannels};
 
-/// A read shows flat memory's byte, and with a claim, a take and what is no transaction in RAM leaves each row; a write
-/// leaves the rows beside it, and gives the row of its own place the byte that it writes.
+/// Proves what a channel's transactions do to a row. A read, a claim, a take and a transaction outside of RAM keep each
+/// row, and the byte that a channel reads of a mapping that it has is flat memory's. A write keeps the rows beside its
+/// span, and gives the row of a place in it the byte that it writes, where the mapping is one that its channel may
+/// write.
 #[tactic(auto, using(crate::proofs::RowWrites::rows_of_channels))]
 pub fn rows_of_channels()
     ensures { RowsOfChannels }

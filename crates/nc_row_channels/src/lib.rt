@@ -1,4 +1,4 @@
-//! Transactions of channels: which rows they leave, and which get the byte that they write.
+//! Transactions of channels: which rows they keep, and which rows get the byte that they write.
 //!
 //! The crate has no code. The contract for the layers above: the law.
 #![tactic(auto)]

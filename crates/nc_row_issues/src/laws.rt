@@ -2,8 +2,10 @@
 
 ghost use Rattle.nc_row_issues.specs.Laws.{RowsIssue};
 
-/// A load leaves each row, and so does an entry that gives none of its bytes, orders none of what it waits for and is
-/// not its token; a place that is the hart's own gets the entry's byte.
+/// Proves which rows an issue keeps. A load keeps each row, but where it brings a block of an area that is being lent.
+/// An entry keeps a row where it gives none of the row's bytes, is not the row's token, and adds nothing that the row
+/// waits for. An entry over a place that is the hart's own gives the row its byte. The hart sees flat memory at a place
+/// of its own.
 #[tactic(auto, using(crate::proofs::RowIssues::rows_issue))]
 pub fn rows_issue()
     ensures { RowsIssue }

@@ -1,7 +1,7 @@
 //! Drains, fills and evictions: each keeps the row of every place, whoever owns it.
 //!
-//! The crate has no code, and no law of it looks at an operation of a script: what is still to come of a plan stands in
-//! the row. The contract for the layers above: the laws.
+//! The crate has no code. No law of it looks at an operation of a script: what is still to come of a plan stands in the
+//! row. The contract for the layers above: the laws.
 #![tactic(auto)]
 
 mod laws;

@@ -1,8 +1,8 @@
 //! Plans: what each step of a mapping's own plan does to its row.
 //!
-//! The crate has no code. An entry of the plan leaves the line as it was; a full fence, or the last copy, ends the
-//! mapping's stay with its owner. A row begins with a turn of its owner. The contract for the layers above: the
-//! laws.
+//! The crate has no code. An entry of the plan keeps what the plan is still to do in order. A full fence, or the last
+//! copy, ends the mapping's stay with its owner. A row begins with a turn of its owner. The contract for the layers
+//! above: the laws.
 #![tactic(auto)]
 
 mod laws;

@@ -2,13 +2,15 @@
 
 ghost use Rattle.nc_rows.specs.Laws.{RowsKeep, StepsAhead};
 
-/// A row stands where neither a queue nor a byte at its places changes.
+/// Proves that a row stays from one machine to another where no queue changes, and nothing that a row could tell
+/// changes at its places. An area that is being lent has a further condition: a place that no hart holds stays so.
 #[tactic(auto, using(crate::proofs::Kept::rows_keep))]
 pub fn rows_keep()
     ensures { RowsKeep }
 {}
 
-/// What is to come of a plan goes off step by step, up to the step that ends a mapping's stay or sends a message.
+/// Proves that what is still to come of a plan loses its first step with each step that is made, up to the step that
+/// ends a mapping's stay with its owner, or that sends a message. Where no step ends it, nothing is to come.
 #[tactic(auto, using(crate::proofs::Steps::steps_ahead))]
 pub fn steps_ahead()
     ensures { StepsAhead }

@@ -24,16 +24,16 @@ use nc_sched::Sched;
 use nc_world::{Record, Stepped, World};
 use std::alloc::Global;
 
-/// How often two answers came.
+/// The counts of two answers.
 #[derive(Clone, Copy, Debug, PartialEq, Eq)]
 pub struct Tally {
-    /// The answer `copydone`.
+    /// The count of answers `copydone`.
     pub done: u64,
-    /// The answer `noslot`.
+    /// The count of answers `noslot`.
     pub missed: u64,
 }
 
-/// Adds what some records count to a tally.
+/// Adds the counts of some records to a tally.
 fn counted(tally: Tally, records: &[Record]) -> Tally
     requires done { tally.done + count_by is_copydone records.now < 2 ^ 64 }
     requires missed { tally.missed + count_by is_noslot records.now < 2 ^ 64 }
@@ -62,7 +62,7 @@ fn step_counted(w: &mut World, e: Event, tally: Tally) -> Result<(Stepped, Tally
     Ok((stepped, tally))
 }
 
-/// Makes the events of a scenario's schedule, and keeps no more of their records than the tally.
+/// Makes the events of a scenario's schedule, and keeps only the tally of their records.
 fn run_counted(alloc: Global, sc: &Scenario) -> Result<(World, Tally), NoMemory>
     requires accepted { IsAccepted sc.now }
     ensures state { IfOk result (λ r. r.0.state ≡ after (start sc.now) (sched sc.now)) }
@@ -80,16 +80,17 @@ fn run_counted(alloc: Global, sc: &Scenario) -> Result<(World, Tally), NoMemory>
     Ok((w, tally))
 }
 
-/// The status and the line that the command `gen` owes.
+/// The status and the line that are due for the command `gen`.
 #[derive(Debug, Drop)]
 pub struct Generated {
     /// The status of the run.
     pub status: u8,
-    /// The line that sums it up.
+    /// The line that sums the run up.
     pub line: Vec<u8>,
 }
 
-/// Runs the scenario that is made of a number, and sums the run up in a line.
+/// Runs the scenario that the generator makes of the number `n`, and returns the run's status (0, 1 or 7) and the line
+/// that sums the run up.
 ///
 /// # Errors
 ///

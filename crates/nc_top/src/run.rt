@@ -17,7 +17,7 @@ use nc_sched::Sched;
 use nc_world::World;
 use std::alloc::Global;
 
-/// Tells whether every script is at its end.
+/// Returns whether every script is at its end.
 fn at_end(w: &World) -> bool
     ensures { result ≡ at_end w.now.state }
 {
@@ -44,8 +44,11 @@ pub fn status_of(w: &World) -> u8
     7
 }
 
-/// Makes the events of the scenario's schedule, and writes the report as they happen. Where a write fails or memory runs
-/// out, a prefix of the report was written.
+/// Makes the events of the scenario's schedule, and writes the report as they happen. Returns the status of the run.
+///
+/// # Errors
+///
+/// `Failed` where a write fails, and `NoMemory` where memory runs out; then a prefix of the report was written.
 pub fn run_out<K: Sink>(alloc: Global, sc: &Scenario, out: &mut K) -> Result<u8, Stop>
     requires { IsAccepted sc.now }
     ensures status { IfOk result (λ n. n ≡ status sc.now (sched sc.now)) }

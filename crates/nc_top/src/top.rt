@@ -1,4 +1,4 @@
-//! The top call.
+//! The top call of `dmasim`, and the answer to each command.
 
 ghost use Rattle.std.specs.Prelude.{◌≡◌, ◌≢◌, ◌⊎◌, ◌↔◌, [], List, ℕ, map, string_bytes, false, true, Some, None, Ok, Err};
 ghost use Rattle.std.specs.Io.KnownBytes.{Appends, Keeps};
@@ -28,7 +28,8 @@ use nc_report::refused;
 use nc_scen::{ScenFault, Scenario, read};
 use std::alloc::Global;
 
-/// Writes a text, and returns this status; 5 where a write failed, and 6 where memory ran out.
+/// Writes `text` to the sink and returns `status`. Where a write fails it returns 5, and where memory runs out 6; then
+/// a prefix of the text was written.
 pub fn put<K: Sink>(out: &mut K, status: u8, text: &[u8]) -> u8
     requires { IsAnswer status }
     ensures written { IsAnswer result → (result ≡ status) × Appends (K.held out.old) (K.held out.new) text.now }
@@ -117,7 +118,7 @@ fn answer_pool<K: Sink>(alloc: Global, bytes: &[u8], out: &mut K) -> u8
     }
 }
 
-/// Answers the command `gen`: the line that sums up the run of a number's scenario.
+/// Answers the command `gen`: the line that sums up the run of the scenario of the number `n`.
 fn answer_gen<K: Sink>(alloc: Global, n: u64, out: &mut K) -> u8
     ensures written { IsAnswer result → (result ≡ (due_for_gen n).status) × Appends (K.held out.old) (K.held out.new) (due_for_gen n).text }
     ensures sink { result ≡ 5 → Rose (K.faults out.old) (K.faults out.new) }
@@ -151,13 +152,15 @@ fn answer_command<K: Sink>(alloc: Global, command: Command, bytes: &[u8], out: &
     }
 }
 
-/// Reads a scenario and writes its report, for the words `run`; for `migrate` writes the scenario moved to version 2; for
-/// `pool` reads operations on a pool of small pieces, and writes their lines; for `gen N` reads nothing, runs the scenario
-/// of the number N, and writes the line that sums the run up. Other words are refused.
+/// Carries out the command that the words name, and returns the status.
 ///
-/// Statuses: 0 the run ended with no touch and every script at its end, or all was written; 1 a touch
-/// was reported; 2 unknown words; 3 the input is refused; 4 a read failed; 5 a write failed; 6 memory
-/// ran out; 7 no touch, and a script is not at its end.
+/// For `run` it reads a scenario and writes its report. For `migrate` it writes the scenario moved to version 2. For
+/// `pool` it reads operations on a pool of small pieces, and writes their lines. For `gen N` it reads nothing, runs the
+/// scenario of the number N, and writes the line that sums the run up. Other words are refused.
+///
+/// Statuses: 0 the run ended with no touch and every script at its end, or all was written; 1 a touch was reported; 2
+/// unknown words; 3 the input is refused; 4 a read failed; 5 a write failed; 6 memory ran out; 7 no touch, and a script
+/// is not at its end.
 #[tactic(auto, unfolding(crate::specs::Due::due))]
 pub fn dmasim<S: Source, K: Sink>(
     alloc: Global,
@@ -192,8 +195,8 @@ pub fn dmasim<S: Source, K: Sink>(
         × (IsAnswer result → (result ≡ (due (map string_bytes words.now.items) []).status)
         × Appends (K.held out.old) (K.held out.new) (due (map string_bytes words.now.items) []).text) }
 
-    // Words that are no command are refused before anything is read, and of the source never more is taken than one byte
-    // beyond the most that a scenario may have.
+    // Words that are no command are refused before anything is read. At most one byte more than a scenario may have is
+    // taken from the source.
     ensures words { command_of (map string_bytes words.now.items) ≡ None → (src.new ≡ src.old) × (result ≢ 4) }
     ensures stops { TakesFew (S.left src.old) (S.left src.new) }
 
@@ -201,18 +204,19 @@ pub fn dmasim<S: Source, K: Sink>(
     ensures source { result ≡ 4 → Rose (S.faults src.old) (S.faults src.new) × Keeps (K.held out.old) (K.held out.new) }
     ensures sink { result ≡ 5 → Rose (K.faults out.old) (K.faults out.new) }
 
-    // Whatever is answered, what was written is a front of what is due.
+    // Whatever is answered, what was written is a prefix of what is due.
     ensures front { WroteFront (map string_bytes words.now.items) (S.left src.old) (S.left src.new) (S.ended src.new) (K.held out.old) (K.held out.new) }
 
-    // Up to the first touch every load and channel read of every run shows flat memory, and after each front of a run
-    // without a touch the bytes of flat memory are kept: in every run of every accepted scenario, the reported one among
-    // them.
+    // Up to the first touch every load and channel read of every run shows flat memory, and after each prefix of a run
+    // without a touch the bytes of flat memory are kept. It holds of every run of every accepted scenario, the reported
+    // one among them.
     ensures latest { EachRunIsLatest }
     ensures kept { EachRunIsKept }
 
-    // Of each copy that is answered done before the first touch: with its poll the destination has the source's bytes in
-    // flat memory; at the answer the hart sees flat memory there, which has them still if the channel wrote nothing since the
-    // poll. Before the first touch none is answered failed. It is so in every run of every accepted scenario too.
+    // Of each copy that is answered done before the first touch: with its poll the destination has the source's bytes
+    // in flat memory; at the answer the hart sees flat memory there, which still has the source's bytes if the channel
+    // wrote nothing since the poll. Before the first touch no copy is answered failed. It holds of every run of every
+    // accepted scenario too.
     ensures copied { EachCopyIsDone }
 {
     latest_law();

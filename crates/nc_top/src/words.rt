@@ -8,13 +8,13 @@ use nc_values::number_in;
 /// A command of the program.
 #[derive(Clone, Copy, Debug, PartialEq, Eq)]
 pub enum Command {
-    /// Writes a scenario's report.
+    /// The command that writes a scenario's report.
     Run,
-    /// Writes a scenario moved to version 2.
+    /// The command that writes a scenario moved to version 2.
     Migrate,
-    /// Writes the lines of a pool of small pieces.
+    /// The command that writes the lines of a pool of small pieces.
     Pool,
-    /// Writes the line that sums up the run of a number's scenario.
+    /// The command that writes the line that sums up the run of this number's scenario.
     Gen(u64),
 }
 
@@ -37,28 +37,29 @@ pub fn command_of(words: &Vec<String>) -> Option<Command>
     }
 }
 
-/// Tells whether the words are `run`.
+/// Returns whether the words are `run`.
 pub fn is_run(words: &Vec<String>) -> bool
     ensures { result ≡ is_run (map string_bytes words.now.items) }
 {
     words.len() == 1 && words[0].as_str() == "run"
 }
 
-/// Tells whether the words are `migrate`.
+/// Returns whether the words are `migrate`.
 fn is_migrate(words: &Vec<String>) -> bool
     ensures { result ≡ is_migrate (map string_bytes words.now.items) }
 {
     words.len() == 1 && words[0].as_str() == "migrate"
 }
 
-/// Tells whether the words are `pool`.
+/// Returns whether the words are `pool`.
 fn is_pool(words: &Vec<String>) -> bool
     ensures { result ≡ is_pool (map string_bytes words.now.items) }
 {
     words.len() == 1 && words[0].as_str() == "pool"
 }
 
-/// Returns the number of the words `gen N`: one below 2^64, in decimal digits without leading zeros.
+/// Returns the number N of the words `gen N`, which is below 2^64, in decimal digits without leading zeros; None for
+/// other words.
 fn seed_in(words: &Vec<String>) -> Option<u64>
     ensures { result ≡ seed_in (map string_bytes words.now.items) }
 {

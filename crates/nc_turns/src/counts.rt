@@ -1,4 +1,4 @@
-//! How many events each thread has.
+//! The count of events that each thread has made.
 
 ghost use Rattle.std.specs.Prelude.{◌≡◌, ◌+◌, ◌<◌, ◌^◌, [], true, if◌then◌else◌};
 ghost use Rattle.nc_turns.specs.States.{count_at, AreCounts, IsCounted};
@@ -8,19 +8,19 @@ use crate::threads::Turner;
 use nc_num::HartNo;
 use nc_scen::Event;
 
-/// How many events each thread has.
+/// The count of events of each thread.
 #[derive(Clone, Copy, Debug)]
 pub struct Counts {
-    /// The driver of each hart.
+    /// The counts of the drivers, by hart.
     pub drivers: [u64; 4],
-    /// The channels.
+    /// The count of the channels' thread.
     pub channels: u64,
-    /// The caches.
+    /// The count of the caches' thread.
     pub caches: u64,
 }
 
 impl Counts {
-    /// No events.
+    /// Makes the counts of no events.
     pub fn none() -> Counts
         ensures { AreCounts result [] }
     {
@@ -31,7 +31,7 @@ impl Counts {
         }
     }
 
-    /// How many events a thread has.
+    /// Returns the count of the events of thread `t`.
     pub fn of(&self, t: Turner) -> u64
         requires { IsCounted t }
         ensures { result ≡ count_at self.now t }
@@ -43,7 +43,7 @@ impl Counts {
         }
     }
 
-    /// Counts one event more.
+    /// Counts event `e` for its thread. A try is of no thread.
     pub fn count(&mut self, e: Event)
         requires few { (t : Turner) → IsCounted t → belongs t e ≡ true → count_at self.old t + 1 < 2 ^ 64 }
         requires there { (h : HartNo) → belongs (Turner.Driver h) e ≡ true → h.0 < 4 }

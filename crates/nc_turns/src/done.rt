@@ -1,4 +1,4 @@
-//! The state behind the threads: their turns, and finishing rounds.
+//! The state after the turns of the threads: the history of their turns, and finishing rounds.
 
 ghost use Rattle.std.specs.Prelude.{◌≡◌, ◌≢◌, ◌<◌, ◌≤◌, [], ◌∷◌, ◌++◌, length, take, Bool, IfOk, OnOk, OnErr};
 ghost use Rattle.nc_num.specs.declared.names.HartNo.{HartNo};
@@ -18,8 +18,8 @@ use nc_sched::Sched;
 use nc_world::{Stepped, World};
 use std::marker::{Model, PhantomData};
 
-/// A history whose first events are the turns of threads that are through, with the world that it leads to. Contracts see
-/// the history and the number of those turns.
+/// A history whose first events are the turns of threads that are done (the run is at its end, or each thread has made
+/// its most), with the world that the history leads to. Contracts see the history and the count of those turns.
 #[derive(Drop)]
 pub struct DoneState<N: SceneName> {
     limit: u64,
@@ -40,7 +40,7 @@ impl<N: SceneName> Model for DoneState<N> {
 }
 
 impl<N: SceneName> DoneState<N> {
-    /// A history of threads that are through, with its world.
+    /// Makes the state of a history whose threads are done, with the world that the history leads to.
     pub(crate) fn of_turns(limit: u64, world: World, history: Vec<Event>) -> DoneState<N>
         requires limit { limit ≡ N.scene.limit }
         requires run { IsRun N.scene world history.items }
@@ -59,13 +59,14 @@ impl<N: SceneName> DoneState<N> {
         }
     }
 
-    // ---- events behind the turns
+    // ---- events after the turns
 
-    /// Makes one event more, done or skipped. It tells no answer of a pool.
+    /// Makes event `e`, done or skipped, and appends it to the history. The event is no answer of a pool. Returns what
+    /// the step answered.
     ///
     /// # Errors
     ///
-    /// `NoMemory` where memory runs out; then nothing has changed.
+    /// `NoMemory` where memory runs out; then the state is unchanged.
     pub fn add(&mut self, e: Event) -> Result<Stepped, NoMemory>
         requires room { length self.old.events < N.scene.limit }
         requires there { IsThere (length N.scene.harts) N.scene.block_size N.scene.ram e }
@@ -78,7 +79,8 @@ impl<N: SceneName> DoneState<N> {
         self.append(e)
     }
 
-    /// Makes finishing rounds behind the turns, up to the first round in which every event is skipped, or to the limit.
+    /// Makes finishing rounds after the turns, up to the first round in which every event is skipped, or to the
+    /// scenario's limit.
     ///
     /// # Errors
     ///
@@ -101,7 +103,7 @@ impl<N: SceneName> DoneState<N> {
 
     // ---- looks
 
-    /// How many events the threads made: the first of the history.
+    /// Returns the count of events that the threads made, which are the first of the history.
     pub fn turns(&self) -> u64
         ensures value { result ≡ self.now.turns }
         ensures few { result ≤ length self.now.events }
@@ -109,7 +111,7 @@ impl<N: SceneName> DoneState<N> {
         self.turns
     }
 
-    /// The events, in order.
+    /// Returns the events, in order.
     pub fn history(&self) -> &[Event]
         ensures value { result.now ≡ self.now.events }
         ensures there { AreThere N.scene self.now.events }
@@ -120,7 +122,7 @@ impl<N: SceneName> DoneState<N> {
         self.history.as_slice()
     }
 
-    /// The world that the history leads to. It has no records.
+    /// Returns the world that the history leads to. It has no records.
     pub fn world(&self) -> &World
         ensures state { result.now.state ≡ world_of N.scene self.now.events }
         ensures none { result.now.records ≡ [] }
@@ -129,7 +131,7 @@ impl<N: SceneName> DoneState<N> {
         &self.world
     }
 
-    /// Makes one event more.
+    /// Makes event `e` and appends it to the history.
     fn append(&mut self, e: Event) -> Result<Stepped, NoMemory>
         requires room { length self.old.events < N.scene.limit }
         requires there { IsThere (length N.scene.harts) N.scene.block_size N.scene.ram e }

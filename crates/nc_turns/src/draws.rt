@@ -11,18 +11,19 @@ use nc_sched::STREAM;
 use rand_core::utils::NextWord;
 use rand_pcg::Lcg64Xsh32;
 
-/// The two words that are drawn next, and the generator behind them.
+/// The two words that are drawn next, and the generator after them (PCG XSH RR 64/32 on stream 54; O'Neill,
+/// pcg-random.org).
 #[derive(Drop)]
 pub struct Draws {
     /// The first word.
     pub first: u32,
     /// The second word.
     pub second: u32,
-    /// The generator that draws the words behind these.
+    /// The generator that draws the words after these.
     pub generator: Lcg64Xsh32,
 }
 
-/// The first words of a generator.
+/// Draws the next two words of a generator.
 fn draw(generator: Lcg64Xsh32) -> Draws
     ensures { result ≡ draw_from generator }
 {
@@ -37,14 +38,15 @@ fn draw(generator: Lcg64Xsh32) -> Draws
 }
 
 impl Draws {
-    /// The first draw of a seed.
+    /// Draws the first two words of the generator with the seed `seed`.
     pub fn new(seed: u64) -> Draws
         ensures { result ≡ draw_from (begun seed) }
     {
         draw(Lcg64Xsh32::new(seed, STREAM))
     }
 
-    /// The event of the words that are drawn next.
+    /// Returns the event of the two words, in a machine of `harts` harts and `blocks` blocks: a fill where the first
+    /// word is even, else an eviction. The first word's other bits give the hart, and the second word the block.
     pub fn event(&self, harts: u8, blocks: u32) -> Event
         requires some { 0 < harts }
         requires blocks { 0 < blocks }
@@ -58,7 +60,7 @@ impl Draws {
         Event::Evict(hart, block)
     }
 
-    /// Draws on, where the event was one of the caches.
+    /// Advances past event `e`: draws the next two words where it is a fill or an eviction.
     pub fn pass(&mut self, e: Event)
         ensures { self.new ≡ (if is_cache_event e then draw_from self.old.generator else self.old) }
     {

@@ -1,11 +1,11 @@
 //! The turns of the threads that drive one machine: a history of events, kept beside the world that it leads to.
 //!
-//! There is a thread for each driver, one for the channels and one for the caches. The crate starts none: it has the value
-//! that they share under a lock. Of such a value nothing is known but its type, so the type says all: the world is the run
-//! of the stored history on the scenario that the type names, and each event of the history comes next in its thread.
-//! The contract for the layer above: `turn` and `tell` append a thread's next event, `finish` and `add_rounds` end the
-//! history with finishing rounds, and `write_live` writes a history and the report of its run. The threads, and the pool
-//! whose answers are told, stand above it.
+//! Each driver has a thread, and so have the channels and the caches. The crate starts no thread: it has the value that
+//! they share under a lock. Another thread knows nothing of such a value but its type, so the type's invariant says
+//! all: the world is the run of the stored history on the scenario that the type names, and each event of the history
+//! comes next in its thread. The contract for the layer above: `turn` and `tell` append a thread's next event, `finish`
+//! and `add_rounds` end the history with finishing rounds, and `write_live` writes a history and the report of its run.
+//! The threads, and the pool whose answers are told, stand above it.
 #![tactic(auto)]
 
 mod counts;

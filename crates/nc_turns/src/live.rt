@@ -23,8 +23,8 @@ use nc_world::{Stepped, World};
 use std::alloc::Global;
 use std::marker::{Model, PhantomData};
 
-/// A history of threads, with the world that it leads to. Contracts see the history: the world is its run on the scenario
-/// that N names, and each event comes next in its thread.
+/// A history of threads, with the world that it leads to. Contracts see the history: the world is its run on the
+/// scenario that N names, and each event comes next in its thread.
 #[derive(Drop)]
 pub struct LiveState<N: SceneName> {
     limit: u64,
@@ -52,7 +52,7 @@ impl<N: SceneName> Model for LiveState<N> {
 impl<N: SceneName> LiveState<N> {
     // ---- the start
 
-    /// The state before any event of the scenario that N names.
+    /// Makes the state before any event of the scenario that N names, with an empty history.
     ///
     /// # Errors
     ///
@@ -77,12 +77,15 @@ impl<N: SceneName> LiveState<N> {
 
     // ---- one event
 
-    /// Makes the next event of a thread, done or skipped. The thread has made fewer than its most, and is no driver at a
-    /// search whose turn it is to issue.
+    /// Makes the next event of thread `t`, done or skipped, and appends it to the history. Returns what the step
+    /// answered.
+    ///
+    /// The thread has made fewer events than its most. It is no driver that is at a search and whose turn it is to
+    /// issue.
     ///
     /// # Errors
     ///
-    /// `NoMemory` where memory runs out; then nothing has changed.
+    /// `NoMemory` where memory runs out; then the state is unchanged.
     pub fn turn(&mut self, t: Turner) -> Result<Stepped, NoMemory>
         requires thread { IsThread N.scene t }
         requires room { made_by t self.old < most N.scene }
@@ -95,12 +98,12 @@ impl<N: SceneName> LiveState<N> {
         self.append(e)
     }
 
-    /// Tells the driver of the hart `me` what the pool answered to the seat's last try, of the slot word that the driver's
-    /// search tries next. It is the one call that tells an answer.
+    /// Tells the driver of hart `me` the pool's answer to the seat's last try, and appends this event to the history.
+    /// The try was of slot word `k`, which the driver's search tries next. No other call tells an answer.
     ///
     /// # Errors
     ///
-    /// `NoMemory` where memory runs out; then nothing has changed.
+    /// `NoMemory` where memory runs out; then the state is unchanged.
     pub fn tell(
         &mut self,
         seat: &PoolSeat,
@@ -123,7 +126,7 @@ impl<N: SceneName> LiveState<N> {
 
     // ---- looks
 
-    /// The events so far, in order.
+    /// Returns the events so far, in order.
     pub fn history(&self) -> &[Event]
         ensures value { result.now ≡ self.now }
         ensures there { AreThere N.scene self.now }
@@ -133,7 +136,7 @@ impl<N: SceneName> LiveState<N> {
         self.history.as_slice()
     }
 
-    /// The world that the history leads to. It has no records.
+    /// Returns the world that the history leads to. It has no records.
     pub fn world(&self) -> &World
         ensures state { result.now.state ≡ world_of N.scene self.now }
         ensures none { result.now.records ≡ [] }
@@ -142,7 +145,7 @@ impl<N: SceneName> LiveState<N> {
         &self.world
     }
 
-    /// How many events of the history a thread has made.
+    /// Returns the count of events of the history that thread `t` has made.
     pub fn made(&self, t: Turner) -> u64
         requires { IsThread N.scene t }
         ensures value { result ≡ made_by t self.now }
@@ -151,21 +154,21 @@ impl<N: SceneName> LiveState<N> {
         self.counts.of(t)
     }
 
-    /// How many events a thread makes at most: an eighth of the scenario's limit.
+    /// Returns the most events that a thread makes: an eighth of the scenario's limit.
     pub fn most(&self) -> u64
         ensures { result ≡ most N.scene }
     {
         self.limit / 8
     }
 
-    /// How many harts the scenario has.
+    /// Returns the count of the scenario's harts.
     pub fn harts(&self) -> u8
         ensures { result ≡ length N.scene.harts }
     {
         self.harts
     }
 
-    /// The slot word that the search of hart h's driver tries next; None where it is at no search.
+    /// Returns the slot word that the search of hart `h`'s driver tries next, or None where the driver is at no search.
     pub fn searching(&self, h: HartNo) -> Option<u32>
         requires { h.0 < length N.scene.harts }
         ensures value { result ≡ search_of N.scene self.now h }
@@ -174,14 +177,14 @@ impl<N: SceneName> LiveState<N> {
         self.world.searching(h)
     }
 
-    /// Whether every script is at its end and every store queue is empty.
+    /// Returns whether every script is at its end and every store queue is empty.
     pub fn ended(&self) -> bool
         ensures { result ≡ is_ended (world_of N.scene self.now) }
     {
         self.world.ended()
     }
 
-    /// A thread that has made fewer events than its most; None where each made its most.
+    /// Returns a thread that has made fewer events than its most, or None where each has made its most.
     pub fn behind(&self) -> Option<Turner>
         ensures { MatchOption result (AreFull N.scene self.now) (λ t. IsThread N.scene t × (made_by t self.now < most N.scene)) }
     {
@@ -201,7 +204,8 @@ impl<N: SceneName> LiveState<N> {
 
     // ---- the end
 
-    /// Ends the turns of the threads. It takes no memory.
+    /// Ends the turns of the threads, which are done: the run is at its end, or each thread has made its most. It takes
+    /// no memory.
     pub fn finish(self) -> DoneState<N>
         requires { AreThrough N.scene self }
         ensures events { result.events ≡ self }
@@ -222,7 +226,7 @@ impl<N: SceneName> LiveState<N> {
 
     // ---- what the calls are made of
 
-    /// Whether a thread has made fewer events than its most.
+    /// Returns whether thread `t` has made fewer events than its most.
     fn is_behind(&self, t: Turner) -> bool
         requires { IsThread N.scene t }
         ensures { result ≡ nat_lt (made_by t self.now) (most N.scene) }
@@ -230,7 +234,7 @@ impl<N: SceneName> LiveState<N> {
         self.made(t) < self.most()
     }
 
-    /// The next event of a thread that is no driver at a search.
+    /// Returns the next event of thread `t`, which is no driver at a search.
     fn next_event(&self, t: Turner) -> Event
         requires { IsThread N.scene t }
         ensures value { result ≡ next_of N.scene self.now t }
@@ -243,7 +247,7 @@ impl<N: SceneName> LiveState<N> {
         }
     }
 
-    /// Makes an event that comes next in its thread.
+    /// Makes event `e`, which comes next in its thread, and appends it to the history.
     fn append(&mut self, e: Event) -> Result<Stepped, NoMemory>
         requires there { IsThere (length N.scene.harts) N.scene.block_size N.scene.ram e }
         requires next { ComesNext N.scene self.old e }
@@ -263,7 +267,7 @@ impl<N: SceneName> LiveState<N> {
     }
 }
 
-/// What a driver is told of a pool's answer.
+/// Returns the event that tells the driver of hart `me` a pool's answer.
 fn told_event(me: HartNo, answer: &PoolTry) -> Event
     ensures { result ≡ told_by me answer.now }
 {

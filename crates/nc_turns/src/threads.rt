@@ -9,7 +9,7 @@ use nc_num::HartNo;
 use nc_scen::Event;
 use std::marker::Brand;
 
-/// Names one scenario, in contracts alone.
+/// The name of one scenario, in contracts alone.
 pub trait SceneName {
     ghost use Rattle.nc_scen.specs.declared.scenario.Scenario.{Scenario};
 
@@ -31,7 +31,8 @@ pub enum Turner {
     Caches,
 }
 
-/// The next event of a driver that has made so many and is at no search: it issues and drains by turns.
+/// Returns the next event of the driver of hart `h`, which has made `made` events and is at no search: an issue where
+/// `made` is even, else a drain of the first entry of its queue.
 pub fn driver_event(h: HartNo, made: u64) -> Event
     ensures { result ≡ (if is_even made then Issue h else Drain h 0) }
 {

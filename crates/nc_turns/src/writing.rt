@@ -18,9 +18,12 @@ use nc_top::status_of;
 use nc_world::World;
 use std::alloc::Global;
 
-/// Writes a history, a token a line behind their number, and then the report of its run: a new world makes each event, and
-/// its lines are written as it happens. Returns the status of the run. Where a write fails or memory runs out, a prefix was
-/// written.
+/// Writes a history, as its count of events and a token a line, and then the report of its run. A new world makes each
+/// event, and the event's lines are written as it happens. Returns the status of the run: 0, 1 or 7.
+///
+/// # Errors
+///
+/// `Failed` where a write fails, and `NoMemory` where memory runs out; then a prefix of the text was written.
 pub fn write_live<K: Sink>(
     alloc: Global,
     sc: &Scenario,
@@ -44,7 +47,7 @@ pub fn write_live<K: Sink>(
     replay_out(alloc, sc, history, out)
 }
 
-/// Returns the number of the events, and a line for each.
+/// Returns the count of the events, and a line for each event.
 fn history_text(alloc: Global, history: &[Event]) -> Result<Vec<u8>, NoMemory>
     ensures { IfOk result (λ v. v.items ≡ history_lines history.now) }
 {
@@ -56,7 +59,7 @@ fn history_text(alloc: Global, history: &[Event]) -> Result<Vec<u8>, NoMemory>
     Ok(text)
 }
 
-/// Writes an event's token behind a text. It is what stands behind `e ` in the event's line.
+/// Appends the line of an event's token to a text: what comes after `e ` in the event's line.
 fn put_token(alloc: Global, text: &mut Vec<u8>, e: Event) -> Result<(), NoMemory>
     ensures { OnOk result (text.new.items ≡ text.old.items ++ token_line e) }
 {

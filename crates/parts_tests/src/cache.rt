@@ -45,7 +45,7 @@ enum Call {
 const B: Block = Block(1);
 
 impl Machine {
-    /// The block begins with the byte 9, and all else is 0.
+    /// Makes a machine whose second block begins with the byte 9, and whose other bytes are 0.
     fn new(alloc: Global, size: u32) -> Result<Machine, NoMemory>
         requires { IsBlockSize size }
     {
@@ -75,7 +75,7 @@ impl Machine {
         self.domain.evict(&mut self.ram, h, B)
     }
 
-    /// A store of one byte to the start of the block.
+    /// Stores one byte to the start of the block.
     fn store(&mut self, h: HartNo, byte: u8) -> Result<BusList, NoMemory>
         requires { h.0 < 4 }
     {
@@ -101,7 +101,7 @@ impl Machine {
         }
     }
 
-    /// The first byte of the block, as the domain has it and as memory has it.
+    /// Returns the first byte of the block, as the domain has it and as memory has it.
     fn first_byte(&self) -> (u8, u8) {
         let span = Span {
             at: self.size,
@@ -113,7 +113,8 @@ impl Machine {
     }
 }
 
-/// A machine whose block is held as told: by hart 1, or by harts 0, 1 and 2. The dirty copy begins with the byte 7.
+/// Makes a machine whose block is held as `start` says: by no hart, by hart 1, or by harts 0, 1 and 2. A dirty copy
+/// begins with the byte 7.
 fn prepared(alloc: Global, size: u32, start: Start) -> Result<Machine, NoMemory>
     requires { IsBlockSize size }
 {
@@ -135,7 +136,7 @@ fn prepared(alloc: Global, size: u32, start: Start) -> Result<Machine, NoMemory>
     Ok(made)
 }
 
-/// A call by hart 0 makes these transfers.
+/// Makes a call by hart 0, which makes these transfers.
 fn row(
     rt: &impl Abort,
     alloc: Global,
@@ -152,7 +153,7 @@ fn row(
     Ok(())
 }
 
-/// A block that begins with this byte, and else is 0.
+/// Makes a block that begins with this byte, and whose other bytes are 0.
 fn block(size: u32, first: u8) -> Bytes
     requires some { 1 ≤ size }
     requires short { size ≤ 128 }
@@ -193,7 +194,7 @@ fn gone(h: u8) -> BusRec {
     }
 }
 
-/// The transfers of an own, and of a store and a zero, which begin with one.
+/// Tests the transfers of an own, and of a store and a zero, which begin with one.
 fn own_rows(rt: &impl Abort, alloc: Global, call: Call) -> Result<(), NoMemory> {
     let from_memory = [own(0, Origin::Mem(block(32, 9)))];
     let from_one = [own(0, Origin::Hart(HartNo(1))), gone(1)];
@@ -286,7 +287,7 @@ fn laws(_rt: HostRuntime) {
     lines_are_held();
 }
 
-/// A load by a hart of four with blocks of 64 bytes.
+/// Loads a block by a hart of four, with blocks of 64 bytes.
 fn load(domain: &mut Domain, ram: &mut Ram, h: u8, b: u32) -> Result<(), NoMemory>
     requires hart { h < 4 }
     requires harts { domain.old.harts ≡ 4 }

@@ -21,7 +21,7 @@ fn mapping(label: u32) -> MapId
     }
 }
 
-/// A grant of eight bytes from `buffer` on.
+/// Makes a grant of eight bytes from `buffer` on.
 fn grant(label: u32, buffer: u32, device: u32, dir: Dir, chan: u8) -> Grant
     ensures label { result.id.label.0 ≡ label }
     ensures buffer { result.buffer.at ≡ buffer }
@@ -38,7 +38,7 @@ fn grant(label: u32, buffer: u32, device: u32, dir: Dir, chan: u8) -> Grant
     }
 }
 
-/// A book with a mapping to the device, one from it, and one through a slot.
+/// Makes a book with a mapping to the device, one from it, and one through a slot.
 fn granted(alloc: Global, ram: u32) -> Result<Book, NoMemory>
     requires { 256 ≤ ram }
     ensures { IfOk result (λ b. length b.owners ≡ ram) }
@@ -51,7 +51,7 @@ fn granted(alloc: Global, ram: u32) -> Result<Book, NoMemory>
     Ok(book)
 }
 
-/// The same, where each eight bytes have an owner of their own.
+/// Makes the book of `granted`, where each eight bytes have an owner of their own.
 fn owned(alloc: Global, ram: u32) -> Result<Book, NoMemory>
     requires { 256 ≤ ram }
     ensures { IfOk result (λ b. length b.owners ≡ ram) }

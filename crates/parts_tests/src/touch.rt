@@ -19,7 +19,7 @@ const FIRST: Owner = Owner::Thread(HartNo(0));
 
 const SECOND: Owner = Owner::Thread(HartNo(1));
 
-/// Bytes of hart 0 from 0 and from 128 on, and of hart 1 from 32 on.
+/// Makes a book where the bytes from 0 and from 128 on are hart 0's, and those from 32 on hart 1's.
 fn owned(alloc: Global, ram: u32) -> Result<Book, NoMemory>
     requires { 256 ≤ ram }
     ensures { IfOk result (λ b. length b.owners ≡ ram) }

@@ -4,7 +4,7 @@ use nc_env::CboOp;
 use nc_num::{Block, MemType, Span};
 use nc_plan::{Effects, HartOp, Payload};
 
-/// Everything enabled.
+/// Returns the effects of a hart with every cache operation enabled.
 pub fn enabled() -> Effects {
     Effects {
         clean: Ok(CboOp::Clean),
@@ -14,7 +14,7 @@ pub fn enabled() -> Effects {
     }
 }
 
-/// A cache operation on a block.
+/// Makes a cache operation on block `block`.
 pub fn cbo(op: CboOp, block: u32) -> HartOp {
     HartOp::Cbo {
         op,
@@ -22,12 +22,12 @@ pub fn cbo(op: CboOp, block: u32) -> HartOp {
     }
 }
 
-/// The full fence.
+/// Makes the full fence.
 pub fn full() -> HartOp {
     HartOp::Fence { pred: 15, succ: 15 }
 }
 
-/// A load of cached memory.
+/// Makes a load of `len` bytes of cached memory from place `at` on.
 pub fn load(at: u32, len: u32) -> HartOp {
     HartOp::Load {
         span: Span { at, len },
@@ -35,7 +35,7 @@ pub fn load(at: u32, len: u32) -> HartOp {
     }
 }
 
-/// A store to cached memory of the bytes that were loaded last.
+/// Makes a store of the bytes that were loaded last to `len` bytes of cached memory from place `at` on.
 pub fn store(at: u32, len: u32) -> HartOp {
     HartOp::Store {
         span: Span { at, len },

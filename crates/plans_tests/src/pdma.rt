@@ -25,7 +25,7 @@ fn moved(at: u32, bytes: &[u8], done: bool) -> ChanStep
     }
 }
 
-/// A channel that is claimed, with these Next registers, and started.
+/// Makes a channel that is claimed, with these Next registers, and started.
 fn started(rt: &impl Abort, config: u64, bytes: u64, destination: u64, source: u64) -> Channel {
     let mut channel = Channel::new();
     let writes = [

@@ -12,7 +12,7 @@ use nc_plan::{
 };
 use std::alloc::Global;
 
-/// Whether this is the lending plan of a part.
+/// Returns whether this is the plan that lends a part, when it is mapped and when it is synced for the device.
 #[tactic(auto, using(nc_plan::proofs::PlanLaws::one_part))]
 fn lends(alloc: Global, e: &Effects, size: u32, part: &Part, want: &[HartOp]) -> bool
     requires size { IsBlockSize size }
@@ -28,7 +28,7 @@ fn lends(alloc: Global, e: &Effects, size: u32, part: &Part, want: &[HartOp]) ->
     map.as_slice() == want && sync.as_slice() == want
 }
 
-/// Whether this is the returning plan of a part.
+/// Returns whether this is the plan that takes a part back, when it is unmapped and when it is synced for the hart.
 #[tactic(auto, using(nc_plan::proofs::PlanLaws::one_part))]
 fn returns(alloc: Global, e: &Effects, size: u32, part: &Part, want: &[HartOp]) -> bool
     requires size { IsBlockSize size }
@@ -87,8 +87,8 @@ fn direct_parts(rt: HostRuntime) {
     assert!(rt; returns(a, &as_flush, 64, &both, &lent));
 }
 
-/// Whether 100 bytes at 2 mod 8 are copied piece by piece, from the operation `first` of a plan on: 2, 4, eleven times
-/// 8, 4 and 2 bytes.
+/// Returns whether 100 bytes at 2 mod 8 are copied piece by piece, from the operation `first` of a plan on: 2, 4,
+/// eleven times 8, 4 and 2 bytes.
 fn copies_100(plan: &[HartOp], first: usize, from: u32, to: u32) -> bool {
     let offsets = [0, 2, 6, 14, 22, 30, 38, 46, 54, 62, 70, 78, 86, 94, 98, 100];
     for i in 0..15 {
@@ -159,7 +159,7 @@ fn which_ranges_bounce(rt: HostRuntime) {
     }
 }
 
-/// Whether a range bounces, at the three block sizes.
+/// Returns whether a range bounces, with blocks of `size` bytes: 32, 64, or else 128.
 fn bounces_at(at: u32, len: u32, dir: Dir, size: u32, reach: u32) -> bool {
     let span = Span {
         at: at % 65536,

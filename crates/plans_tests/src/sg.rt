@@ -71,7 +71,7 @@ fn slots_are_unwound_and_forgotten(rt: HostRuntime) {
     assert_eq!(rt; list.next_bounced(), Some(2));
 }
 
-/// The part of an entry that a channel sees by this range.
+/// Makes the part of an entry that a channel sees by this range.
 fn part(buffer: Span, device: Span) -> Part {
     Part {
         buffer,
@@ -80,7 +80,7 @@ fn part(buffer: Span, device: Span) -> Part {
     }
 }
 
-/// A segment at this place on the bus.
+/// Makes a segment at this place on the bus.
 fn segment(bus: u32, len: u32) -> Segment {
     Segment { bus, len }
 }

@@ -17,14 +17,14 @@ const TABLE: [u64; 2] = [0x0000_0000_2000_1cc7, 0x2000_0000_2000_04c7];
 /// Two bytes in each of the two pages.
 const ACROSS: At = At::Virtual { va: 4094 };
 
-/// Step n of a load across the pages.
+/// Returns step n of a load across the pages.
 fn loaded(pbmte: bool, n: u32) -> Result<Option<HartOp>, PageFault>
     requires { EachIndex TABLE (λ k. IsPteWord 1048576 (slice_index TABLE k)) }
 {
     load_step(ACROSS, pbmte, &TABLE, 4, n)
 }
 
-/// Step n of a store across the pages.
+/// Returns step n of a store across the pages.
 fn stored(pbmte: bool, n: u32) -> Result<Option<HartOp>, PageFault>
     requires { EachIndex TABLE (λ k. IsPteWord 1048576 (slice_index TABLE k)) }
 {

@@ -13,10 +13,10 @@ use std::env;
 use std::process::ExitCode;
 use std::rt::Env;
 
-/// Where the pages start.
+/// The place where the pages start.
 const START: u32 = 49152;
 
-/// The pieces of 4 bytes on 64 pages.
+/// The count of pieces of 4 bytes on 64 pages.
 const PIECES: u32 = 65536;
 
 /// A pool of pieces and the pages that it takes from.
@@ -26,7 +26,7 @@ struct Both {
     pool: DmaPool,
 }
 
-/// A pool of pieces of 4 bytes over 64 free pages.
+/// Makes a pool of pieces of 4 bytes over 64 free pages, or returns None where memory runs out.
 fn fresh(alloc: Global) -> Option<Both>
     ensures { IfSome result (λ b. HasTaken b.pages b.pool) }
 {
@@ -39,7 +39,7 @@ fn fresh(alloc: Global) -> Option<Both>
     Some(Both { pages, pool })
 }
 
-/// Gives pieces, and tells how many were given.
+/// Takes pieces from the pool, and returns the count that it gave.
 fn fill(both: &mut Both) -> u32
     requires { HasTaken both.old.pages both.old.pool }
     ensures { HasTaken both.new.pages both.new.pool }
@@ -53,7 +53,7 @@ fn fill(both: &mut Both) -> u32
     given
 }
 
-/// Takes the pieces back, and tells how many were taken.
+/// Gives the pieces back, and returns the count that the pool took.
 fn empty(both: &mut Both) -> u32
     requires { HasTaken both.old.pages both.old.pool }
     ensures { HasTaken both.new.pages both.new.pool }
@@ -67,7 +67,7 @@ fn empty(both: &mut Both) -> u32
     taken
 }
 
-/// The number of the first word, or 1.
+/// Returns the number of the first word, or 1 where it is none or there is no word.
 fn rounds<R: Env + AllocGlobal>(rt: &R) -> u32 {
     let Ok(mut words) = env::args(rt) else {
         return 1;

@@ -22,7 +22,7 @@ pub const PIECES: &[u8] = br#"{
   ]
 }"#;
 
-/// What is due for them.
+/// What is due for `PIECES`.
 pub const PIECES_ANSWER: &[u8] = b"alloc 1 00c000
 alloc 2 00c020
 alloc 3 00c040
@@ -42,7 +42,7 @@ pub const EMPTY_SCRIPT: &[u8] = br#"{
   "schedule": []
 }"#;
 
-/// The same of version 2, as it is written: one line, with the keys in order.
+/// The scenario of `EMPTY_SCRIPT` in version 2, as it is written: one line, with the keys in order.
 pub const EMPTY_SCRIPT_MOVED: &str = concat!(
     r#"{"block":64,"#,
     r#""buffers":[{"at":0,"fill":7,"len":2,"owner":0,"step":1}],"#,
@@ -58,7 +58,8 @@ pub struct Both {
     pub pool: DmaPool,
 }
 
-/// A pool of such pieces over so many pages from 49,152 on.
+/// Makes a pool of pieces of `size` bytes over `pages` pages from place 49,152 on; None where the pool refuses its
+/// sizes or memory runs out.
 pub fn over(alloc: Global, pages: u32, size: u32, align: u32, boundary: u32) -> Option<Both>
     requires { pages ≤ 64 }
     ensures { IfSome result (λ b. HasTaken b.pages b.pool) }
@@ -72,7 +73,7 @@ pub fn over(alloc: Global, pages: u32, size: u32, align: u32, boundary: u32) -> 
     Some(Both { pages, pool })
 }
 
-/// The place of a piece, or why there is none.
+/// Takes a piece and returns its place, or why there is none.
 pub fn given(both: &mut Both) -> Result<Span, AllocNo>
     requires { HasTaken both.old.pages both.old.pool }
     ensures { HasTaken both.new.pages both.new.pool }
@@ -80,7 +81,7 @@ pub fn given(both: &mut Both) -> Result<Span, AllocNo>
     both.pool.alloc(&mut both.pages)
 }
 
-/// Whether a piece was taken back.
+/// Gives the piece at place `at` back, and returns whether the pool took it.
 pub fn taken_back(both: &mut Both, at: u32) -> bool
     requires { HasTaken both.old.pages both.old.pool }
     ensures { HasTaken both.new.pages both.new.pool }
@@ -88,7 +89,8 @@ pub fn taken_back(both: &mut Both, at: u32) -> bool
     both.pool.free(Place(at)) != Err(NotPiece(Place(at)))
 }
 
-/// Ends the pool: the lowest place in use, or None where the first page is free again.
+/// Ends the pool. Returns the lowest place in use where a piece is in use. Where none is, returns 4,096, the length of
+/// a free page, or None where no page is free then.
 pub fn ended(both: Both) -> Option<Place>
     requires { HasTaken both.pages both.pool }
 {

@@ -36,7 +36,7 @@ fn one_slot_two_seats(rt: HostRuntime) {
     assert!(rt; false);
 }
 
-/// Names one pool, in contracts alone.
+/// The name of one pool, in contracts alone.
 trait PoolName {
     ghost use Rattle.atomic_table.specs.Seated.{TableId};
 
@@ -67,7 +67,7 @@ struct Member<P: PoolName> {
 }
 
 impl<P: PoolName> Crew<P> {
-    /// Searches once, and gives back what it got.
+    /// Searches once, and gives back the slot that it got.
     fn once(&self, member: Member<P>) -> Member<P> {
         let Member { mut seat, of } = member;
         if let Some(k) = self.pool.search(&mut seat) {
@@ -84,7 +84,7 @@ impl<P: PoolName> Crew<P> {
         member
     }
 
-    /// The next seat, where one is left.
+    /// Takes the next seat, or returns None where none is left.
     fn recruit(&self, root: &mut PoolRoot) -> Option<Member<P>>
         requires { root.old.pool ≡ P.pool }
         ensures { root.new.pool ≡ P.pool }
@@ -107,7 +107,7 @@ impl<P: PoolName> Crew<P> {
     }
 }
 
-/// Each member works in a thread of its own.
+/// Lets each member work in a thread of its own.
 fn all_work<'x, P: PoolName + Send + Sync, R: Threads + Wait + Sync>(
     rt: &'x R,
     alloc: Global,
@@ -130,7 +130,7 @@ fn all_work<'x, P: PoolName + Send + Sync, R: Threads + Wait + Sync>(
     })
 }
 
-/// The slot that a new seat finds, after four members have searched 1,000 times each.
+/// Returns the slot that a new seat finds, after four members have searched 1,000 times each.
 fn run_crew<P: PoolName + Send + Sync, R: Threads + Wait + Sync>(
     rt: &R,
     alloc: Global,

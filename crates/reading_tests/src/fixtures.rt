@@ -8,7 +8,7 @@ pub const GOOD: &str = r#"
   "buffers": [{"at": 0, "len": 2, "fill": 7, "step": 1, "owner": 0}],
   "schedule": []"#;
 
-/// Members that stand behind the good ones: the last of two members of a key is read.
+/// Members that come after the good ones: the last of two members of a key is read.
 pub const OVERRIDES: &str = r#"
   "version": 2,
   "block": 32,

@@ -13,7 +13,7 @@ const COUNTS: Counts = Counts {
     buffers: 3,
 };
 
-/// The operation that a text is, or what is wrong with it, as it is debugged.
+/// Returns the operation that a text is, or what is wrong with it, in the form of `Debug`.
 fn answer(alloc: Global, text: &str) -> Result<String, Fail> {
     let Ok(value) = value_of(alloc, text.as_bytes()) else {
         return Ok(String::from_str(alloc, "no JSON")?);

@@ -29,7 +29,7 @@ fn is_listed(plan: &Plan) -> bool {
     }
 }
 
-/// Whether the first hart's script is the load of four bytes.
+/// Returns whether the first hart's script is the load of four bytes.
 fn has_load(sc: &Scenario) -> bool {
     let Some(hart) = sc.harts.as_slice().first() else {
         return false;

@@ -93,7 +93,7 @@ fn numbers_of_texts(rt: HostRuntime) {
     assert_eq!(rt; digit_below(b'/', 4), None);
 }
 
-/// What a reader answers: the number, or what is wrong and where.
+/// Returns what a reader answers: the number, or what is wrong and where.
 fn answer(alloc: Global, read: Result<u64, ScenFault>) -> Result<String, Fail> {
     let text = match &read {
         Ok(n) => format!(in alloc; "read {n}")?,

@@ -36,7 +36,7 @@ pub const STORE: &str = r#"{
   "schedule": []
 }"#;
 
-/// A world at its start, with its scenario.
+/// Reads a scenario and makes the world at its start; None where the text is refused or memory runs out.
 pub fn started(alloc: Global, text: &str) -> Option<(Scenario, World)>
     ensures accepted { IfSome result (λ p. IsAccepted p.0) }
     ensures harts { IfSome result (λ p. length p.1.state.machine.harts ≡ length p.0.harts) }

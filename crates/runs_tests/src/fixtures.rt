@@ -48,7 +48,7 @@ pub const HAND_WITH_STORES_QUEUED: &[u8] = br#"{
   "finish": false
 }"#;
 
-/// The digits of a block of 64 bytes: the first ones are these, the others zeros.
+/// Returns the digits of a block of 64 bytes: the first ones are these, the others zeros.
 fn block(alloc: Global, first: &str) -> Result<String, AllocError> {
     let mut digits = String::from_str(alloc, first)?;
     for _ in first.len()..128 {
@@ -57,7 +57,7 @@ fn block(alloc: Global, first: &str) -> Result<String, AllocError> {
     Ok(digits)
 }
 
-/// What is due for `FALSE_SHARING`.
+/// Returns the report that is due for `FALSE_SHARING`.
 pub fn false_sharing_report(alloc: Global) -> Result<String, AllocError> {
     let zeros = block(alloc, "")?;
     let first = block(alloc, "aa")?;
@@ -87,7 +87,7 @@ end events 6 touches 0
     Ok(report)
 }
 
-/// What is due for `HAND_WITH_STORES_QUEUED`.
+/// Returns the report that is due for `HAND_WITH_STORES_QUEUED`.
 pub fn hand_with_stores_queued_report(alloc: Global) -> Result<String, AllocError> {
     let zeros = block(alloc, "")?;
     let first = block(alloc, "11")?;
@@ -127,7 +127,7 @@ end events 11 touches 0
     Ok(report)
 }
 
-/// A command line of one word.
+/// Makes a command line of one word.
 pub fn words(alloc: Global, word: &str) -> Result<Vec<String>, AllocError> {
     let mut words = Vec::new(alloc);
     words.push(String::from_str(alloc, word)?)?;

@@ -48,7 +48,7 @@ fn sink_fails_at_each_write(rt: HostRuntime) -> Result<(), Fail> {
             stopped += 1;
         }
     }
-    // One write for each of the six events, and one for what stands behind them.
+    // One write for each of the six events, and one for what comes after them.
     assert_eq!(rt; stopped, 7);
     Ok(())
 }
