@@ -77,7 +77,7 @@ pub fn reads_by_number()
     ensures { LatestByNumber }
 {}
 
-/// Each read shows flat memory in marks without a touch and in those behind them exactly where it does so in each
+/// Each read shows flat memory in a trace without a touch and in one behind it exactly where it does so in each
 /// part, the second from the flat memory that the first leaves.
 #[tactic(auto, using(crate::proofs::LatestLaws::in_two))]
 pub fn latest_in_two()
