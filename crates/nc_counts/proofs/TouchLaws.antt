@@ -1,4 +1,4 @@
--- The status of a run, its records of touches, and its marks.
+-- The status of a run, its records of touches, and its trace.
 use Rattle.std.proofs.Common.{◌≡◌, ℕ, zero, suc, ◌+◌, ◌≤◌, Bool, true, false, List, [], ◌∷◌, ◌++◌, refl, sym, ◌∙◌, arith, cond}
 use Rattle.std.specs.Prelude.{◌≢◌, ◌||◌, ◌↔◌, nat_lt, if◌then◌else◌}
 use Rattle.std.specs.List.{count_by, list_any}
@@ -23,7 +23,7 @@ use Rattle.nc_counts.specs.Touches.{EachStatusTells}
 use Rattle.nc_counts.proofs.CountLaws.{counts_always}
 use Rattle.nc_counts.proofs.Tells.{count-cons}
 
--- ---- records and marks
+-- ---- records and the trace
 
 cbo_is : (s : ℕ) (op : CboOp) (at : ℕ) → Untouched (cbo_trace s op at)
 cbo_is s cbos.Zero at = record {}
@@ -31,7 +31,7 @@ cbo_is s cbos.Clean at = record {}
 cbo_is s cbos.Flush at = record {}
 cbo_is s cbos.Inval at = record {}
 
--- a record that is no touch makes no mark of one
+-- a record that is no touch makes no trace item of one
 record_is : (s : ℕ) (grants : List Grant) (r : Record) → is_touch r ≡ false → Untouched (record_trace s grants r)
 record_is s grants (records.Touched t) absent = absurd (false≢true (sym absent))
 record_is s grants (records.Event e) absent = record {}
@@ -102,7 +102,7 @@ touch_is s grants (records.Ans h op a) present u = false≢true present
 
 -- ---- a run
 
--- marks and records tell of a touch alike
+-- trace and records tell of a touch alike
 record Alike (ms : List TraceItem) (rs : List Record) : Type 0 where
   none : list_any is_touch rs ≡ false → Untouched ms
   some : list_any is_touch rs ≡ true → Untouched ms → ⊥

@@ -38,7 +38,7 @@ use Rattle.nc_flatness.proofs.worlds.Worlds.{worlds_stay}
 
 -- ---- one event
 
--- one that may not happen has no marks, and changes nothing
+-- one that may not happen has an empty trace, and changes nothing
 off_trace : (w : WorldState) (e : Event) (t : Bool) → enabled w e ≡ t → t ≡ false → event_trace w e ≡ []
 unfolding event_trace event_records
 off_trace w e true on off = absurd (false≢true (sym off))

@@ -57,7 +57,7 @@ use Rattle.nc_flatness.proofs.plans.Rests.{ends_one_next, claim_lends, turn_name
 use Rattle.nc_flatness.proofs.tokens.Stands.{none_stands}
 use Rattle.nc_flatness.proofs.tokens.Tokens.{ended_unsent, unlent_unsent}
 use Rattle.nc_flat_scripts.proofs.accesses.ActRows.{stays_row}
-use Rattle.nc_flat_scripts.proofs.copies.TransferDrivers.{plan_left}
+use Rattle.nc_flatness.proofs.plans.LendingPlans.{plan_left}
 use Rattle.nc_flat_starts.proofs.opening.Bases.{me_of, member_beside, member_owner}
 use Rattle.nc_flat_starts.proofs.opening.Befores.{driven, known_here, seen_aside}
 use Rattle.nc_flat_starts.proofs.turning.Frames.{IsPlace, IsOff, On, Off, somewhere, StaysAside, rewrites_none, loan_hart, loan_aside, rest_hart, last_none}

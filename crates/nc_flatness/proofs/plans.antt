@@ -2,3 +2,4 @@ pub mod Copies
 pub mod CopySteps
 pub mod Rests
 pub mod Lasts
+pub mod LendingPlans

@@ -1,6 +1,5 @@
 pub mod Plans
 pub mod New
-pub mod Numbers
 pub mod Shapes
 pub mod Starts
 pub mod Told

@@ -35,7 +35,7 @@ latest_touched m (Did (Write bs) ∷ ms) ns h = latest_touched (written m bs) ms
 pub ends_at_touch : (m : List ℕ) (ms ns : List TraceItem) → Latest m (ms ++ Touched ∷ ns) ↔ Latest m ms
 ends_at_touch m ms ns = (latest_before m ms ns, latest_touched m ms ns)
 
--- what comes behind marks matters only where none of them is a touch
+-- what comes behind a trace matters only where that has no touch
 pub Latest-append : (m : List ℕ) (ms ns : List TraceItem) → Latest m ms → (Untouched ms → Latest (flat m (deeds ms)) ns) → Latest m (ms ++ ns)
 Latest-append m [] ns h k = k tt
 Latest-append m (Touched ∷ ms) ns h k = tt

@@ -118,7 +118,7 @@ EachSpliced = (m : List ℕ) (at : ℕ) (bytes : List ℕ) → at + length bytes
 abbrev pub LatestByNumber : Type 0
 LatestByNumber = (m : List ℕ) (ms : List TraceItem) → Latest m ms ↔ ShowsFlat m ms
 
--- marks without a touch, and marks behind them: the latter start from the flat memory that the former leave
+-- a trace without a touch, and one behind it: the latter starts from the flat memory that the former leaves
 abbrev pub LatestInTwo : Type 0
 LatestInTwo = (m : List ℕ) (ms ns : List TraceItem) → Untouched ms → Latest m (ms ++ ns) ↔ (Latest m ms × Latest (flat m (deeds ms)) ns)
 

@@ -28,7 +28,7 @@ read_at c ram None = Error c.regs.exec.source (read_len c)
 unfoldable pub read_step : ChannelState → List ℕ → ChanStep
 read_step c ram = if may_read c then read_at c ram (place_of (length ram) c.regs.exec.source (read_len c)) else Idle
 
--- the channel after a read that told so
+-- the channel after a read that gave this step
 abbrev pub read_next : ChannelState → ChanStep → ChannelState
 read_next c Idle = c
 read_next c (Moved s bytes done) = record { regs = bytes_read c.regs s.len; fifo = c.fifo ++ bytes }
@@ -49,7 +49,7 @@ write_at c None = Error c.regs.exec.destination (write_len c)
 unfoldable pub write_step : ChannelState → ℕ → ChanStep
 write_step c size = if may_write c then write_at c (place_of size c.regs.exec.destination (write_len c)) else Idle
 
--- the channel, and memory, after a write that told so
+-- the channel, and memory, after a write that gave this step
 abbrev pub write_next : ChannelState → ChanStep → ChannelState
 write_next c Idle = c
 write_next c (Moved s bytes done) = record { regs = written_on c.regs s.len; fifo = drop s.len c.fifo }

@@ -19,29 +19,7 @@ use Rattle.nc_planned.specs.Lenders.{lender_of, fixed_by}
 same_plan : (f : DriverConfig) (lots : List Lot) (o : Op) → plan_of f lots o ≡ plan_of (fixed_by (lender_of f)) lots o
 unfolding plan_of meaning load store cache_operation fence map_single unmap_single sync_for_cpu sync_for_device map_sg unmap_sg calloc give_area take_area free_area hand take claim free set_up run poll read_register write_register copy
 same_plan f lots (ops.Ld spot off len) = refl
-same_plan f lots (ops.St spot off bytes) = refl
-same_plan f lots (ops.Cbo op buf off) = refl
-same_plan f lots (ops.Fence pred succ) = refl
-same_plan f lots (ops.Map label buf off len dir chan) = refl
-same_plan f lots (ops.Unmap label) = refl
-same_plan f lots (ops.ToCpu label) = refl
-same_plan f lots (ops.ToDev label) = refl
-same_plan f lots (ops.MapSg label entries dir chan) = refl
-same_plan f lots (ops.UnmapSg label count) = refl
-same_plan f lots (ops.Calloc label pages chan) = refl
-same_plan f lots (ops.Cgive label) = refl
-same_plan f lots (ops.Ctake label) = refl
-same_plan f lots (ops.Cfree label) = refl
-same_plan f lots (ops.Hand buf to) = refl
-same_plan f lots (ops.Take buf) = refl
-same_plan f lots (ops.Claim chan) = refl
-same_plan f lots (ops.Free chan) = refl
-same_plan f lots (ops.Regs chan src dst len cfg) = refl
-same_plan f lots (ops.Run chan) = refl
-same_plan f lots (ops.Poll chan) = refl
-same_plan f lots (ops.Regr chan off width) = refl
-same_plan f lots (ops.Regw chan off width value) = refl
-same_plan f lots (ops.Copy chan src src_off dst dst_off len cfg) = refl
+same_plan f lots _ = refl
 
 pub plans_by : (f : DriverConfig) (by : Lender) (lots : List Lot) (o : Op) → lender_of f ≡ by → plan_of f lots o ≡ plan_of (fixed_by by) lots o
 plans_by f by lots o e = same_plan f lots o ∙ ap (λ (l : Lender). plan_of (fixed_by l) lots o) e

@@ -5,7 +5,6 @@ pub mod RefusalLaws
 pub mod FenceLaws
 pub mod StartLaws
 pub mod Heads
-pub mod Numbers
 pub mod Quiet
 pub mod Grows
 pub mod Behind

@@ -1,5 +1,5 @@
 -- The calls of a driver by which an operation goes on that may still be refused: they move nothing.
-use Rattle.std.proofs.Common.{◌≡◌, ℕ, ◌+◌, ◌<◌, Bool, true, false, List, [], ◌∷◌, ◌++◌, length, refl, sym, ap, ◌∙◌, subst, arith, inl, inr, Option, Some, None, Result, Ok, Err}
+use Rattle.std.proofs.Common.{◌≡◌, ℕ, suc, ◌+◌, ◌<◌, Bool, true, false, List, [], ◌∷◌, ◌++◌, length, refl, sym, ap, ◌∙◌, arith, inl, inr, Option, Some, None, Result, Ok, Err}
 use Rattle.std.specs.Prelude.{◌⊎◌, if◌then◌else◌, nat_lt}
 use Rattle.std.proofs.lemmas.Bool.{false≢true}
 use Rattle.std.proofs.lemmas.List.Elements.{All-head}
@@ -7,6 +7,7 @@ use Rattle.nc_num.specs.declared.names.ChanNo.{ChanNo}
 use Rattle.nc_model.specs.declared.owners.Owner.{Owner}
 use Rattle.nc_coherent.specs.Pages.{PageMap}
 use Rattle.nc_ops.specs.declared.ops.Op.{Op}
+use Rattle.nc_ops.specs.declared.ops.Op.TheVariants as ops
 use Rattle.nc_rules.specs.declared.answers.Refusal.{Refusal}
 use Rattle.nc_rules.specs.declared.answers.Refusal.TheVariants as refusals
 use Rattle.nc_rules.specs.declared.lots.Lot.{Lot}
@@ -23,14 +24,14 @@ use Rattle.nc_rules.specs.declared.steps.Turn.{Turn}
 use Rattle.nc_rules.specs.declared.steps.Turn.TheVariants as turns
 use Rattle.nc_rules.specs.Lots.{DriverConfig, some_lot_waits, slot_given}
 use Rattle.nc_rules.specs.Turns.{moved, lots_after, lots_after_both, turned_by, turned}
-use Rattle.nc_rules.specs.Operations.{has_start, step_at, begin, opening, plan_of}
+use Rattle.nc_rules.specs.Handing as handing
+use Rattle.nc_rules.specs.Operations.{meaning, has_start, step_at, begin, opening, plan_of}
 use Rattle.nc_rules.specs.Driver.{DriverState, Went, in_hand, next_of, next_of_op, next_in, next_act, next_step, next_rest, searched, searching, stays, give_up, went_to, answered, opened, searches, placed, with_lots, begun, refused_step, steps_done, started, started_of, told, told_of, told_in, told_word, kept, busy, stepped, worked, done, done_of, done_unless, done_in}
 use Rattle.nc_scripts.specs.Drivers.{IsPhase, ClaimsNothing, ClaimsFirst, is_claim}
 use Rattle.nc_scripts.proofs.DriverLaws.{next_step_is}
 use Rattle.nc_scripts.specs.Scripts.{is_act}
-use Rattle.nc_holds.proofs.calls.Numbers.{step_turns}
+use Rattle.nc_holds.proofs.messages.Steps.{Numbered, Quietly, Takes, numbered, numbered_first}
 use Rattle.nc_refusals.proofs.Heads.{begins_claim, quiet_opening}
-use Rattle.nc_refusals.proofs.Numbers.{number_last}
 
 -- ---- an operation that may still be refused
 
@@ -226,8 +227,15 @@ acts_now (acts.Claim chan) = refl
 acts_now (acts.Poll chan) = refl
 acts_now (acts.Take buf) = refl
 
-last_now : (f : DriverConfig) (lots : List Lot) (o : Op) (n : ℕ) (s : Step) → step_at f lots o n ≡ Ok (Some s) → (s.last ≡ turns.Stay) ⊎ (step_at f lots o (n + 1) ≡ Ok None)
-last_now f lots o n s e = subst (λ (m : ℕ). (s.last ≡ turns.Stay) ⊎ (step_at f lots o m ≡ Ok None)) (omega arith) (number_last f lots o n s e)
+-- a take has one step
+took : (f : DriverConfig) (lots : List Lot) (buf n : ℕ) → step_at f lots (ops.Take buf) (suc n) ≡ Ok None
+unfolding step_at meaning handing.take
+took f lots buf n = refl
+
+-- a step behind which another one comes makes no turn at its end
+last_now : (f : DriverConfig) (lots : List Lot) (o : Op) (n : ℕ) (s : Step) → Numbered f o s → (s.last ≡ turns.Stay) ⊎ (step_at f lots o (n + 1) ≡ Ok None)
+last_now f lots o n s (Quietly quiet) = inl quiet.last
+last_now f lots o n s (Takes buf op is) = inr (ap (step_at f lots o) (omega arith) ∙ ap (λ (p : Op). step_at f lots p (suc n)) op ∙ took f lots buf n)
 
 number_done : (d : DriverState) (o : Op) (saw : Seen) (n : ℕ) (a : Act) → in_hand d ≡ Some o → d.phase ≡ Steps n → next_in d o (Steps n) ≡ next_act a → (done_in d o saw (Steps n)).driver.op ≡ d.op → IsNumberDone d (next_act a) (done_in d o saw (Steps n))
 number_done d o saw n a here p at same =
@@ -235,7 +243,8 @@ number_done d o saw n a here p at same =
     let k = next_number d o n s.0 a (step_at d.fixed d.lots o n) (has_start o) s.1 at in
     let went = stepped d o (n + 1) saw (Ok (Some s.0)) (step_at d.fixed d.lots o (n + 1)) in
     let is : done_in d o saw (Steps n) ≡ went = ap (λ (r : Result (Option Step) Refusal). stepped d o (n + 1) saw r (step_at d.fixed d.lots o (n + 1))) s.1 in
-    let on = stepped_quiet d o (n + 1) saw s.0 (step_at d.fixed d.lots o (n + 1)) (step_turns d.fixed d.lots o n s.0 s.1).first (last_now d.fixed d.lots o n s.0 s.1) (sym (ap (λ (x : Went). x.driver.op) is) ∙ same) in
+    let by = numbered d.fixed d.lots o n s.0 s.1 in
+    let on = stepped_quiet d o (n + 1) saw s.0 (step_at d.fixed d.lots o (n + 1)) (numbered_first d.fixed o s.0 by) (last_now d.fixed d.lots o n s.0 by) (sym (ap (λ (x : Went). x.driver.op) is) ∙ same) in
     record {
       op = o;
       n = n;

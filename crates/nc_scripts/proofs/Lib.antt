@@ -6,6 +6,7 @@ pub mod LotMoves
 pub mod PlanSteps
 pub mod NewLots
 pub mod Openings
+pub mod Answers
 pub mod SlotLaws
 pub mod LastLoads
 pub mod FreeLots

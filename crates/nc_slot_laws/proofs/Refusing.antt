@@ -1,6 +1,7 @@
 -- Where there are slots, no start and no step of an operation is refused for want of one; and no good answer says so.
-use Rattle.std.proofs.Common.{◌≡◌, ℕ, ◌+◌, ◌*◌, ◌<◌, Bool, true, false, List, [], ◌∷◌, length, refl, arith, Option, Some, None}
+use Rattle.std.proofs.Common.{◌≡◌, ℕ, ◌+◌, ◌*◌, ◌<◌, Bool, true, false, List, [], ◌∷◌, length, refl, ap, arith, inl, inr, Option, Some, None}
 use Rattle.std.specs.Prelude.{◌==◌, ◌&&◌, not, nat_le, if◌then◌else◌, Result, Ok, Err, slice_get, is_some}
+use Rattle.std.proofs.lemmas.Bool.{false≢true}
 use Rattle.std.proofs.lemmas.Bool.Decides.{nat_tests}
 use Rattle.nc_num.specs.declared.names.ChanNo.{ChanNo}
 use Rattle.nc_num.specs.declared.names.Dir.{Dir}
@@ -40,7 +41,6 @@ use Rattle.nc_rules.specs.declared.lots.Kind.TheVariants as kinds
 use Rattle.nc_rules.specs.declared.lots.Lot.{Lot}
 use Rattle.nc_rules.specs.declared.lots.LotId.{LotId}
 use Rattle.nc_rules.specs.declared.steps.Seen.{Seen}
-use Rattle.nc_rules.specs.declared.steps.Seen.TheVariants as seen
 use Rattle.nc_rules.specs.Lots.{DriverConfig, lot_named, map_id, some_lot_waits, lot_id, ranges_lot, only_entry, bus_of_lot}
 use Rattle.nc_rules.specs.Refusals.{◌>>=◌, wanted, some_or, some_bytes, buffer_of, part_of, all_some, ranges_of, unused, named, owned_but, owned, owned_from, legal, planned, lendable, small_enough, slots_there, placeable}
 use Rattle.nc_rules.specs.Accesses as access
@@ -48,17 +48,18 @@ use Rattle.nc_rules.specs.Accesses.{spot_at, piece_step}
 use Rattle.nc_rules.specs.CacheOps as cache_ops
 use Rattle.nc_rules.specs.CacheOps.{effect_of}
 use Rattle.nc_rules.specs.Mappings as mappings
-use Rattle.nc_rules.specs.Mappings.{map_begin, needs_lot, mapped_answer}
+use Rattle.nc_rules.specs.Mappings.{map_begin, needs_lot}
 use Rattle.nc_rules.specs.ScatterLists as lists
-use Rattle.nc_rules.specs.ScatterLists.{map_sg_begin, unmap_sg_begin, segments_answer}
+use Rattle.nc_rules.specs.ScatterLists.{map_sg_begin, unmap_sg_begin}
 use Rattle.nc_rules.specs.Areas as areas
-use Rattle.nc_rules.specs.Areas.{calloc_begin, cfree_begin, allocated_answer}
+use Rattle.nc_rules.specs.Areas.{calloc_begin, cfree_begin}
 use Rattle.nc_rules.specs.Handing as handing
 use Rattle.nc_rules.specs.Channels as channels
-use Rattle.nc_rules.specs.Channels.{bus_of, known, polled, poll_answer, value_answer}
+use Rattle.nc_rules.specs.Channels.{bus_of, known}
 use Rattle.nc_rules.specs.Copies as copies
-use Rattle.nc_rules.specs.Copies.{copy_begin, copied, copy_answer}
+use Rattle.nc_rules.specs.Copies.{copy_begin}
 use Rattle.nc_rules.specs.Operations.{meaning, step_at, begin, good_answer, bad_answer}
+use Rattle.nc_scripts.proofs.Answers.{is_plain, good_fails, bad_refuses}
 use Rattle.nc_slot_laws.specs.Looks.{is_unslotted, is_noslot}
 
 -- ---- refusals
@@ -190,10 +191,6 @@ cfree_clear f lots label owners =
 
 pub begin_clear : (f : DriverConfig) (lots : List Lot) (owners : List Owner) (pages : PageMap) (o : Op) → 0 < f.slots → Clear (begin f lots owners pages o)
 unfolding begin meaning access.load access.store cache_ops.cache_operation cache_ops.fence mappings.map_single mappings.unmap_single mappings.sync_for_cpu mappings.sync_for_device lists.map_sg lists.unmap_sg areas.calloc areas.give_area areas.take_area areas.free_area handing.hand handing.take channels.claim channels.free channels.set_up channels.run channels.poll channels.read_register channels.write_register copies.copy
-begin_clear f lots owners pages (ops.Ld spot off len) some = refl
-begin_clear f lots owners pages (ops.St spot off bytes) some = refl
-begin_clear f lots owners pages (ops.Cbo op buf off) some = refl
-begin_clear f lots owners pages (ops.Fence pred succ) some = refl
 begin_clear f lots owners pages (ops.Map label buf off len dir chan) some = map_clear f lots label (record { buf = buf; off = off; len = len }) dir chan owners some
 begin_clear f lots owners pages (ops.Unmap label) some = needs_clear lots label kinds.Single
 begin_clear f lots owners pages (ops.ToCpu label) some = needs_clear lots label kinds.Single
@@ -205,15 +202,8 @@ begin_clear f lots owners pages (ops.Cgive label) some = needs_clear lots label 
 begin_clear f lots owners pages (ops.Ctake label) some = needs_clear lots label kinds.Area
 begin_clear f lots owners pages (ops.Cfree label) some = cfree_clear f lots label owners
 begin_clear f lots owners pages (ops.Hand buf to) some = then_clear (owned f.me owners (buffer_of f buf)) _ (owned_clear f.me owners (buffer_of f buf)) (λ _. refl)
-begin_clear f lots owners pages (ops.Take buf) some = refl
-begin_clear f lots owners pages (ops.Claim chan) some = refl
-begin_clear f lots owners pages (ops.Free chan) some = refl
-begin_clear f lots owners pages (ops.Regs chan src dst len cfg) some = refl
-begin_clear f lots owners pages (ops.Run chan) some = refl
-begin_clear f lots owners pages (ops.Poll chan) some = refl
-begin_clear f lots owners pages (ops.Regr chan off width) some = refl
-begin_clear f lots owners pages (ops.Regw chan off width value) some = refl
 begin_clear f lots owners pages (ops.Copy chan src src_off dst dst_off len cfg) some = copy_clear f (record { buf = src; off = src_off; len = len }) (record { buf = dst; off = dst_off; len = len }) chan owners some
+begin_clear f lots owners pages _ some = refl
 
 -- ---- steps
 
@@ -248,27 +238,10 @@ step_clear f lots (ops.Ld spot off len) n = then_clear (spot_at f lots spot off 
 step_clear f lots (ops.St spot off bytes) n = then_clear (spot_at f lots spot off (length bytes)) _ (spot_clear f lots spot off (length bytes)) (λ to. piece_clear _)
 step_clear f lots (ops.Cbo op buf off) n =
     then_clear (part_of (buffer_of f buf) off 1) _ (part_clear (buffer_of f buf) off 1) (λ byte. then_clear (legal (effect_of f.effects op)) _ (legal_clear (effect_of f.effects op)) (λ effect. refl))
-step_clear f lots (ops.Fence pred succ) n = refl
-step_clear f lots (ops.Map label buf off len dir chan) n = refl
-step_clear f lots (ops.Unmap label) n = refl
-step_clear f lots (ops.ToCpu label) n = refl
-step_clear f lots (ops.ToDev label) n = refl
-step_clear f lots (ops.MapSg label entries dir chan) n = refl
-step_clear f lots (ops.UnmapSg label count) n = refl
-step_clear f lots (ops.Calloc label count chan) n = refl
-step_clear f lots (ops.Cgive label) n = refl
-step_clear f lots (ops.Ctake label) n = refl
-step_clear f lots (ops.Cfree label) n = refl
-step_clear f lots (ops.Hand buf to) n = refl
-step_clear f lots (ops.Take buf) n = refl
-step_clear f lots (ops.Claim chan) n = refl
-step_clear f lots (ops.Free chan) n = refl
 step_clear f lots (ops.Regs chan src dst len cfg) n = then_clear (bus_of f lots src) _ (bus_clear f lots src) (λ source. then_clear (bus_of f lots dst) _ (bus_clear f lots dst) (λ target. refl))
-step_clear f lots (ops.Run chan) n = refl
-step_clear f lots (ops.Poll chan) n = refl
 step_clear f lots (ops.Regr chan off width) n = then_clear (known off width) _ (known_clear off width) (λ _. refl)
 step_clear f lots (ops.Regw chan off width value) n = then_clear (known off width) _ (known_clear off width) (λ _. refl)
-step_clear f lots (ops.Copy chan src src_off dst dst_off len cfg) n = refl
+step_clear f lots _ n = refl
 
 -- ---- answers
 
@@ -276,94 +249,17 @@ abbrev pub noslot_in : Option Answer → Bool
 noslot_in None = false
 noslot_in (Some a) = is_noslot a
 
-mapped_not : (f : DriverConfig) (o : Option Lot) → noslot_in (mapped_answer f o) ≡ false
-mapped_not f None = refl
-mapped_not f (Some lot) = refl
-
-segments_not : (f : DriverConfig) (o : Option Lot) → noslot_in (segments_answer f o) ≡ false
-segments_not f None = refl
-segments_not f (Some lot) = refl
-
-allocated_not : (f : DriverConfig) (o : Option Lot) → noslot_in (allocated_answer f o) ≡ false
-allocated_not f None = refl
-allocated_not f (Some lot) = refl
-
-either_not : (t : Bool) (a b : Answer) → is_noslot a ≡ false → is_noslot b ≡ false → is_noslot (if t then a else b) ≡ false
-either_not true a b x y = x
-either_not false a b x y = y
-
-polled_not : (saw : Seen) → noslot_in (poll_answer saw) ≡ false
-polled_not (seen.Control control) = either_not _ (answers.Error control) (answers.Done control) refl refl
-polled_not seen.Nothing = refl
-polled_not seen.Claimed = refl
-polled_not (seen.Busy g) = refl
-polled_not (seen.Value value) = refl
-
-value_not : (saw : Seen) → noslot_in (value_answer saw) ≡ false
-value_not (seen.Value value) = refl
-value_not seen.Nothing = refl
-value_not seen.Claimed = refl
-value_not (seen.Busy g) = refl
-value_not (seen.Control control) = refl
-
-copied_not : (saw : Seen) → noslot_in (copy_answer saw) ≡ false
-copied_not (seen.Control control) = either_not _ (answers.CopyFailed control) answers.CopyDone refl refl
-copied_not seen.Nothing = refl
-copied_not seen.Claimed = refl
-copied_not (seen.Busy g) = refl
-copied_not (seen.Value value) = refl
+plain_not : (a : Answer) → is_plain a ≡ true → is_noslot a ≡ false
+plain_not (answers.Refused r) plain = absurd (false≢true plain)
+plain_not (answers.NoSegments r) plain = absurd (false≢true plain)
+plain_not _ plain = refl
 
 pub good_not : (f : DriverConfig) (lots : List Lot) (o : Op) (saw : Seen) → noslot_in (good_answer f lots o saw) ≡ false
-unfolding good_answer meaning access.load access.store cache_ops.cache_operation cache_ops.fence mappings.map_single mappings.unmap_single mappings.sync_for_cpu mappings.sync_for_device lists.map_sg lists.unmap_sg areas.calloc areas.give_area areas.take_area areas.free_area handing.hand handing.take channels.claim channels.free channels.set_up channels.run channels.poll channels.read_register channels.write_register copies.copy
-good_not f lots (ops.Ld spot off len) saw = refl
-good_not f lots (ops.St spot off bytes) saw = refl
-good_not f lots (ops.Cbo op buf off) saw = refl
-good_not f lots (ops.Fence pred succ) saw = refl
-good_not f lots (ops.Map label buf off len dir chan) saw = mapped_not f _
-good_not f lots (ops.Unmap label) saw = refl
-good_not f lots (ops.ToCpu label) saw = refl
-good_not f lots (ops.ToDev label) saw = refl
-good_not f lots (ops.MapSg label entries dir chan) saw = segments_not f _
-good_not f lots (ops.UnmapSg label count) saw = refl
-good_not f lots (ops.Calloc label count chan) saw = allocated_not f _
-good_not f lots (ops.Cgive label) saw = refl
-good_not f lots (ops.Ctake label) saw = refl
-good_not f lots (ops.Cfree label) saw = refl
-good_not f lots (ops.Hand buf to) saw = refl
-good_not f lots (ops.Take buf) saw = refl
-good_not f lots (ops.Claim chan) saw = refl
-good_not f lots (ops.Free chan) saw = refl
-good_not f lots (ops.Regs chan src dst len cfg) saw = refl
-good_not f lots (ops.Run chan) saw = refl
-good_not f lots (ops.Poll chan) saw = polled_not saw
-good_not f lots (ops.Regr chan off width) saw = value_not saw
-good_not f lots (ops.Regw chan off width value) saw = refl
-good_not f lots (ops.Copy chan src src_off dst dst_off len cfg) saw = copied_not saw
+good_not f lots o saw = good_fails is_noslot plain_not refl (λ control. refl) f lots o saw
 
 -- a refusal is told as it is
 pub bad_is : (f : DriverConfig) (lots : List Lot) (o : Op) (r : Refusal) → is_noslot (bad_answer f lots o r) ≡ is_unslotted r
-unfolding bad_answer meaning access.load access.store cache_ops.cache_operation cache_ops.fence mappings.map_single mappings.unmap_single mappings.sync_for_cpu mappings.sync_for_device lists.map_sg lists.unmap_sg areas.calloc areas.give_area areas.take_area areas.free_area handing.hand handing.take channels.claim channels.free channels.set_up channels.run channels.poll channels.read_register channels.write_register copies.copy
-bad_is f lots (ops.Ld spot off len) r = refl
-bad_is f lots (ops.St spot off bytes) r = refl
-bad_is f lots (ops.Cbo op buf off) r = refl
-bad_is f lots (ops.Fence pred succ) r = refl
-bad_is f lots (ops.Map label buf off len dir chan) r = refl
-bad_is f lots (ops.Unmap label) r = refl
-bad_is f lots (ops.ToCpu label) r = refl
-bad_is f lots (ops.ToDev label) r = refl
-bad_is f lots (ops.MapSg label entries dir chan) r = refl
-bad_is f lots (ops.UnmapSg label count) r = refl
-bad_is f lots (ops.Calloc label count chan) r = refl
-bad_is f lots (ops.Cgive label) r = refl
-bad_is f lots (ops.Ctake label) r = refl
-bad_is f lots (ops.Cfree label) r = refl
-bad_is f lots (ops.Hand buf to) r = refl
-bad_is f lots (ops.Take buf) r = refl
-bad_is f lots (ops.Claim chan) r = refl
-bad_is f lots (ops.Free chan) r = refl
-bad_is f lots (ops.Regs chan src dst len cfg) r = refl
-bad_is f lots (ops.Run chan) r = refl
-bad_is f lots (ops.Poll chan) r = refl
-bad_is f lots (ops.Regr chan off width) r = refl
-bad_is f lots (ops.Regw chan off width value) r = refl
-bad_is f lots (ops.Copy chan src src_off dst dst_off len cfg) r = refl
+bad_is f lots o r = elim (bad_refuses f lots o r) [
+  | inl e ↦ ap is_noslot e
+  | inr e ↦ ap is_noslot e
+]

@@ -1,4 +1,4 @@
--- The marks of an event that may happen, and a byte of flat memory that they leave.
+-- The trace of an event that may happen, and a byte of flat memory that it leaves.
 use Rattle.std.specs.Prelude.{Option, Some, None, Bool, true, false, if◌then◌else◌}
 use Rattle.std.proofs.Common.{◌≡◌, ℕ, List, [], ◌∷◌, ◌++◌, refl, sym, ap, ◌∙◌}
 use Rattle.std.proofs.lemmas.Bool.{false≢true}
@@ -47,7 +47,7 @@ trace_off w e off = none_by w e (enabled w e) off
 
 -- ---- an outcome
 
--- the marks of a driver that goes on, where they are no touch
+-- the trace of a driver that goes on, where it has no touch
 pub record IsPlainTrace (ms ns : List TraceItem) (touch : Option Touch) : Type 0 where
   pub none : touch ≡ None
   pub same : ms ≡ ns

@@ -1,18 +1,16 @@
 -- An answer that a copy is done, or failed, comes with the last step of its plan, and tells what its poll saw.
 use Rattle.std.proofs.Common.{◌≡◌, ◌⊎◌, ℕ, ◌+◌, Bool, true, false, List, [], ◌∷◌, ◌++◌, map, refl, sym, ap, ◌∙◌, subst, inl, inr, Option, Some, None, Result, Ok, Err}
-use Rattle.std.specs.Prelude.{if◌then◌else◌, ◌==◌, ◌%◌, ◌/◌, ◌^◌, nat_lt}
+use Rattle.std.specs.Prelude.{if◌then◌else◌, nat_lt}
 use Rattle.std.specs.List.{find}
 use Rattle.std.proofs.lemmas.Bool.{false≢true}
 use Rattle.nc_plan.specs.Plans.{In}
 use Rattle.nc_model.specs.declared.owners.Owner.{Owner}
 use Rattle.nc_coherent.specs.Pages.{PageMap}
 use Rattle.nc_ops.specs.declared.ops.Op.{Op}
-use Rattle.nc_ops.specs.declared.ops.Op.TheVariants as ops
 use Rattle.nc_rules.specs.declared.answers.Answer.{Answer}
 use Rattle.nc_rules.specs.declared.answers.Answer.TheVariants as answers
 use Rattle.nc_rules.specs.declared.answers.Refusal.{Refusal}
 use Rattle.nc_rules.specs.declared.answers.Refusal.TheVariants as refusals
-use Rattle.nc_rules.specs.declared.lots.Kind.TheVariants as kinds
 use Rattle.nc_rules.specs.declared.lots.Lot.{Lot}
 use Rattle.nc_rules.specs.declared.lots.LotId.{LotId}
 use Rattle.nc_rules.specs.declared.steps.Phase.{Phase}
@@ -20,19 +18,8 @@ use Rattle.nc_rules.specs.declared.steps.Phase.TheVariants.{Steps, Search, Work}
 use Rattle.nc_rules.specs.declared.steps.Seen.{Seen}
 use Rattle.nc_rules.specs.declared.steps.Seen.TheVariants as seen
 use Rattle.nc_rules.specs.declared.steps.Step.{Step}
-use Rattle.nc_rules.specs.Lots.{DriverConfig, is_lot, lot_named, slot_given, some_lot_waits}
-use Rattle.nc_rules.specs.Accesses as accesses
-use Rattle.nc_rules.specs.CacheOps as cache_ops
-use Rattle.nc_rules.specs.Channels.{poll_answer, value_answer}
-use Rattle.nc_rules.specs.Channels as channels
-use Rattle.nc_rules.specs.Handing as handing
-use Rattle.nc_rules.specs.Mappings.{mapped_answer}
-use Rattle.nc_rules.specs.Mappings as mappings
-use Rattle.nc_rules.specs.ScatterLists.{segments_answer}
-use Rattle.nc_rules.specs.ScatterLists as lists
-use Rattle.nc_rules.specs.Areas.{allocated_answer}
-use Rattle.nc_rules.specs.Areas as areas
-use Rattle.nc_rules.specs.Copies.{source, target, copied, copy_answer, copy_steps_of}
+use Rattle.nc_rules.specs.Lots.{DriverConfig, is_lot, slot_given, some_lot_waits}
+use Rattle.nc_rules.specs.Copies.{source, target, copied, copy_steps_of}
 use Rattle.nc_rules.specs.Copies as copies
 use Rattle.nc_rules.specs.Operations.{meaning, has_start, step_at, begin, plan_of, good_answer, bad_answer}
 use Rattle.nc_rules.specs.Driver.{DriverState, in_hand, next_of, next_of_op, next_in, stays, give_up, answered, opened, searches, placed, with_lots, begun, refused_step, steps_done, started, started_of, told, told_of, told_in, told_word, kept, busy, stepped, step_answer, worked, done, done_of, done_unless, done_in}
@@ -40,6 +27,7 @@ use Rattle.nc_rules.specs.Turns.{turned_by}
 use Rattle.nc_scripts.specs.Scripts.{is_act}
 use Rattle.nc_scripts.specs.Drivers.{AreMade}
 use Rattle.nc_scripts.proofs.LotLaws.{its_name}
+use Rattle.nc_scripts.proofs.Answers.{is_plain, plainly, IsCopySaw, good_plain, bad_refuses}
 use Rattle.nc_flatness.specs.Copying.{CopyOp, copy_op}
 
 -- ---- answers of copies
@@ -53,69 +41,28 @@ abbrev pub tells : Option Answer → Bool
 tells None = false
 tells (Some a) = tells_copy a
 
--- the operation is a copy, whose poll saw this value of Control
-record IsCopySaw (o : Op) (saw : Seen) (b : Option Answer) : Type 0 where
-  copy : CopyOp
-  is : o ≡ copy_op copy
-  control : ℕ
-  saw_is : saw ≡ seen.Control control
-  answer : b ≡ Some (copied control)
+-- the copy that it is
+abbrev copy_of : {o : Op} {saw : Seen} {b : Option Answer} → IsCopySaw o saw b → CopyOp
+copy_of k = record { chan = k.chan; src = k.src; src_off = k.src_off; dst = k.dst; dst_off = k.dst_off; len = k.len; config = k.config }
 
-mapped_tells : (f : DriverConfig) (o : Option Lot) → tells (mapped_answer f o) ≡ false
-mapped_tells f None = refl
-mapped_tells f (Some lot) = refl
-
-segments_tells : (f : DriverConfig) (o : Option Lot) → tells (segments_answer f o) ≡ false
-segments_tells f None = refl
-segments_tells f (Some lot) = refl
-
-allocated_tells : (f : DriverConfig) (o : Option Lot) → tells (allocated_answer f o) ≡ false
-allocated_tells f None = refl
-allocated_tells f (Some lot) = refl
-
-either_tells : (a b : Answer) (t : Bool) → tells_copy a ≡ false → tells_copy b ≡ false → tells_copy (if t then a else b) ≡ false
-either_tells a b true h k = h
-either_tells a b false h k = k
-
-poll_tells : (saw : Seen) → tells (poll_answer saw) ≡ false
-poll_tells seen.Nothing = refl
-poll_tells (seen.Control control) = either_tells (answers.Error control) (answers.Done control) (control / 2 ^ 31 % 2 == 1) refl refl
-poll_tells seen.Claimed = refl
-poll_tells (seen.Busy g) = refl
-poll_tells (seen.Value value) = refl
-
-value_tells : (saw : Seen) → tells (value_answer saw) ≡ false
-value_tells seen.Nothing = refl
-value_tells (seen.Control control) = refl
-value_tells seen.Claimed = refl
-value_tells (seen.Busy g) = refl
-value_tells (seen.Value value) = refl
-
-not_both : {X : Type 0} (t : Bool) → t ≡ false → t ≡ true → X
-not_both t off on = absurd (false≢true (sym off ∙ on))
-
-copy_tells : (k : CopyOp) (saw : Seen) → tells (copy_answer saw) ≡ true → IsCopySaw (copy_op k) saw (copy_answer saw)
-copy_tells k seen.Nothing t = absurd (false≢true t)
-copy_tells k (seen.Control control) t = record { copy = k; is = refl; control = control; saw_is = refl; answer = refl }
-copy_tells k seen.Claimed t = absurd (false≢true t)
-copy_tells k (seen.Busy g) t = absurd (false≢true t)
-copy_tells k (seen.Value value) t = absurd (false≢true t)
+plain_tells : (a : Answer) → is_plain a ≡ true → tells_copy a ≡ false
+plain_tells answers.CopyDone plain = absurd (false≢true plain)
+plain_tells (answers.CopyFailed control) plain = absurd (false≢true plain)
+plain_tells _ plain = refl
 
 good_tells : (f : DriverConfig) (lots : List Lot) (o : Op) (saw : Seen) → tells (good_answer f lots o saw) ≡ true → IsCopySaw o saw (good_answer f lots o saw)
-unfolding good_answer meaning accesses.load accesses.store cache_ops.cache_operation cache_ops.fence handing.take handing.hand channels.claim channels.free channels.set_up channels.run channels.poll channels.read_register channels.write_register mappings.map_single mappings.unmap_single mappings.sync_for_cpu mappings.sync_for_device lists.map_sg lists.unmap_sg areas.calloc areas.give_area areas.take_area areas.free_area copies.copy
-good_tells f lots (ops.Map label buf off len dir chan) saw t = not_both _ (mapped_tells f (lot_named lots label kinds.Single)) t
-good_tells f lots (ops.MapSg label entries dir chan) saw t = not_both _ (segments_tells f (lot_named lots label kinds.List)) t
-good_tells f lots (ops.Calloc label count chan) saw t = not_both _ (allocated_tells f (lot_named lots label kinds.Area)) t
-good_tells f lots (ops.Poll chan) saw t = not_both _ (poll_tells saw) t
-good_tells f lots (ops.Regr chan off width) saw t = not_both _ (value_tells saw) t
-good_tells f lots (ops.Copy chan src src_off dst dst_off len cfg) saw t =
-    copy_tells (record { chan = chan; src = src; src_off = src_off; dst = dst; dst_off = dst_off; len = len; config = cfg }) saw t
-good_tells f lots _ saw t = absurd (false≢true t)
+good_tells f lots o saw t = by (good_answer f lots o saw) (good_plain f lots o saw) t
+  where
+    by : (a : Option Answer) → (plainly a ≡ true) ⊎ IsCopySaw o saw a → tells a ≡ true → IsCopySaw o saw a
+    by None k t = absurd (false≢true t)
+    by (Some a) (inl plain) t = absurd (false≢true (sym (plain_tells a plain) ∙ t))
+    by (Some a) (inr k) t = k
 
 bad_tells : (f : DriverConfig) (lots : List Lot) (o : Op) (r : Refusal) → tells_copy (bad_answer f lots o r) ≡ false
-unfolding bad_answer meaning accesses.load accesses.store cache_ops.cache_operation cache_ops.fence handing.take handing.hand channels.claim channels.free channels.set_up channels.run channels.poll channels.read_register channels.write_register mappings.map_single mappings.unmap_single mappings.sync_for_cpu mappings.sync_for_device lists.map_sg lists.unmap_sg areas.calloc areas.give_area areas.take_area areas.free_area copies.copy
-bad_tells f lots (ops.MapSg label entries dir chan) r = refl
-bad_tells f lots _ r = refl
+bad_tells f lots o r = elim (bad_refuses f lots o r) [
+  | inl e ↦ ap tells_copy e
+  | inr e ↦ ap tells_copy e
+]
 
 -- ---- the plan of a copy has steps, where both ends are there
 
@@ -166,7 +113,7 @@ opened_not d o made = by (plan_of d.fixed d.lots o) refl (tells (good_answer d.f
     by [] e false is = is
     by [] e true is =
         let k = good_tells d.fixed d.lots o d.saw is in
-        absurd (no_empty_plan d.fixed d.lots k.copy (subst (λ (p : Op). AreMade p d.lots) k.is made) (ap (plan_of d.fixed d.lots) (sym k.is) ∙ e))
+        absurd (no_empty_plan d.fixed d.lots (copy_of k) (subst (λ (p : Op). AreMade p d.lots) k.is made) (ap (plan_of d.fixed d.lots) (sym k.is) ∙ e))
 
 placed_not : (d : DriverState) (o : Op) → AreMade o d.lots → tells (placed d o).moves.answer ≡ false
 placed_not d o made = by (some_lot_waits d.lots)
@@ -245,7 +192,7 @@ worked_last d o saw (s ∷ more) hand phase e t = by more e t
     by (x ∷ more) e t = absurd (false≢true t)
     by [] e t =
         let k = good_tells d.fixed d.lots o (kept d.saw saw) t in
-        record { copy = k.copy; hand = hand ∙ ap Some k.is; phase = phase; step = s; rest = e; control = k.control; saw_is = k.saw_is; answer = k.answer }
+        record { copy = copy_of k; hand = hand ∙ ap Some k.is; phase = phase; step = s; rest = e; control = k.control; saw_is = k.saw_is; answer = k.answer }
 
 stepped_last : (d : DriverState) (o : Op) (n : ℕ) (saw : Seen) (r next : Result (Option Step) Refusal) → is_act (next_in d o (Steps n)) ≡ true → tells (stepped d o (n + 1) saw r next).moves.answer ≡ true → ⊥
 unfolding turned_by
@@ -256,7 +203,7 @@ stepped_last d o n saw (Ok (Some s)) next act t = by next t
     by : (next : Result (Option Step) Refusal) → tells (step_answer d o saw next) ≡ true → ⊥
     by (Err r) t = false≢true t
     by (Ok (Some s)) t = false≢true t
-    by (Ok None) t = let k = good_tells d.fixed d.lots o saw t in last_not d o n k.copy k.is act
+    by (Ok None) t = let k = good_tells d.fixed d.lots o saw t in last_not d o n (copy_of k) k.is act
 
 done_in_last : (d : DriverState) (o : Op) (saw : Seen) (p : Phase) → in_hand d ≡ Some o → d.phase ≡ p → is_act (next_in d o p) ≡ true → tells (done_in d o (kept d.saw saw) p).moves.answer ≡ true → IsLastOf d saw (done_in d o (kept d.saw saw) p).moves.answer
 done_in_last d o saw (Steps n) hand phase act t = absurd (stepped_last d o n (kept d.saw saw) (step_at d.fixed d.lots o n) (step_at d.fixed d.lots o (n + 1)) act t)

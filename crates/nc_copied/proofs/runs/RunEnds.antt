@@ -33,7 +33,7 @@ after_one w e = refl
 pub after_end : (w : WorldState) (es : List Event) (e : Event) → after w (es ++ e ∷ []) ≡ next (after w es) e
 after_end w es e = after_two w es (e ∷ []) ∙ after_one (after w es) e
 
--- ---- marks
+-- ---- traces
 
 assoc : (a b c : List TraceItem) → (a ++ b) ++ c ≡ a ++ (b ++ c)
 assoc [] b c = refl

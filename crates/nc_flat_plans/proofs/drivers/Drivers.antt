@@ -7,7 +7,6 @@ use Rattle.nc_num.specs.declared.names.HartNo.{HartNo}
 use Rattle.nc_num.specs.declared.names.MapId.{MapId}
 use Rattle.nc_plan.specs.Plans.{In}
 use Rattle.nc_ops.specs.declared.ops.Op.{Op}
-use Rattle.nc_ops.specs.declared.ops.Op.TheVariants as ops
 use Rattle.nc_scen.specs.declared.events.Event.TheVariants as events
 use Rattle.nc_scen.specs.declared.scenario.Scenario.{Scenario}
 use Rattle.nc_rules.specs.declared.lots.Lot.{Lot}
@@ -28,9 +27,10 @@ use Rattle.nc_rows.specs.Ahead.{ends, posts, stores_io, sends, is_settling, sett
 use Rattle.nc_rows.proofs.Steps.{steps_ahead}
 use Rattle.nc_flatness.specs.Lending.{is_lending}
 use Rattle.nc_flatness.specs.Plans.{HasEnd, StepGoes, Loads, Stores, WritesBack, Drops, Gives, Fences, Ends, Zeroes, Flushes, Settles, GivesArea, TakesBack, Marks, Posts, Claims, Registers, Polls, TakesTarget, TakesSource, IsStill, lots_behind, PlanGoes, EndsOne}
-use Rattle.nc_flatness.specs.Flatness.{IsMapping, PlanLeft, PlanIs, PlanOf, Drives}
+use Rattle.nc_flatness.specs.Flatness.{IsMapping, PlanOf, Drives}
 use Rattle.nc_flatness.specs.Steps.{IsNow, OfLots, kind_of_act}
 use Rattle.nc_flatness.proofs.tokens.Lents.{sides_mapping}
+use Rattle.nc_flatness.proofs.plans.LendingPlans.{plan_left}
 use Rattle.nc_flatness.proofs.plans.Rests.{ends_later, back_moves, ends_one_next}
 
 -- ---- the plan in hand
@@ -48,58 +48,6 @@ pub record IsNext (sc : Scenario) (f : List ℕ) (w : WorldState) (h : HartNo) (
   pub plan : PlanGoes (driver_of w h.0).fixed (driver_of w h.0).lots (s ∷ rest)
   pub left : PlanGoes (driver_of w h.0).fixed (lots_after_both s.first s.last (driver_of w h.0).lots) rest
   pub one : (driver_of w h.0).fixed.light ≡ true → EndsOne (s ∷ rest)
-
-pub plan_left : (d : DriverState) (o : Op) → is_lending o ≡ true → PlanIs d o → PlanLeft d
-plan_left d (ops.Map label buf off len dir chan) is plan = plan
-plan_left d (ops.Unmap label) is plan = plan
-plan_left d (ops.ToCpu label) is plan = plan
-plan_left d (ops.ToDev label) is plan = plan
-plan_left d (ops.MapSg label list dir chan) is plan = plan
-plan_left d (ops.UnmapSg label count) is plan = plan
-plan_left d (ops.Ld spot off len) is plan = absurd plan
-plan_left d (ops.St spot off bytes) is plan = absurd plan
-plan_left d (ops.Cbo op buf off) is plan = absurd plan
-plan_left d (ops.Fence pred succ) is plan = absurd plan
-plan_left d (ops.Hand buf to) is plan = absurd cc
-plan_left d (ops.Take buf) is plan = absurd plan
-plan_left d (ops.Claim chan) is plan = absurd plan
-plan_left d (ops.Free chan) is plan = absurd plan
-plan_left d (ops.Regs chan src dst len cfg) is plan = absurd plan
-plan_left d (ops.Run chan) is plan = absurd plan
-plan_left d (ops.Poll chan) is plan = absurd plan
-plan_left d (ops.Regr chan off width) is plan = absurd plan
-plan_left d (ops.Regw chan off width value) is plan = absurd plan
-plan_left d (ops.Calloc label pages chan) is plan = plan
-plan_left d (ops.Cgive label) is plan = plan
-plan_left d (ops.Ctake label) is plan = plan
-plan_left d (ops.Cfree label) is plan = plan
-plan_left d (ops.Copy chan src src_off dst dst_off len cfg) is plan = plan
-
-plan_is : (d : DriverState) (o : Op) → is_lending o ≡ true → PlanLeft d → PlanIs d o
-plan_is d (ops.Map label buf off len dir chan) is plan = plan
-plan_is d (ops.Unmap label) is plan = plan
-plan_is d (ops.ToCpu label) is plan = plan
-plan_is d (ops.ToDev label) is plan = plan
-plan_is d (ops.MapSg label list dir chan) is plan = plan
-plan_is d (ops.UnmapSg label count) is plan = plan
-plan_is d (ops.Ld spot off len) is plan = absurd cc
-plan_is d (ops.St spot off bytes) is plan = absurd cc
-plan_is d (ops.Cbo op buf off) is plan = absurd cc
-plan_is d (ops.Fence pred succ) is plan = absurd cc
-plan_is d (ops.Hand buf to) is plan = absurd cc
-plan_is d (ops.Take buf) is plan = absurd cc
-plan_is d (ops.Claim chan) is plan = absurd cc
-plan_is d (ops.Free chan) is plan = absurd cc
-plan_is d (ops.Regs chan src dst len cfg) is plan = absurd cc
-plan_is d (ops.Run chan) is plan = absurd cc
-plan_is d (ops.Poll chan) is plan = absurd cc
-plan_is d (ops.Regr chan off width) is plan = absurd cc
-plan_is d (ops.Regw chan off width value) is plan = absurd cc
-plan_is d (ops.Calloc label pages chan) is plan = plan
-plan_is d (ops.Cgive label) is plan = plan
-plan_is d (ops.Ctake label) is plan = plan
-plan_is d (ops.Cfree label) is plan = plan
-plan_is d (ops.Copy chan src src_off dst dst_off len cfg) is plan = plan
 
 -- ---- the driver behind the step
 
@@ -134,7 +82,7 @@ went_drives : (d : DriverState) (o : Op) (lots : List Lot) (saw : Seen) (rest : 
 went_drives d o lots saw [] hand is all left one = record { lots = all; stands = left; idle = refl }
 went_drives d o lots saw (s ∷ rest) hand is all left one = let now = went_to d lots saw (s ∷ rest) in record {
   lots = all;
-  stands = subst (λ (p : Option Op). PlanOf now p) (sym hand) (plan_is now o is (record { goes = left; one = one }));
+  stands = subst (λ (p : Option Op). PlanOf now p) (sym hand) ((plan_left now o is).is (record { goes = left; one = one }));
   idle = tt;
 }
 

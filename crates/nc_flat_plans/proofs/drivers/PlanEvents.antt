@@ -18,7 +18,8 @@ use Rattle.nc_flatness.specs.Flatness.{PlanOf, StandsAt}
 use Rattle.nc_flatness.specs.Steps.{IsNow, Goes, PlansAreFlat, OfLots, kind_of_act, kind_of_next}
 use Rattle.nc_flatness.proofs.plans.Rests.{plan_next}
 use Rattle.nc_flatness.proofs.plans.CopySteps.{of_lots}
-use Rattle.nc_flat_plans.proofs.drivers.Drivers.{IsNext, plan_left}
+use Rattle.nc_flatness.proofs.plans.LendingPlans.{plan_left}
+use Rattle.nc_flat_plans.proofs.drivers.Drivers.{IsNext}
 use Rattle.nc_flat_plans.proofs.operations.Loads.{loaded_goes}
 use Rattle.nc_flat_plans.proofs.operations.Stores.{stored_goes}
 use Rattle.nc_flat_plans.proofs.operations.Cbos.{written_goes, dropped_goes}
@@ -68,5 +69,5 @@ pub plans_go : PlansAreFlat
 plans_go sc f w h o now hand is phase kind =
     let d = driver_of w h.0 in
     let stands : StandsAt d Work = subst (λ (p : Phase). StandsAt d p) phase (now.flat.bytes.drives h.0 now.there).stands in
-    let plan = plan_left d o is (subst (λ (p : Option Op). PlanOf d p) hand stands) in
+    let plan = (plan_left d o is).left (subst (λ (p : Option Op). PlanOf d p) hand stands) in
     rest_by sc f w h o d.rest now hand is phase refl kind plan.goes plan.one

@@ -54,7 +54,7 @@ use Rattle.nc_flat_scripts.proofs.steps.ScriptCalls.{IsIdle}
 use Rattle.nc_flat_scripts.proofs.accesses.ScriptSteps.{IsScriptOp}
 use Rattle.nc_flat_scripts.proofs.steps.StepFrames.{StandsIn}
 
--- marks that are no touch, whose reads show flat memory, and flat memory behind them
+-- a trace without a touch, whose reads show flat memory, and flat memory behind it
 pub record Acts (sc : Scenario) (f : List ℕ) (ms : List TraceItem) (w : WorldState) (n : MachineState) : Type 0 where
   pub untouched : Untouched ms
   pub latest : Latest f ms

@@ -1,9 +1,7 @@
 -- A driver that makes a step of its plan which turns nothing.
 use Rattle.std.specs.Prelude.{Option, Some, None, true, All}
 use Rattle.std.proofs.Common.{◌≡◌, List, [], ◌∷◌, refl, sym, ap, ◌∙◌, subst}
-use Rattle.std.proofs.lemmas.Bool.{false≢true}
 use Rattle.nc_ops.specs.declared.ops.Op.{Op}
-use Rattle.nc_ops.specs.declared.ops.Op.TheVariants as ops
 use Rattle.nc_rules.specs.declared.steps.Act.{Act}
 use Rattle.nc_rules.specs.declared.steps.Phase.{Phase}
 use Rattle.nc_rules.specs.declared.steps.Phase.TheVariants.{Work}
@@ -14,41 +12,11 @@ use Rattle.nc_rules.specs.Plans.{step}
 use Rattle.nc_rules.specs.Turns.{turned_by}
 use Rattle.nc_flatness.specs.Copying.{IsBegun}
 use Rattle.nc_flatness.specs.Lending.{is_lending}
-use Rattle.nc_flatness.specs.Flatness.{IsMapping, PlanLeft, PlanIs, PlanOf, StandsAt, Drives}
+use Rattle.nc_flatness.specs.Flatness.{IsMapping, PlanLeft, PlanOf, StandsAt, Drives}
 use Rattle.nc_flatness.specs.Plans.{PlanGoes, EndsOne}
+use Rattle.nc_flatness.proofs.plans.LendingPlans.{plan_left}
 
--- the plan of an operation that lends or takes back goes through
-pub record IsPlanLeft (d : DriverState) (o : Op) : Type 0 where
-  pub left : PlanIs d o → PlanLeft d
-  pub is : PlanLeft d → PlanIs d o
-
-pub plan_left : (d : DriverState) (o : Op) → is_lending o ≡ true → IsPlanLeft d o
-plan_left d (ops.Map label buf off len dir chan) lends = record { left = λ p. p; is = λ p. p }
-plan_left d (ops.Unmap label) lends = record { left = λ p. p; is = λ p. p }
-plan_left d (ops.ToCpu label) lends = record { left = λ p. p; is = λ p. p }
-plan_left d (ops.ToDev label) lends = record { left = λ p. p; is = λ p. p }
-plan_left d (ops.MapSg label entries dir chan) lends = record { left = λ p. p; is = λ p. p }
-plan_left d (ops.UnmapSg label count) lends = record { left = λ p. p; is = λ p. p }
-plan_left d (ops.Calloc label pages chan) lends = record { left = λ p. p; is = λ p. p }
-plan_left d (ops.Cgive label) lends = record { left = λ p. p; is = λ p. p }
-plan_left d (ops.Ctake label) lends = record { left = λ p. p; is = λ p. p }
-plan_left d (ops.Cfree label) lends = record { left = λ p. p; is = λ p. p }
-plan_left d (ops.Copy chan src src_off dst dst_off len cfg) lends = record { left = λ p. p; is = λ p. p }
-plan_left d (ops.Ld spot off len) lends = absurd (false≢true lends)
-plan_left d (ops.St spot off bytes) lends = absurd (false≢true lends)
-plan_left d (ops.Cbo op buf off) lends = absurd (false≢true lends)
-plan_left d (ops.Fence pred succ) lends = absurd (false≢true lends)
-plan_left d (ops.Hand buf to) lends = absurd (false≢true lends)
-plan_left d (ops.Take buf) lends = absurd (false≢true lends)
-plan_left d (ops.Claim chan) lends = absurd (false≢true lends)
-plan_left d (ops.Free chan) lends = absurd (false≢true lends)
-plan_left d (ops.Regs chan src dst len cfg) lends = absurd (false≢true lends)
-plan_left d (ops.Run chan) lends = absurd (false≢true lends)
-plan_left d (ops.Poll chan) lends = absurd (false≢true lends)
-plan_left d (ops.Regr chan off width) lends = absurd (false≢true lends)
-plan_left d (ops.Regw chan off width value) lends = absurd (false≢true lends)
-
--- at work on such an operation it has such a plan
+-- at work on an operation that lends or takes back it has a plan that goes through
 pub at_work : (d : DriverState) (o : Op) → Drives d → in_hand d ≡ Some o → is_lending o ≡ true → d.phase ≡ Work → PlanLeft d
 at_work d o drives hand lends phase =
     (plan_left d o lends).left (subst (λ (k : Option Op). PlanOf d k) hand (subst (λ (p : Phase). StandsAt d p) phase drives.stands))

@@ -16,7 +16,6 @@ use Rattle.nc_scen.specs.declared.scenario.Scenario.{Scenario}
 use Rattle.nc_sg.specs.Lists.{SgView}
 use Rattle.nc_sg.specs.declared.list.Entry.{Entry}
 use Rattle.nc_ops.specs.declared.ops.Op.{Op}
-use Rattle.nc_ops.specs.declared.ops.Op.TheVariants as ops
 use Rattle.nc_rules.specs.declared.lots.Lot.{Lot}
 use Rattle.nc_rules.specs.declared.lots.LotId.{LotId}
 use Rattle.nc_rules.specs.declared.lots.Side.{Side}
@@ -43,10 +42,11 @@ use Rattle.nc_plan.specs.Plans.{In}
 use Rattle.nc_rows.proofs.Steps.{steps_ahead}
 use Rattle.nc_flatness.specs.Lending.{is_lending}
 use Rattle.nc_flatness.specs.Books.{loan_by, loan_of, book_of, mapping_in, LiesIn}
-use Rattle.nc_flatness.specs.Flatness.{PlanLeft, PlanIs, PlanOf, Drives, BytesStand}
+use Rattle.nc_flatness.specs.Flatness.{PlanOf, Drives, BytesStand}
 use Rattle.nc_flatness.specs.Plans.{HasLend, PlanGoes}
 use Rattle.nc_flatness.specs.Tokens.{is_lending_side, ends_lending, is_sent, TokenStands}
 use Rattle.nc_flatness.proofs.plans.Copies.{is_copy, copy_none}
+use Rattle.nc_flatness.proofs.plans.LendingPlans.{plan_left}
 use Rattle.nc_flatness.proofs.books.Loans.{loan_is}
 use Rattle.nc_flatness.proofs.worlds.Outcomes.{gone}
 use Rattle.nc_flatness.proofs.tokens.Lents.{all_sided, sides_mapping}
@@ -63,35 +63,6 @@ use Rattle.nc_flat_starts.proofs.going.PlanOps.{IsPlan}
 use Rattle.nc_flat_starts.proofs.turning.Sides.{turned_lot, set_here, set_one}
 use Rattle.nc_flat_starts.proofs.opening.Tokens.{no_token}
 use Rattle.nc_flat_starts.proofs.turning.TurnBytes.{turn_bytes}
-
--- ---- the operation in hand
-
--- the operation in hand is one whose plan goes on so
-pub lending_plan : (d : DriverState) (o : Op) → is_lending o ≡ true → PlanLeft d → PlanIs d o
-lending_plan d (ops.Map label buf off len dir chan) is plan = plan
-lending_plan d (ops.Unmap label) is plan = plan
-lending_plan d (ops.ToCpu label) is plan = plan
-lending_plan d (ops.ToDev label) is plan = plan
-lending_plan d (ops.MapSg label es dir chan) is plan = plan
-lending_plan d (ops.UnmapSg label count) is plan = plan
-lending_plan d (ops.Ld spot off len) is plan = absurd cc
-lending_plan d (ops.St spot off bytes) is plan = absurd cc
-lending_plan d (ops.Cbo op buf off) is plan = absurd cc
-lending_plan d (ops.Fence pred succ) is plan = absurd cc
-lending_plan d (ops.Calloc label count chan) is plan = plan
-lending_plan d (ops.Cgive label) is plan = plan
-lending_plan d (ops.Ctake label) is plan = plan
-lending_plan d (ops.Cfree label) is plan = plan
-lending_plan d (ops.Hand buf to) is plan = absurd cc
-lending_plan d (ops.Take buf) is plan = absurd cc
-lending_plan d (ops.Claim chan) is plan = absurd cc
-lending_plan d (ops.Free chan) is plan = absurd cc
-lending_plan d (ops.Regs chan src dst len cfg) is plan = absurd cc
-lending_plan d (ops.Run chan) is plan = absurd cc
-lending_plan d (ops.Poll chan) is plan = absurd cc
-lending_plan d (ops.Regr chan off width) is plan = absurd cc
-lending_plan d (ops.Regw chan off width value) is plan = absurd cc
-lending_plan d (ops.Copy chan src src_off dst dst_off len cfg) is plan = plan
 
 pub side_mapping : (n k : MapId) (side : Side) → mapping_in (owner_of_side n side) ≡ Some k → n ≡ k
 side_mapping n k sides.Wanted e = absurd cc
@@ -216,7 +187,7 @@ opens_bytes sc f w h o went lots lot side plan t =
       fixed = ap (λ (j : DriverState). j.fixed) t.driver;
       drives = subst (λ (j : DriverState). Drives j) (sym t.driver) (record {
         lots = sides_mapping fx side lot.id lots b.mappings;
-        stands = subst (λ (k : Option Op). PlanOf behind k) (sym t.hand) (lending_plan behind o t.lends (record { goes = t.goes; one = λ light. only_one lot.id plan t.of_plan.only }));
+        stands = subst (λ (k : Option Op). PlanOf behind k) (sym t.hand) ((plan_left behind o t.lends).is (record { goes = t.goes; one = λ light. only_one lot.id plan t.of_plan.only }));
         idle = tt;
       });
       lasting = last_none (book_of v) f h.0 (hart_of m h.0).last (rest_last went.driver.rest) (ap (λ (j : DriverState). rest_last j.rest) t.driver ∙ t.of_plan.first);

@@ -41,30 +41,8 @@ use Rattle.nc_flatness.proofs.books.Owned.{entry_owned, fits_side}
 -- ---- where no copy is in hand
 
 abbrev pub is_copy : Op → Bool
-is_copy (ops.Ld spot off len) = false
-is_copy (ops.St spot off bytes) = false
-is_copy (ops.Cbo op buf off) = false
-is_copy (ops.Fence pred succ) = false
-is_copy (ops.Map label buf off len dir chan) = false
-is_copy (ops.Unmap label) = false
-is_copy (ops.ToCpu label) = false
-is_copy (ops.ToDev label) = false
-is_copy (ops.MapSg label entries dir chan) = false
-is_copy (ops.UnmapSg label count) = false
-is_copy (ops.Calloc label pages chan) = false
-is_copy (ops.Cgive label) = false
-is_copy (ops.Ctake label) = false
-is_copy (ops.Cfree label) = false
-is_copy (ops.Hand buf to) = false
-is_copy (ops.Take buf) = false
-is_copy (ops.Claim chan) = false
-is_copy (ops.Free chan) = false
-is_copy (ops.Regs chan src dst len cfg) = false
-is_copy (ops.Run chan) = false
-is_copy (ops.Poll chan) = false
-is_copy (ops.Regr chan off width) = false
-is_copy (ops.Regw chan off width value) = false
 is_copy (ops.Copy chan src src_off dst dst_off len cfg) = true
+is_copy _ = false
 
 copied_op : (o : Op) (k : CopyOp) → Some o ≡ Some (copy_op k) → is_copy o ≡ true
 copied_op o k e = let same : o ≡ copy_op k = cc in ap is_copy same

@@ -187,7 +187,12 @@ copied_apart f lots s rest from to id c apart = elim c.way [
   | inr comes ↦ apart c.lot c.here.lot_in (inr comes.hand.side_is)
 ]
 
--- a drop and an end of another lot
+-- a piece, a drop and an end of another lot
+copied_lent : (f : DriverConfig) (lots : List Lot) (s : Step) (rest : List Step) (from to : Span) (id : LotId) → IsCopied f lots rest from to → IsApart id lots (s ∷ rest) → IsCopied f (lent id lots) rest from to
+copied_lent f lots s rest from to id c apart =
+    let off = copied_apart f lots s rest from to id c apart in
+    record { lot = c.lot; i = c.i; entry = c.entry; here = entry_lent lots c.lot c.i c.entry id c.here off; bounced = c.bounced; way = way_lent f lots c.lot c.entry rest from to id c.way off }
+
 drop_lent : (f : DriverConfig) (lots : List Lot) (s : Step) (rest : List Step) (id : LotId) → (is : IsDrop f lots s rest) → is_lot id is.lot ≡ false → IsDrop f (lent id lots) s rest
 drop_lent f lots s rest id is off = record {
   lot = is.lot;
@@ -252,26 +257,22 @@ end_over : (f : DriverConfig) (ls ks : List Lot) (s : Step) (rest : List Step) �
 end_over f ls ks s rest e is = subst (λ (l : List Lot). (to : IsEnd f l s rest) × (to.lot ≡ is.lot)) e (is, refl)
 
 step_lent : (f : DriverConfig) (lots : List Lot) (s : Step) (rest : List Step) (id : LotId) → StepGoes f lots s rest → AreLending id lots → IsApart id lots (s ∷ rest) → StepGoes f (lent id lots) s rest
-unfolding drop_lent end_lent
+unfolding copied_lent drop_lent end_lent
 step_lent f lots s rest id (Loads is) all apart =
-    let c = is.copied in
-    let off = copied_apart f lots s rest is.from is.to id c apart in
     Loads (record {
       from = is.from;
       to = is.to;
-      copied = record { lot = c.lot; i = c.i; entry = c.entry; here = entry_lent lots c.lot c.i c.entry id c.here off; bounced = c.bounced; way = way_lent f lots c.lot c.entry rest is.from is.to id c.way off };
+      copied = copied_lent f lots s rest is.from is.to id is.copied apart;
       span = is.span;
       step = is.step;
       within = is.within;
       next = is.next;
     })
 step_lent f lots s rest id (Stores is) all apart =
-    let c = is.copied in
-    let off = copied_apart f lots s rest is.from is.to id c apart in
     Stores (record {
       from = is.from;
       to = is.to;
-      copied = record { lot = c.lot; i = c.i; entry = c.entry; here = entry_lent lots c.lot c.i c.entry id c.here off; bounced = c.bounced; way = way_lent f lots c.lot c.entry rest is.from is.to id c.way off };
+      copied = copied_lent f lots s rest is.from is.to id is.copied apart;
       span = is.span;
       act = is.act;
       first = is.first;

@@ -1,4 +1,4 @@
--- The marks of records: transfers, changes of owners and answers are none.
+-- The trace of records: transfers, changes of owners and answers have no item in it.
 use Rattle.std.specs.Prelude.{Option, Some, None, Bool, true, false, if◌then◌else◌}
 use Rattle.std.proofs.Common.{◌≡◌, ℕ, List, [], ◌∷◌, ◌++◌, refl, sym, ap, ◌∙◌}
 use Rattle.nc_num.specs.declared.names.HartNo.{HartNo}

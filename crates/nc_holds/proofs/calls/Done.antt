@@ -30,8 +30,8 @@ use Rattle.nc_scripts.proofs.LotLaws.{owed_stay, placed_stay}
 use Rattle.nc_scripts.proofs.DriverLaws.{next_step_is}
 use Rattle.nc_holds.specs.Held.{Held, IsOwnedBy}
 use Rattle.nc_holds.specs.Changes.{Turned, changed, IsPlanStep}
+use Rattle.nc_holds.proofs.messages.Steps.{Numbered, Quietly, Takes, numbered, numbered_first}
 use Rattle.nc_holds.proofs.calls.Plans.{ArePlanSteps}
-use Rattle.nc_holds.proofs.calls.Numbers.{LastIs, IsNumbered, step_turns}
 use Rattle.nc_holds.proofs.calls.Shapes.{here, MakesTurn, IsQuietTurn, As, Turns, Plainly, IsCall, stays_turn, first_turn, last_turn, first_quiet, steps_stay}
 use Rattle.nc_holds.proofs.calls.Starts.{gives_up, just_stays, went_plan, went_lots}
 
@@ -41,11 +41,11 @@ CanTake f s next = (buf : ℕ) → next ≡ nexts.Take buf → (g : HartNo) × I
 
 -- ---- a step by its number
 
-last_by : (f : DriverConfig) (s : Held) (step : Step) → CanTake f s (next_act step.act) → LastIs f step → MakesTurn f s step.last
-last_by f s step take (inl e) = stays_turn f s step.last e
-last_by f s step take (inr k) =
-    let g = take k.0 (ap next_act k.2) in
-    subst (λ (t : Turn). MakesTurn f s t) (sym k.1) (record { may = (k.0, refl, g); fits = tt; placed = λ id e. absurd (cc) })
+last_by : (f : DriverConfig) (s : Held) (o : Op) (step : Step) → CanTake f s (next_act step.act) → Numbered f o step → MakesTurn f s step.last
+last_by f s o step take (Quietly quiet) = stays_turn f s step.last quiet.last
+last_by f s o step take (Takes buf op is) =
+    let g = take buf (sym (ap (λ (x : Step). next_act x.act) is)) in
+    subst (λ (x : Step). MakesTurn f s x.last) is (record { may = (buf, refl, g); fits = tt; placed = λ id e. absurd (cc) })
 
 stepped_lots : (d : DriverState) (n : ℕ) (lots : List Lot) (saw : Seen) (r : Result (Option Step) Refusal) → (stepped_to d n lots saw r).lots ≡ lots
 stepped_lots d n lots saw (Err r) = refl
@@ -61,14 +61,15 @@ stepped_plan d n lots saw (Ok None) = All-nil (IsPlanStep lots)
 same_here : (f : DriverConfig) (m : Held) (t : Turn) → t ≡ turns.Stay → changed f m (Turned t) ≡ m
 same_here f m t e = ap (λ u. changed f m (Turned u)) e
 
-stepped_call : (ram : ℕ) (d : DriverState) (s : Held) (o : Op) (n : ℕ) (saw : Seen) (step : Step) (r : Result (Option Step) Refusal) → IsNumbered d.fixed step → CanTake d.fixed s (next_act step.act) → IsCall ram d.fixed (here s d.lots) s.slots (stepped d o n saw (Ok (Some step)) r)
-stepped_call ram d s o n saw step r is take = record {
-  shape = Plainly (here s d.lots) (As refl) (Turns step.first step.last (step_answer d o saw r) (stays_turn d.fixed (here s d.lots) step.first is.first)
-      (subst (λ (m : Held). MakesTurn d.fixed m step.last) (sym (same_here d.fixed (here s d.lots) step.first is.first)) (last_by d.fixed (here s d.lots) step take is.last))
-      (inr (subst (λ (t : Turn). IsQuietTurn d.fixed d.lots t) (sym is.first) (record { ended = refl; pages = refl })))
-      (stepped_lots d n (lots_after_both step.first step.last d.lots) saw r) refl) refl;
-  plan = stepped_plan d n (lots_after_both step.first step.last d.lots) saw r;
-}
+stepped_call : (ram : ℕ) (d : DriverState) (s : Held) (o : Op) (n : ℕ) (saw : Seen) (step : Step) (r : Result (Option Step) Refusal) → Numbered d.fixed o step → CanTake d.fixed s (next_act step.act) → IsCall ram d.fixed (here s d.lots) s.slots (stepped d o n saw (Ok (Some step)) r)
+stepped_call ram d s o n saw step r is take =
+    let first = numbered_first d.fixed o step is in record {
+      shape = Plainly (here s d.lots) (As refl) (Turns step.first step.last (step_answer d o saw r) (stays_turn d.fixed (here s d.lots) step.first first)
+          (subst (λ (m : Held). MakesTurn d.fixed m step.last) (sym (same_here d.fixed (here s d.lots) step.first first)) (last_by d.fixed (here s d.lots) o step take is))
+          (inr (subst (λ (t : Turn). IsQuietTurn d.fixed d.lots t) (sym first) (record { ended = refl; pages = refl })))
+          (stepped_lots d n (lots_after_both step.first step.last d.lots) saw r) refl) refl;
+      plan = stepped_plan d n (lots_after_both step.first step.last d.lots) saw r;
+    }
 
 -- ---- a step of a plan
 
@@ -94,7 +95,7 @@ done_in_call : (ram harts : ℕ) (d : DriverState) (s : Held) (o : Op) (saw : Se
 done_in_call ram harts d s o saw (Steps n) h is plan take act =
     let k = next_step_is d o n act in
     subst (λ (r : Result (Option Step) Refusal). IsCall ram d.fixed (here s d.lots) s.slots (stepped d o (n + 1) saw r (step_at d.fixed d.lots o (n + 1)))) (sym k.1)
-    (stepped_call ram d s o (n + 1) saw k.0 (step_at d.fixed d.lots o (n + 1)) (step_turns d.fixed d.lots o n k.0 k.1) (takes_by (has_start o) k.0 (step_at d.fixed d.lots o n) k.1 act take))
+    (stepped_call ram d s o (n + 1) saw k.0 (step_at d.fixed d.lots o (n + 1)) (numbered d.fixed d.lots o n k.0 k.1) (takes_by (has_start o) k.0 (step_at d.fixed d.lots o n) k.1 act take))
   where
     takes_by : (t : Bool) (step : Step) (r : Result (Option Step) Refusal) → r ≡ Ok (Some step) → is_act (if t then nexts.Start else next_step r) ≡ true → CanTake d.fixed s (if t then nexts.Start else next_step r) → CanTake d.fixed s (next_act step.act)
     takes_by true step r e act take = absurd (false≢true act)

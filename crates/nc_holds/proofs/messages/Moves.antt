@@ -90,10 +90,10 @@ pub next_takes : (d : DriverState) (o : Op) (n : ℕ) (s : Step) (t : Bool) → 
 next_takes d o n s true e act = absurd (false≢true act)
 next_takes d o n s false e act = ap next_step e
 
-numbered_off : (d : DriverState) (s : Step) (x : ℕ) (next : Next) (k : Option Answer) → Numbered d.fixed s → next ≡ next_act s.act → AreOff x d.lots → TakesOther d next x → Spares x (turned d.fixed d.lots s.first s.last k).transfers
+numbered_off : (d : DriverState) (o : Op) (s : Step) (x : ℕ) (next : Next) (k : Option Answer) → Numbered d.fixed o s → next ≡ next_act s.act → AreOff x d.lots → TakesOther d next x → Spares x (turned d.fixed d.lots s.first s.last k).transfers
 unfolding turned_by
-numbered_off d s x next k (Quietly h) nx off takes = turned_off x d.fixed d.lots s.first s.last k (stay_of s.first h.first) (stay_of s.last h.last) off
-numbered_off d s x next k (Takes buf e) nx off takes =
+numbered_off d o s x next k (Quietly h) nx off takes = turned_off x d.fixed d.lots s.first s.last k (stay_of s.first h.first) (stay_of s.last h.last) off
+numbered_off d o s x next k (Takes buf op e) nx off takes =
     subst (λ (u : Step). Spares x (turned d.fixed d.lots u.first u.last k).transfers) e
     (All-cons (λ (u : Span × Owner). covers u.0 x ≡ false) (buffer_of d.fixed buf, owners.Thread d.fixed.me) [] (takes buf (nx ∙ ap (λ (u : Step). next_act u.act) (sym e))) (no_moves x))
 
@@ -106,7 +106,7 @@ done_in_off : (d : DriverState) (o : Op) (saw : Seen) (p : Phase) (x : ℕ) → 
 done_in_off d o saw (Steps n) x all e off takes =
     let s = next_step_is d o n e in
     subst (λ (r : Result (Option Step) Refusal). Spares x (stepped d o (n + 1) saw r (step_at d.fixed d.lots o (n + 1))).moves.transfers) (sym s.1)
-    (numbered_off d s.0 x (next_in d o (Steps n)) (step_answer d o saw (step_at d.fixed d.lots o (n + 1))) (numbered d.fixed d.lots o n s.0 s.1) (next_takes d o n s.0 (has_start o) s.1 e) off takes)
+    (numbered_off d o s.0 x (next_in d o (Steps n)) (step_answer d o saw (step_at d.fixed d.lots o (n + 1))) (numbered d.fixed d.lots o n s.0 s.1) (next_takes d o n s.0 (has_start o) s.1 e) off takes)
 done_in_off d o saw (Search n) x all e off takes = no_moves x
 done_in_off d o saw Work x all e off takes = worked_off d o saw d.rest x all off
 

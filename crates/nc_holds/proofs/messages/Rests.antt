@@ -82,9 +82,9 @@ pub went_rest : (d : DriverState) (lots : List Lot) (saw : Seen) (rest : List St
 went_rest d lots saw [] = refl
 went_rest d lots saw (s ∷ rest) = refl
 
-numbered_mail : (f : DriverConfig) (s : Step) (b : ℕ) → Numbered f s → is_mail_act b s.act ≡ false
-numbered_mail f s b (Quietly h) = h.act.mail b
-numbered_mail f s b (Takes buf e) = subst (λ (u : Step). is_mail_act b u.act ≡ false) e refl
+numbered_mail : (f : DriverConfig) (o : Op) (s : Step) (b : ℕ) → Numbered f o s → is_mail_act b s.act ≡ false
+numbered_mail f o s b (Quietly h) = h.act.mail b
+numbered_mail f o s b (Takes buf op e) = subst (λ (u : Step). is_mail_act b u.act ≡ false) e refl
 
 worked_mails : (d : DriverState) (o : Op) (saw : Seen) (rest : List Step) (b : ℕ) → d.rest ≡ rest → is_act (next_rest rest) ≡ true → MailsLeft b rest (worked d o saw rest).driver.rest (next_rest rest)
 worked_mails d o saw [] b e act = absurd (false≢true act)
@@ -98,7 +98,7 @@ worked_mails d o saw (s ∷ rest) b e act =
 done_in_mails : (d : DriverState) (o : Op) (saw : Seen) (p : Phase) (b : ℕ) → RestAt p d.rest → is_act (next_in d o p) ≡ true → MailsLeft b d.rest (done_in d o saw p).driver.rest (next_in d o p)
 done_in_mails d o saw (Steps n) b idle e =
     let s = next_step_is d o n e in
-    let off : mail_next b (next_in d o (Steps n)) ≡ false = ap (mail_next b) (next_takes d o n s.0 (has_start o) s.1 e) ∙ next_mail b s.0.act ∙ numbered_mail d.fixed s.0 b (numbered d.fixed d.lots o n s.0 s.1) in
+    let off : mail_next b (next_in d o (Steps n)) ≡ false = ap (mail_next b) (next_takes d o n s.0 (has_start o) s.1 e) ∙ next_mail b s.0.act ∙ numbered_mail d.fixed o s.0 b (numbered d.fixed d.lots o n s.0 s.1) in
     subst (λ (r : Result (Option Step) Refusal). MailsLeft b d.rest (stepped d o (n + 1) saw r (step_at d.fixed d.lots o (n + 1))).driver.rest (next_in d o (Steps n))) (sym s.1)
     (none_left b d.rest _ (next_in d o (Steps n)) idle (stepped_rest d (n + 1) _ saw (step_at d.fixed d.lots o (n + 1))) off)
 done_in_mails d o saw (Search n) b idle e = absurd (false≢true e)

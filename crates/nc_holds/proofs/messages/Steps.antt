@@ -20,6 +20,7 @@ use Rattle.nc_rules.specs.declared.answers.Refusal.{Refusal}
 use Rattle.nc_rules.specs.declared.lots.Lot.{Lot}
 use Rattle.nc_rules.specs.declared.steps.Act.TheVariants as acts
 use Rattle.nc_rules.specs.declared.steps.Step.{Step}
+use Rattle.nc_rules.specs.declared.steps.Turn.TheVariants as turns
 use Rattle.nc_rules.specs.Lots.{DriverConfig}
 use Rattle.nc_rules.specs.Refusals.{◌>>=◌, buffer_of, part_of, legal}
 use Rattle.nc_rules.specs.Plans.{step, hart_step, single, control_step}
@@ -40,9 +41,15 @@ use Rattle.nc_scripts.proofs.DriverSteps.{passed}
 use Rattle.nc_holds.proofs.tokens.QuietSteps.{IsQuiet, IsQuietOp, op_quiet}
 use Rattle.nc_holds.proofs.tokens.Rests.{IsStay}
 
-pub data Numbered (f : DriverConfig) (s : Step) : Type 0 where
-  Quietly : IsQuiet IsStay s → Numbered f s
-  Takes : (buf : ℕ) → take_step f buf ≡ s → Numbered f s
+-- it is quiet, or it is the step of a take
+pub data Numbered (f : DriverConfig) (o : Op) (s : Step) : Type 0 where
+  Quietly : IsQuiet IsStay s → Numbered f o s
+  Takes : (buf : ℕ) → o ≡ ops.Take buf → take_step f buf ≡ s → Numbered f o s
+
+-- no such step turns anything at its beginning
+pub numbered_first : (f : DriverConfig) (o : Op) (s : Step) → Numbered f o s → s.first ≡ turns.Stay
+numbered_first f o s (Quietly h) = h.first
+numbered_first f o s (Takes buf op e) = subst (λ (u : Step). u.first ≡ turns.Stay) e refl
 
 -- ---- forms
 
@@ -53,8 +60,8 @@ one_step : (s t : Step) (n : ℕ) → ◌≡◌ {A = Result (Option Step) Refusa
 one_step s t zero e = cc
 one_step s t (suc n) e = absurd cc
 
-single_quiet : (f : DriverConfig) (s t : Step) (n : ℕ) → IsQuiet IsStay s → ◌≡◌ {A = Result (Option Step) Refusal} (Ok (single s n)) (Ok (Some t)) → Numbered f t
-single_quiet f s t n h e = Quietly (same_quiet s t h (one_step s t n e))
+single_quiet : (f : DriverConfig) (o : Op) (s t : Step) (n : ℕ) → IsQuiet IsStay s → ◌≡◌ {A = Result (Option Step) Refusal} (Ok (single s n)) (Ok (Some t)) → Numbered f o t
+single_quiet f o s t n h e = Quietly (same_quiet s t h (one_step s t n e))
 
 op_stays : (op : HartOp) → IsQuietOp op → IsQuiet IsStay (hart_step op)
 op_stays op h = op_quiet IsStay op refl h
@@ -98,12 +105,9 @@ regs_quiet chan from to len cfg (suc (suc zero)) s e = same_quiet _ s (reg_stays
 regs_quiet chan from to len cfg (suc (suc (suc zero))) s e = same_quiet _ s (reg_stays chan 0x018 8 from) (cc)
 regs_quiet chan from to len cfg (suc (suc (suc (suc n)))) s e = absurd (cc)
 
-none : {X : Type 0} (s : Step) → ◌≡◌ {A = Result (Option Step) Refusal} (Ok None) (Ok (Some s)) → X
-none s e = absurd (cc)
-
 -- ---- every operation
 
-pub numbered : (f : DriverConfig) (lots : List Lot) (o : Op) (n : ℕ) (s : Step) → step_at f lots o n ≡ Ok (Some s) → Numbered f s
+pub numbered : (f : DriverConfig) (lots : List Lot) (o : Op) (n : ℕ) (s : Step) → step_at f lots o n ≡ Ok (Some s) → Numbered f o s
 unfolding step_at meaning accesses.load accesses.store cache_ops.cache_operation cache_ops.fence handing.take handing.hand channels.claim channels.free channels.set_up channels.run channels.poll channels.read_register channels.write_register mappings.map_single mappings.unmap_single mappings.sync_for_cpu mappings.sync_for_device lists.map_sg lists.unmap_sg areas.calloc areas.give_area areas.take_area areas.free_area copies.copy
 numbered f lots (ops.Ld spot off len) n s e =
     let p = passed (spot_at f lots spot off len) (λ to. piece_step (load_step to f.pbmte f.table len n)) (Some s) e in
@@ -115,31 +119,20 @@ numbered f lots (ops.Cbo op buf off) n s e =
     let p = passed (part_of (buffer_of f buf) off 1) (λ byte. legal (effect_of f.effects op) >>= λ effect. Ok (option_map (cbo_step effect) (slice_get (cbo_blocks f op byte.at) n))) (Some s) e in
     let q = passed (legal (effect_of f.effects op)) (λ effect. Ok (option_map (cbo_step effect) (slice_get (cbo_blocks f op p.value.at) n))) (Some s) p.rest in
     Quietly (cbo_quiet f q.value (slice_get (cbo_blocks f op p.value.at) n) s q.rest)
-numbered f lots (ops.Fence pred succ) n s e = single_quiet f (hart_step (hart.Fence pred succ)) s n (op_stays (hart.Fence pred succ) (record { mail = λ b. refl; token = refl })) e
-numbered f lots (ops.Take buf) n s e = Takes buf (one_step (take_step f buf) s n e)
-numbered f lots (ops.Claim chan) n s e = single_quiet f (step (acts.Claim chan)) s n (record { act = record { mail = λ b. refl; token = refl }; first = refl; last = refl }) e
-numbered f lots (ops.Free chan) n s e = single_quiet f (control_step chan 0) s n (reg_stays chan 0 4 0) e
+numbered f lots (ops.Fence pred succ) n s e = single_quiet f _ (hart_step (hart.Fence pred succ)) s n (op_stays (hart.Fence pred succ) (record { mail = λ b. refl; token = refl })) e
+numbered f lots (ops.Take buf) n s e = Takes buf refl (one_step (take_step f buf) s n e)
+numbered f lots (ops.Claim chan) n s e = single_quiet f _ (step (acts.Claim chan)) s n (record { act = record { mail = λ b. refl; token = refl }; first = refl; last = refl }) e
+numbered f lots (ops.Free chan) n s e = single_quiet f _ (control_step chan 0) s n (reg_stays chan 0 4 0) e
 numbered f lots (ops.Regs chan src dst len cfg) n s e =
     let p = passed (bus_of f lots src) (λ source. bus_of f lots dst >>= λ target. Ok (option_map hart_step (registers.regs_step chan source target len cfg n))) (Some s) e in
     let q = passed (bus_of f lots dst) (λ target. Ok (option_map hart_step (registers.regs_step chan p.value target len cfg n))) (Some s) p.rest in
     Quietly (regs_quiet chan p.value q.value len cfg n s q.rest)
-numbered f lots (ops.Run chan) n s e = single_quiet f (control_step chan 3) s n (reg_stays chan 0 4 3) e
-numbered f lots (ops.Poll chan) n s e = single_quiet f (step (acts.Poll chan)) s n (record { act = record { mail = λ b. refl; token = refl }; first = refl; last = refl }) e
+numbered f lots (ops.Run chan) n s e = single_quiet f _ (control_step chan 3) s n (reg_stays chan 0 4 3) e
+numbered f lots (ops.Poll chan) n s e = single_quiet f _ (step (acts.Poll chan)) s n (record { act = record { mail = λ b. refl; token = refl }; first = refl; last = refl }) e
 numbered f lots (ops.Regr chan off width) n s e =
     let p = passed (known off width) (λ _. Ok (single (hart_step (hart.IoLoad chan off width)) n)) (Some s) e in
-    single_quiet f (hart_step (hart.IoLoad chan off width)) s n (op_stays (hart.IoLoad chan off width) (record { mail = λ b. refl; token = refl })) p.rest
+    single_quiet f _ (hart_step (hart.IoLoad chan off width)) s n (op_stays (hart.IoLoad chan off width) (record { mail = λ b. refl; token = refl })) p.rest
 numbered f lots (ops.Regw chan off width value) n s e =
     let p = passed (known off width) (λ _. Ok (single (hart_step (hart.IoStore (io.Reg chan off width value))) n)) (Some s) e in
-    single_quiet f (hart_step (hart.IoStore (io.Reg chan off width value))) s n (reg_stays chan off width value) p.rest
-numbered f lots (ops.Hand buf to) n s e = none s e
-numbered f lots (ops.Map label buf off len dir chan) n s e = none s e
-numbered f lots (ops.Unmap label) n s e = none s e
-numbered f lots (ops.ToCpu label) n s e = none s e
-numbered f lots (ops.ToDev label) n s e = none s e
-numbered f lots (ops.MapSg label entries dir chan) n s e = none s e
-numbered f lots (ops.UnmapSg label count) n s e = none s e
-numbered f lots (ops.Calloc label pages chan) n s e = none s e
-numbered f lots (ops.Cgive label) n s e = none s e
-numbered f lots (ops.Ctake label) n s e = none s e
-numbered f lots (ops.Cfree label) n s e = none s e
-numbered f lots (ops.Copy chan src src_off dst dst_off len cfg) n s e = none s e
+    single_quiet f _ (hart_step (hart.IoStore (io.Reg chan off width value))) s n (reg_stays chan off width value) p.rest
+numbered f lots _ n s e = absurd cc

@@ -75,13 +75,13 @@ none_some i e = absurd cc
 
 -- ---- by number
 
-both_still : (f : DriverConfig) (s : Step) (lots : List Lot) → Numbered f s → lots_after_both s.first s.last lots ≡ lots
-both_still f s lots (Quietly h) = ap (λ (t : Turn). lots_after_both t s.last lots) h.first ∙ ap (λ (t : Turn). lots_after t lots) h.last
-both_still f s lots (Takes buf e) = subst (λ (u : Step). lots_after_both u.first u.last lots ≡ lots) e refl
+both_still : (f : DriverConfig) (o : Op) (s : Step) (lots : List Lot) → Numbered f o s → lots_after_both s.first s.last lots ≡ lots
+both_still f o s lots (Quietly h) = ap (λ (t : Turn). lots_after_both t s.last lots) h.first ∙ ap (λ (t : Turn). lots_after t lots) h.last
+both_still f o s lots (Takes buf op e) = subst (λ (u : Step). lots_after_both u.first u.last lots ≡ lots) e refl
 
-pub numbered_token : (f : DriverConfig) (s : Step) → Numbered f s → token_act s.act ≡ None
-numbered_token f s (Quietly h) = h.act.token
-numbered_token f s (Takes buf e) = subst (λ (u : Step). token_act u.act ≡ None) e refl
+pub numbered_token : (f : DriverConfig) (o : Op) (s : Step) → Numbered f o s → token_act s.act ≡ None
+numbered_token f o s (Quietly h) = h.act.token
+numbered_token f o s (Takes buf op e) = subst (λ (u : Step). token_act u.act ≡ None) e refl
 
 stepped_to_leaves : (P : LotId → Type 0) (N : Type 0) (d : DriverState) (n : ℕ) (lots : List Lot) (saw : Seen) (r : Result (Option Step) Refusal) → AllLent P lots → Leaves P N (stepped_to d n lots saw r)
 stepped_to_leaves P N d n lots saw (Err r) lent = counted_leaves P N d n lots saw lent
@@ -91,13 +91,13 @@ stepped_to_leaves P N d n lots saw (Ok None) lent = over_leaves P N d lots lent
 pub step_token : (d : DriverState) (o : Op) (n : ℕ) (s : Step) (t : Bool) → step_at d.fixed d.lots o n ≡ Ok (Some s) → token_next (if t then nexts.Start else next_step (step_at d.fixed d.lots o n)) ≡ None
 step_token d o n s true e = refl
 step_token d o n s false e =
-    ap (λ (r : Result (Option Step) Refusal). token_next (next_step r)) e ∙ next_token s.act ∙ numbered_token d.fixed s (numbered d.fixed d.lots o n s e)
+    ap (λ (r : Result (Option Step) Refusal). token_next (next_step r)) e ∙ next_token s.act ∙ numbered_token d.fixed o s (numbered d.fixed d.lots o n s e)
 
 stepped_leaves : (P : LotId → Type 0) (N : Type 0) (d : DriverState) (o : Op) (n : ℕ) (saw : Seen) (s : Step) (r : Result (Option Step) Refusal) → step_at d.fixed d.lots o n ≡ Ok (Some s) → ((i : LotId) → P i → QueuedBy d (next_in d o (Steps n)) i)
     → Leaves P N (stepped d o (n + 1) saw (Ok (Some s)) r).driver
 stepped_leaves P N d o n saw s r e queued =
     stepped_to_leaves P N d (n + 1) (lots_after_both s.first s.last d.lots) saw r
-    (λ i has. subst (λ (ls : List Lot). HasLent ls i) (sym (both_still d.fixed s d.lots (numbered d.fixed d.lots o n s e))) (elim (queued i has) [
+    (λ i has. subst (λ (ls : List Lot). HasLent ls i) (sym (both_still d.fixed o s d.lots (numbered d.fixed d.lots o n s e))) (elim (queued i has) [
       | inl before ↦ stays_has i d.lots d.rest before.0
       | inr new ↦ absurd (none_some i (sym (step_token d o n s (has_start o) e) ∙ new))
     ]))
