@@ -22,7 +22,7 @@ pub struct Counts {
     pub buffers: u8,
 }
 
-/// What a load or a store names, by its text.
+/// Reads what a load or a store names from its text.
 pub fn spot_text(value: &Value) -> Result<SpotText, Wrong>
     ensures { result ≡ spot_of (view value.now) }
 {
@@ -32,7 +32,7 @@ pub fn spot_text(value: &Value) -> Result<SpotText, Wrong>
     }
 }
 
-/// What a load or a store names, where there are so many buffers.
+/// Checks what a load or a store names against the number of buffers.
 pub fn spot_there(spot: SpotText, buffers: u8) -> Result<Spot, Wrong>
     ensures value { result ≡ spot_there buffers spot }
     ensures fits { IfOk result (FitsSpot buffers) }
@@ -44,7 +44,7 @@ pub fn spot_there(spot: SpotText, buffers: u8) -> Result<Spot, Wrong>
     }
 }
 
-/// An address of a channel, by its number or text.
+/// Reads an address of a channel from a number or a text.
 pub fn bus_text(value: &Value) -> Result<BusText, Wrong>
     ensures { result ≡ bus_of (view value.now) }
 {
@@ -57,7 +57,7 @@ pub fn bus_text(value: &Value) -> Result<BusText, Wrong>
     }
 }
 
-/// An address of a channel, within the limits of labels and segments.
+/// Checks an address of a channel against the limits of labels and segments.
 pub fn bus_there(bus: BusText) -> Result<BusArg, Wrong>
     ensures value { result ≡ bus_there bus }
     ensures fits { IfOk result FitsBus }
@@ -73,7 +73,7 @@ pub fn bus_there(bus: BusText) -> Result<BusArg, Wrong>
     }
 }
 
-/// The bytes of a hexadecimal text.
+/// Decodes the bytes of a hexadecimal text.
 pub fn hex_bytes(alloc: Global, value: &Value) -> Result<HexBytes, OpFault>
     ensures gives { GivesOp (λ b. b) result (hex_of (view value.now)) }
     ensures bytes { IfOk result (λ b. All (λ x. x < 256) b) }
@@ -85,7 +85,7 @@ pub fn hex_bytes(alloc: Global, value: &Value) -> Result<HexBytes, OpFault>
     }
 }
 
-/// At most 4,096 bytes.
+/// Checks that there are at most 4,096 bytes.
 pub fn few_bytes(bytes: HexBytes) -> Result<HexBytes, Wrong>
     ensures value { result ≡ few_bytes bytes }
     ensures few { IfOk result (λ b. length b ≤ 4096) }
@@ -123,7 +123,7 @@ fn entry(value: &Value, buffers: u8) -> Result<SgEntry, Wrong>
     Ok(SgEntry { buf, off, len })
 }
 
-/// That each value has the shape of an entry.
+/// Checks that each value has the shape of a scatter list's entry.
 pub fn check_entries(items: &[Value]) -> Result<(), Wrong>
     ensures { result ≡ check_each (λ i d. entry_numbers d) 0 (items_view items.now) }
 {
@@ -147,7 +147,7 @@ fn entries(alloc: Global, items: &[Value], buffers: u8) -> Result<SgEntries, OpF
     Ok(SgEntries::new(read))
 }
 
-/// The entries of a scatter list, of which there are at most 16.
+/// Reads the entries of a scatter list, of which there are at most 16.
 #[tactic(auto, using(nc_values::proofs::Items::items_len_view))]
 pub fn few_entries(alloc: Global, items: &[Value], buffers: u8) -> Result<SgEntries, OpFault>
     ensures gives { GivesOp (λ e. e) result (few_entries buffers (items_view items.now)) }

@@ -428,7 +428,7 @@ fn read_named(alloc: Global, counts: Counts, name: &str, arguments: &[Value]) ->
     }
 }
 
-/// The operation that a value is, in a scenario with so many harts and buffers.
+/// Reads the operation that a value is, in a scenario of so many harts and buffers (this project's own format).
 #[tactic(auto, unfolding(crate::specs::Operations::op_of))]
 pub fn read_op(alloc: Global, counts: Counts, value: &Value) -> Result<Op, OpFault>
     ensures gives { GivesOp (λ o. o) result (op_of counts (view value.now)) }

@@ -58,14 +58,14 @@ impl Model for SgEntries {
 }
 
 impl SgEntries {
-    /// These entries.
+    /// Makes a list of these entries.
     pub fn new(items: Vec<SgEntry>) -> SgEntries
         ensures { result ≡ items.items }
     {
         SgEntries { items }
     }
 
-    /// The entries, in order.
+    /// Returns the entries, in order.
     pub fn as_slice(&self) -> &[SgEntry]
         ensures { result.now ≡ self.now }
     {
@@ -88,7 +88,7 @@ impl Model for HexBytes {
 }
 
 impl HexBytes {
-    /// These bytes.
+    /// Makes a list of these bytes.
     pub fn new(items: Vec<u8>) -> HexBytes
         ensures value { result ≡ items.items }
         ensures bytes { All (λ b. b < 256) items.items }
@@ -96,7 +96,7 @@ impl HexBytes {
         HexBytes { items }
     }
 
-    /// The bytes, in order.
+    /// Returns the bytes, in order.
     pub fn as_slice(&self) -> &[u8]
         ensures { result.now ≡ self.now }
     {
@@ -289,14 +289,14 @@ impl Model for Ops {
 }
 
 impl Ops {
-    /// These operations.
+    /// Makes a list of these operations.
     pub fn new(items: Vec<Op>) -> Ops
         ensures { result ≡ items.items }
     {
         Ops { items }
     }
 
-    /// The operations, in order.
+    /// Returns the operations, in order.
     pub fn as_slice(&self) -> &[Op]
         ensures { result.now ≡ self.now }
     {

@@ -42,7 +42,7 @@ fn point_at(text: &[u8]) -> usize
     text.len()
 }
 
-/// `bN`, `cL` or `v`.
+/// Parses `bN` (a buffer), `cL` (the area of a label) or `v` (a virtual address).
 pub fn spot_in(text: &[u8]) -> Option<SpotText>
     ensures { result ≡ spot_in text.now }
 {
@@ -76,7 +76,7 @@ fn mapping_in(text: &[u8]) -> Option<BusText>
     }
 }
 
-/// `mL`, `mL.S` or `cL`.
+/// Parses `mL` (the mapping of a label), `mL.S` (one of its segments) or `cL` (the area of a label).
 pub fn bus_in(text: &[u8]) -> Option<BusText>
     ensures { result ≡ bus_in text.now }
 {

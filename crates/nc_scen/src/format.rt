@@ -107,7 +107,7 @@ fn new_format(alloc: Global, value: &Value) -> Result<Format, ScenFault>
     })
 }
 
-/// The version of a scenario, with the sizes of blocks and the kind of fences.
+/// Reads the version of a scenario, with the sizes of blocks in bytes and the kind of fences.
 #[tactic(auto, unfolding(crate::specs::Parts::format_of))]
 pub fn read_format(alloc: Global, value: &Value) -> Result<Format, ScenFault>
     ensures gives { Gives (λ f. f) result (format_of (view value.now)) }

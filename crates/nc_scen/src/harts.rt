@@ -66,7 +66,7 @@ fn check_hart(alloc: Global, value: &Value, i: usize) -> Result<(), ScenFault>
     Ok(())
 }
 
-/// That each value is a hart, whose operations are not looked at.
+/// Checks that each value has the shape of a hart, whose operations are not looked at.
 pub fn check_harts(alloc: Global, items: &[Value]) -> Result<(), ScenFault>
     ensures { Gives (λ u. u) result (check_each hart_checked 0 (items_view items.now)) }
 {
@@ -164,7 +164,7 @@ fn read_hart_at(
     read_hart(alloc, counts, value, &path)
 }
 
-/// The harts with their operations.
+/// Reads the harts with their operations.
 pub fn read_harts(
     alloc: Global,
     counts: Counts,

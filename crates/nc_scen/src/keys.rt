@@ -27,7 +27,7 @@ pub enum Keys {
 }
 
 impl Keys {
-    /// Whether the object may have a key.
+    /// Returns whether the object may have a key.
     pub fn knows(self, key: &str) -> bool
         ensures { result ≡ knows self key.now }
     {
@@ -76,7 +76,7 @@ fn first_unknown(members: &Map<String, Value>, keys: Keys) -> Option<&str>
     None
 }
 
-/// That a value is an object with no other keys than the known ones.
+/// Checks that a value is an object with no other keys than the known ones.
 pub fn check_keys(alloc: Global, value: &Value, keys: Keys, path: &Path) -> Result<(), ScenFault>
     ensures { Gives (λ u. u) result (keyed keys path.now (view value.now)) }
 {

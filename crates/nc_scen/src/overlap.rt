@@ -33,7 +33,7 @@ fn first_meeting(r: &Span, j: usize, others: &[Span]) -> Option<usize>
     None
 }
 
-/// The least pair of regions that meet.
+/// Returns the least pair of indices of regions that share a byte; None where no two do.
 pub fn first_overlap(regions: &[Span]) -> Option<(usize, usize)>
     requires { length regions.now < 2 ^ 31 }
     ensures value { result ≡ first_overlap 0 regions.now }
@@ -48,7 +48,7 @@ pub fn first_overlap(regions: &[Span]) -> Option<(usize, usize)>
     None
 }
 
-/// The regions by their numbers: the buffers, the slots and the pool.
+/// Returns the regions in the order of their indices: the buffers, the slots and the pool.
 pub fn regions(
     alloc: Global,
     buffers: &[BufferSpec],

@@ -197,8 +197,8 @@ fn read_scenario(alloc: Global, value: &Value) -> Result<Scenario, ScenFault>
     })
 }
 
-/// The scenario that the bytes are, or the first refusal: of length, JSON, keys, values, regions, operations and
-/// tokens, in this order.
+/// Reads the scenario that the bytes are, or returns the first refusal: of length, JSON, keys, values, regions,
+/// operations and tokens, in this order.
 ///
 /// # Errors
 ///

@@ -33,7 +33,7 @@ fn ram_field(value: &Value) -> Result<u32, Wrong>
     }
 }
 
-/// The bytes of RAM.
+/// Reads the size of RAM in bytes.
 pub fn read_ram(alloc: Global, value: &Value) -> Result<u32, ScenFault>
     ensures gives { Gives (λ n. n) result (ram_of (view value.now)) }
     ensures whole { IfOk result (λ n. n % 4096 ≡ 0) }
@@ -67,7 +67,7 @@ fn read_word_list(alloc: Global, ram: u32, items: &[Value]) -> Result<Vec<u64>, 
     Ok(words)
 }
 
-/// The words of the page table, none where nothing is said.
+/// Reads the words of the page table; none where the key is absent.
 pub fn read_words(alloc: Global, ram: u32, value: Option<&Value>) -> Result<Vec<u64>, ScenFault>
     ensures gives { Gives (λ v. v.items) result (words_or_none ram (option_map (λ v. view v.now) value.entry)) }
     ensures valid { IfOk result (λ v. All (IsPteWord ram) v.items) }
@@ -144,7 +144,7 @@ fn read_buffer_at(
     read_buffer(alloc, ram, harts, value, &path)
 }
 
-/// The buffers, in a RAM of so many bytes, of so many harts.
+/// Reads the buffers, which lie in a RAM of so many bytes and belong to one of so many harts.
 pub fn read_buffers(
     alloc: Global,
     ram: u32,
@@ -200,7 +200,7 @@ impl RegionKind {
         }
     }
 
-    /// The bytes of a slot or of a page.
+    /// Returns the size of a slot or of a page in bytes.
     pub fn unit(self) -> u32
         ensures { result ≡ unit_of self }
     {
@@ -270,7 +270,7 @@ fn read_region(
     })
 }
 
-/// The slots or the pool, none where nothing is said.
+/// Reads the slots or the pool; an empty region where the key is absent.
 pub fn region_or_none(
     alloc: Global,
     kind: RegionKind,
@@ -298,7 +298,7 @@ fn end_of(kind: RegionKind, r: Region, ram: u32) -> u32
     }
 }
 
-/// The least reach of a channel, where the slots and the pool lie so.
+/// Returns the least reach of a channel, in bytes, where the slots and the pool lie so.
 pub fn least_reach(slots: Region, pool: Region, ram: u32) -> u32
     requires slots_fit { FitsRegion RegionKind.Slots ram slots }
     requires pool_fits { FitsRegion RegionKind.Pool ram pool }
@@ -348,7 +348,7 @@ fn reach_items(alloc: Global, least: u32, ram: u32, items: &[Value]) -> Result<[
     }
 }
 
-/// The reach of each channel, of at least so many bytes; all of RAM where nothing is said.
+/// Reads the reach of each channel, at least so many bytes; all of RAM where the key is absent.
 pub fn read_reach(
     alloc: Global,
     least: u32,

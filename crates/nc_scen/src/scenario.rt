@@ -53,14 +53,14 @@ impl Model for HartSpecs {
 }
 
 impl HartSpecs {
-    /// These harts.
+    /// Makes a list of these harts.
     pub fn new(items: Vec<HartSpec>) -> HartSpecs
         ensures { result ≡ items.items }
     {
         HartSpecs { items }
     }
 
-    /// The harts, in order.
+    /// Returns the harts, in order.
     pub fn as_slice(&self) -> &[HartSpec]
         ensures { result.now ≡ self.now }
     {
@@ -84,14 +84,14 @@ impl Model for BufferSpecs {
 }
 
 impl BufferSpecs {
-    /// These buffers.
+    /// Makes a list of these buffers.
     pub fn new(items: Vec<BufferSpec>) -> BufferSpecs
         ensures { result ≡ items.items }
     {
         BufferSpecs { items }
     }
 
-    /// The buffers, in order.
+    /// Returns the buffers, in order.
     pub fn as_slice(&self) -> &[BufferSpec]
         ensures { result.now ≡ self.now }
     {
@@ -114,14 +114,14 @@ impl Model for Words {
 }
 
 impl Words {
-    /// These words.
+    /// Makes a list of these words.
     pub fn new(items: Vec<u64>) -> Words
         ensures { result ≡ items.items }
     {
         Words { items }
     }
 
-    /// The words, in order.
+    /// Returns the words, in order.
     pub fn as_slice(&self) -> &[u64]
         ensures { result.now ≡ self.now }
     {
@@ -145,14 +145,14 @@ impl Model for Events {
 }
 
 impl Events {
-    /// These events.
+    /// Makes a list of these events.
     pub fn new(items: Vec<Event>) -> Events
         ensures { result ≡ items.items }
     {
         Events { items }
     }
 
-    /// The events, in order.
+    /// Returns the events, in order.
     pub fn as_slice(&self) -> &[Event]
         ensures { result.now ≡ self.now }
     {
@@ -212,7 +212,7 @@ pub struct Scenario {
 }
 
 impl Scenario {
-    /// The range of the coherent pool, which is empty where it has no pages.
+    /// Returns the range of the coherent pool, which is empty where it has no pages.
     pub fn pool(&self) -> Span
         requires { IsAccepted self.now }
         ensures { result ≡ pool_of self.now }

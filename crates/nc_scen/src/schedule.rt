@@ -131,14 +131,14 @@ fn read_plan(alloc: Global, harts: u8, blocks: u32, value: &Value) -> Result<Pla
     Ok(Plan::List(Events::new(events)))
 }
 
-/// That the scenario has a seeded schedule, or a list of texts.
+/// Checks that the scenario has a seeded schedule, or a list of texts.
 pub fn check_schedule(alloc: Global, value: &Value) -> Result<(), ScenFault>
     ensures { Gives (λ u. u) result (schedule_checked (view value.now)) }
 {
     check_plan(alloc, schedule_at(alloc, value)?)
 }
 
-/// The schedule of the scenario, in a machine of so many harts and blocks.
+/// Reads the schedule of the scenario, in a machine of so many harts and blocks.
 pub fn read_schedule(
     alloc: Global,
     harts: u8,

@@ -46,7 +46,7 @@ fn long_token(c: u8, n: u8, text: &[u8], harts: u8, blocks: u32) -> Option<Event
     }
 }
 
-/// The event of a token, in a machine of so many harts and blocks.
+/// Parses the token of an event, in a machine of so many harts and blocks.
 pub fn token_in(text: &[u8], harts: u8, blocks: u32) -> Option<Event>
     requires { harts ≤ 4 }
     ensures value { result ≡ token_in harts blocks text.now }

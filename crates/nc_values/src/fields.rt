@@ -15,7 +15,7 @@ use nc_env::Mode;
 use serde_json::Value;
 use std::alloc::Global;
 
-/// The value of a key that must be there.
+/// Returns the value of a required key.
 pub fn field<'a>(object: &'a Value, key: &str) -> Result<&'a Value, Wrong>
     ensures { MatchResult result (λ v. shaped (get key.now (view object.now)) ≡ Ok (view v.now)) (λ e. shaped (get key.now (view object.now)) ≡ Err e) }
 {
@@ -25,7 +25,7 @@ pub fn field<'a>(object: &'a Value, key: &str) -> Result<&'a Value, Wrong>
     }
 }
 
-/// A value, or what is wrong at its path.
+/// Returns a value, or the refusal of what is wrong with it at its path.
 pub fn placed<T: Drop>(
     alloc: Global,
     read: Result<T, Wrong>,
@@ -46,7 +46,7 @@ fn number_field(object: &Value, key: &str) -> Result<u64, Wrong>
     number(field(object, key)?)
 }
 
-/// A number that must be there.
+/// Reads the number of a required key.
 pub fn number_at(alloc: Global, object: &Value, path: &Path, key: &str) -> Result<u64, ScenFault>
     ensures { Gives (λ n. n) result (number_at path.now key.now (view object.now)) }
 {
@@ -60,7 +60,7 @@ fn number_to_field(object: &Value, key: &str, top: u64) -> Result<u64, Wrong>
     most(number_field(object, key)?, top)
 }
 
-/// A number of at most this that must be there.
+/// Reads the number of a required key, which is at most `most`.
 pub fn number_to_at(
     alloc: Global,
     object: &Value,
@@ -81,7 +81,7 @@ fn below_field(object: &Value, key: &str, bound: u8) -> Result<u8, Wrong>
     below(number_field(object, key)?, bound)
 }
 
-/// A number below this that must be there.
+/// Reads the number of a required key, which is below `bound`.
 pub fn below_at(
     alloc: Global,
     object: &Value,
@@ -101,7 +101,7 @@ fn mode_field(object: &Value, key: &str) -> Result<Mode, Wrong>
     mode(field(object, key)?)
 }
 
-/// A privilege mode that must be there.
+/// Reads the privilege mode of a required key.
 pub fn mode_at(alloc: Global, object: &Value, path: &Path, key: &str) -> Result<Mode, ScenFault>
     ensures { Gives (λ m. m) result (field mode_of path.now key.now (view object.now)) }
 {
@@ -115,7 +115,7 @@ fn register_field(object: &Value, key: &str) -> Result<u64, Wrong>
     register(field(object, key)?)
 }
 
-/// An environment register that must be there.
+/// Reads the environment register of a required key (RISC-V CMO 1.0).
 pub fn register_at(alloc: Global, object: &Value, path: &Path, key: &str) -> Result<u64, ScenFault>
     ensures gives { Gives (λ n. n) result (field register_of path.now key.now (view object.now)) }
     ensures known { IfOk result IsEnvcfg }
@@ -123,7 +123,7 @@ pub fn register_at(alloc: Global, object: &Value, path: &Path, key: &str) -> Res
     placed(alloc, register_field(object, key), path, key)
 }
 
-/// A list of so many values.
+/// Checks that a list has so many values.
 #[tactic(auto, using(crate::proofs::Items::items_len_view))]
 pub fn sized(value: &Value, least: usize, top: usize) -> Result<&Vec<Value>, Wrong>
     ensures value { MatchResult result (λ v. sized_of least top (view value.now) ≡ Ok (items_view v.now.items)) (λ e. sized_of least top (view value.now) ≡ Err e) }
@@ -138,7 +138,7 @@ pub fn sized(value: &Value, least: usize, top: usize) -> Result<&Vec<Value>, Wro
     }
 }
 
-/// A list of so many values that must be there.
+/// Returns the list of a required key, which has so many values.
 pub fn list_at<'a>(
     alloc: Global,
     object: &'a Value,

@@ -8,7 +8,7 @@ use crate::refused::{Refused, ScenFault};
 use serde_json::{Category, Value};
 use std::alloc::Global;
 
-/// What serde_json reads.
+/// Parses bytes as JSON by `serde_json`.
 pub fn value_of(alloc: Global, bytes: &[u8]) -> Result<Value, ScenFault>
     ensures { Gives (λ v. view v) result (json_value (json_of bytes.now)) }
 {

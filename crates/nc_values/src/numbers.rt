@@ -17,7 +17,7 @@ fn number_from(text: &[u8]) -> Option<u64>
     Some(n)
 }
 
-/// A decimal number without leading zeros.
+/// Parses a decimal number without leading zeros.
 pub fn number_in(text: &[u8]) -> Option<u64>
     ensures { result ≡ number_in text.now }
 {
@@ -28,7 +28,7 @@ pub fn number_in(text: &[u8]) -> Option<u64>
     }
 }
 
-/// A decimal number below this.
+/// Parses a decimal number without leading zeros, below a bound.
 pub fn number_below(text: &[u8], bound: u64) -> Option<u64>
     ensures value { result ≡ number_below bound text.now }
     ensures below { IfSome result (λ n. n < bound) }
@@ -39,7 +39,7 @@ pub fn number_below(text: &[u8], bound: u64) -> Option<u64>
     }
 }
 
-/// A number of one digit, below a bound of at most ten.
+/// Parses a number of one digit, below a bound of at most ten.
 pub fn digit_below(c: u8, bound: u8) -> Option<u8>
     requires { bound ≤ 10 }
     ensures value { result ≡ digit_below bound c }

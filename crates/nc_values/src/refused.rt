@@ -22,14 +22,14 @@ impl Model for Path {
 }
 
 impl Path {
-    /// The path of this text.
+    /// Makes the path of this text.
     pub fn new(text: String) -> Path
         ensures { result ≡ string_bytes text }
     {
         Path { text }
     }
 
-    /// The path of the whole, under which keys stand alone.
+    /// Makes the path of the whole input, under which a key stands alone.
     pub fn root(alloc: Global) -> Path
         ensures { result ≡ [] }
     {
@@ -38,7 +38,7 @@ impl Path {
         }
     }
 
-    /// The path of a key.
+    /// Makes the path of a key of the whole input.
     pub fn of(alloc: Global, key: &str) -> Result<Path, AllocError>
         ensures { IfOk result (λ p. p ≡ key.now) }
     {
@@ -47,7 +47,7 @@ impl Path {
         })
     }
 
-    /// The path of a key under this one.
+    /// Makes the path of a key under this path.
     pub fn under(&self, alloc: Global, key: &str) -> Result<Path, AllocError>
         ensures { IfOk result (λ p. p ≡ under self.now key.now) }
     {
@@ -60,7 +60,7 @@ impl Path {
         })
     }
 
-    /// The path of a position, from 0, under this one.
+    /// Makes the path of an index, from 0, under this path.
     pub fn position(&self, alloc: Global, i: usize) -> Result<Path, AllocError>
         ensures { IfOk result (λ p. p ≡ at_position self.now i) }
     {
@@ -75,7 +75,7 @@ impl Path {
         })
     }
 
-    /// This path as it is told: one point for the whole.
+    /// Returns this path as a refusal shows it: one point for the whole input.
     pub fn told(&self, alloc: Global) -> Result<Path, AllocError>
         ensures { IfOk result (λ p. p ≡ told self.now) }
     {
@@ -86,7 +86,7 @@ impl Path {
         Path::of(alloc, text)
     }
 
-    /// The text.
+    /// Returns the text of the path.
     pub fn as_str(&self) -> &str
         ensures { result.now ≡ self.now }
     {

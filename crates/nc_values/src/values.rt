@@ -12,7 +12,7 @@ use nc_num::{ChanNo, Dir, HartNo, Label};
 use nc_pte::is_pte_word;
 use serde_json::Value;
 
-/// A whole number from 0 to 2^64 - 1.
+/// Reads a whole number from 0 to 2^64 - 1.
 pub fn number(value: &Value) -> Result<u64, Wrong>
     ensures { result ≡ number_of (view value.now) }
 {
@@ -22,7 +22,7 @@ pub fn number(value: &Value) -> Result<u64, Wrong>
     }
 }
 
-/// A text.
+/// Reads a text.
 pub fn text(value: &Value) -> Result<&str, Wrong>
     ensures { MatchResult result (λ s. text_of (view value.now) ≡ Ok s.now) (λ e. text_of (view value.now) ≡ Err e) }
 {
@@ -32,7 +32,7 @@ pub fn text(value: &Value) -> Result<&str, Wrong>
     }
 }
 
-/// A list.
+/// Reads a list.
 pub fn list(value: &Value) -> Result<&Vec<Value>, Wrong>
     ensures { MatchResult result (λ v. list_of (view value.now) ≡ Ok (items_view v.now.items)) (λ e. list_of (view value.now) ≡ Err e) }
 {
@@ -42,7 +42,7 @@ pub fn list(value: &Value) -> Result<&Vec<Value>, Wrong>
     }
 }
 
-/// True or false.
+/// Reads true or false.
 pub fn truth(value: &Value) -> Result<bool, Wrong>
     ensures { result ≡ truth_of (view value.now) }
 {
@@ -52,7 +52,7 @@ pub fn truth(value: &Value) -> Result<bool, Wrong>
     }
 }
 
-/// The privilege mode of a name.
+/// Reads a privilege mode by its name.
 pub fn mode(value: &Value) -> Result<Mode, Wrong>
     ensures { result ≡ mode_of (view value.now) }
 {
@@ -64,7 +64,7 @@ pub fn mode(value: &Value) -> Result<Mode, Wrong>
     }
 }
 
-/// Whether fences are light.
+/// Reads the kind of fences by its name: whether they are light.
 pub fn fences(value: &Value) -> Result<bool, Wrong>
     ensures { result ≡ fences_of (view value.now) }
 {
@@ -75,7 +75,7 @@ pub fn fences(value: &Value) -> Result<bool, Wrong>
     }
 }
 
-/// The cache-block operation of a name.
+/// Reads a cache-block operation by its name (RISC-V CMO 1.0).
 pub fn cbo_kind(value: &Value) -> Result<CboOp, Wrong>
     ensures { result ≡ cbo_of (view value.now) }
 {
@@ -88,7 +88,7 @@ pub fn cbo_kind(value: &Value) -> Result<CboOp, Wrong>
     }
 }
 
-/// A number of at most this.
+/// Reads a number of at most this.
 pub fn most(n: u64, top: u64) -> Result<u64, Wrong>
     ensures value { result ≡ most top n }
     ensures most { IfOk result (λ m. m ≤ top) }
@@ -100,7 +100,7 @@ pub fn most(n: u64, top: u64) -> Result<u64, Wrong>
     }
 }
 
-/// A number of at most 2^32 - 1.
+/// Reads a number of at most 2^32 - 1.
 pub fn wide(n: u64) -> Result<u32, Wrong>
     ensures { result ≡ wide n }
 {
@@ -111,7 +111,7 @@ pub fn wide(n: u64) -> Result<u32, Wrong>
     }
 }
 
-/// A number below this.
+/// Reads a number below this.
 pub fn below(n: u64, bound: u8) -> Result<u8, Wrong>
     ensures value { result ≡ below bound n }
     ensures below { IfOk result (λ m. m < bound) }
@@ -123,7 +123,7 @@ pub fn below(n: u64, bound: u8) -> Result<u8, Wrong>
     }
 }
 
-/// A label, 0 to 999.
+/// Reads a label, 0 to 999.
 pub fn label(n: u64) -> Result<Label, Wrong>
     ensures value { result ≡ label_in n }
     ensures fits { IfOk result FitsLabel }
@@ -135,7 +135,7 @@ pub fn label(n: u64) -> Result<Label, Wrong>
     }
 }
 
-/// One of so many harts.
+/// Reads the index of one of so many harts.
 pub fn hart(n: u64, harts: u8) -> Result<HartNo, Wrong>
     ensures value { result ≡ hart_in harts n }
     ensures there { IfOk result (λ h. h.0 < harts) }
@@ -147,7 +147,7 @@ pub fn hart(n: u64, harts: u8) -> Result<HartNo, Wrong>
     }
 }
 
-/// A channel, 0 to 3.
+/// Reads the index of a channel, 0 to 3.
 pub fn chan(n: u64) -> Result<ChanNo, Wrong>
     ensures value { result ≡ chan_in n }
     ensures there { IfOk result (λ c. c.0 < 4) }
@@ -159,7 +159,7 @@ pub fn chan(n: u64) -> Result<ChanNo, Wrong>
     }
 }
 
-/// A direction by its number, 0 to 2 (Linux DMA API).
+/// Reads a direction by its number, 0 to 2 (Linux DMA API).
 pub fn dir(n: u64) -> Result<Dir, Wrong>
     ensures { result ≡ dir_in n }
 {
@@ -174,7 +174,7 @@ pub fn dir(n: u64) -> Result<Dir, Wrong>
 /// The repeat bit of a Config value, bit 2.
 const REPEAT: u64 = 4;
 
-/// A Config value of 32 bits without the repeat bit.
+/// Reads a Config value of 32 bits without the repeat bit.
 pub fn once(cfg: u64) -> Result<u32, Wrong>
     ensures value { result ≡ once cfg }
     ensures fits { IfOk result HasNoRepeat }
@@ -186,7 +186,7 @@ pub fn once(cfg: u64) -> Result<u32, Wrong>
     }
 }
 
-/// An environment register, whose CBIE is not the reserved 10 (RISC-V CMO 1.0).
+/// Reads an environment register, whose CBIE is not the reserved 10 (RISC-V CMO 1.0).
 pub fn register(value: &Value) -> Result<u64, Wrong>
     ensures value { result ≡ register_of (view value.now) }
     ensures known { IfOk result IsEnvcfg }
@@ -199,7 +199,7 @@ pub fn register(value: &Value) -> Result<u64, Wrong>
     }
 }
 
-/// A leaf PTE word that is valid for a RAM of so many bytes.
+/// Reads a leaf PTE word that is valid for a RAM of so many bytes (RISC-V, Svpbmt).
 pub fn word(value: &Value, ram: u32) -> Result<u64, Wrong>
     ensures value { result ≡ word_of ram (view value.now) }
     ensures valid { IfOk result (IsPteWord ram) }
@@ -212,14 +212,14 @@ pub fn word(value: &Value, ram: u32) -> Result<u64, Wrong>
     }
 }
 
-/// Whether so many bytes can be a block.
+/// Returns whether so many bytes can be a block: 32, 64 or 128.
 pub fn is_size(n: u64) -> bool
     ensures { result ≡ is_size n }
 {
     n == 32 || n == 64 || n == 128
 }
 
-/// Whether so many bytes can be RAM: a multiple of 4,096, from 4,096 to 1,048,576.
+/// Returns whether so many bytes can be RAM: a multiple of 4,096, from 4,096 to 1,048,576.
 pub fn is_ram(n: u64) -> bool
     ensures { result ≡ is_ram n }
 {

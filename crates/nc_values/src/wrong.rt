@@ -18,7 +18,7 @@ pub enum Wrong {
 }
 
 impl Wrong {
-    /// The refusal of the value, which stands at this path.
+    /// Returns the refusal of the value, which stands at this path.
     pub fn at(self, path: Path) -> ScenFault
         ensures { result ≡ faults.Refused (wrong_at path self) }
     {
