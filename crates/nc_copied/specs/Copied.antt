@@ -35,29 +35,29 @@ op_at sc h n = slice_get (hart_spec sc h.0).script n
 abbrev pub place_in : Scenario → ℕ → ℕ → ℕ
 place_in sc buf off = (slice_index_or (map (λ b. b.span) sc.buffers) buf (record { at = 0; len = 0 })).at + off
 
--- the front of a run ends with the poll of that operation of the hart, which saw the channel done
-pub record IsPolled (sc : Scenario) (front : List Event) (h : HartNo) (n : ℕ) (chan : ChanNo) : Type 0 where
+-- the prefix of a run ends with the poll of that operation of the hart, which saw the channel done
+pub record IsPolled (sc : Scenario) (prefix : List Event) (h : HartNo) (n : ℕ) (chan : ChanNo) : Type 0 where
   pub before : List Event
-  pub is : front ≡ before ++ Issue h ∷ []
+  pub is : prefix ≡ before ++ Issue h ∷ []
   pub may : enabled (run.after (start sc) before) (Issue h) ≡ true
   pub op : (driver_of (run.after (start sc) before) h.0).op ≡ n
   pub polls : next_of (driver_of (run.after (start sc) before) h.0) ≡ Poll chan
 
--- the channel writes nothing in the events behind that front
+-- the channel writes nothing in the events behind that prefix
 abbrev pub WritesNone : Scenario → List Event → List Event → ChanNo → Type 0
-WritesNone sc front behind chan = (at : Place) (bytes : Bytes) → In (records.Cw chan at bytes) (run.records (run.after (start sc) front) behind) → ⊥
+WritesNone sc prefix behind chan = (at : Place) (bytes : Bytes) → In (records.Cw chan at bytes) (run.records (run.after (start sc) prefix) behind) → ⊥
 
 -- in the run to the answer that a copy of len bytes from place s to place t was done: with the poll the destination has
 -- the source's bytes in flat memory; at the answer the hart sees flat memory in the destination; and if the channel wrote
 -- nothing in between, the destination still has the source's bytes then
 pub record IsDone (sc : Scenario) (es : List Event) (h : HartNo) (n : ℕ) (chan : ChanNo) (len s t : ℕ) : Type 0 where
-  pub front : List Event
+  pub prefix : List Event
   pub behind : List Event
-  pub is : es ≡ front ++ behind
-  pub polled : IsPolled sc front h n chan
-  pub left : (i : ℕ) → i < len → byte (flat_after sc front) (t + i) ≡ byte (flat_after sc front) (s + i)
+  pub is : es ≡ prefix ++ behind
+  pub polled : IsPolled sc prefix h n chan
+  pub left : (i : ℕ) → i < len → byte (flat_after sc prefix) (t + i) ≡ byte (flat_after sc prefix) (s + i)
   pub seen : (i : ℕ) → i < len → view (run.after (start sc) es).machine h.0 (t + i) ≡ byte (flat_after sc es) (t + i)
-  pub stays : WritesNone sc front behind chan → Copied len s t (view (run.after (start sc) es).machine h.0) (byte (flat_after sc es))
+  pub stays : WritesNone sc prefix behind chan → Copied len s t (view (run.after (start sc) es).machine h.0) (byte (flat_after sc es))
 
 -- what an answer tells of the run to its event; a copy does not fail
 abbrev pub TellsCopied : Scenario → List Event → HartNo → ℕ → Answer → Type 0

@@ -161,6 +161,6 @@ kept_after law sc a es there untouched =
     let flat = flat_of law sc es a there untouched in
     record { at = λ x lt off kept none. kept_by (book_of w) (owner_of w x) (byte (flat_after sc es) x) w.machine x kept none (flat.bytes.rows x lt off) }
 
--- a front of a run is a run
+-- a prefix of a run is a run
 pub kept_of : EachGoes → (sc : Scenario) → IsAccepted sc → (es : List Event) → AreThere sc es → IsKept sc es
 kept_of law sc a es there n = kept_after law sc a (take n es) (All-take (IsThere (length sc.harts) sc.block_size sc.ram) n es there)

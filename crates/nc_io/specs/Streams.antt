@@ -26,10 +26,10 @@ pub record Writing : Type 0 where
 
 -- a list begins with this one
 abbrev pub Begins : List ℕ → List ℕ → Type 0
-Begins whole front = (rest : List ℕ) × (whole ≡ front ++ rest)
+Begins whole prefix = (rest : List ℕ) × (whole ≡ prefix ++ rest)
 
--- known bytes grew by a front of the piece
-pub record GrowsByFront (old new : Option (List ℕ)) (piece : List ℕ) : Type 0 where
-  pub front : List ℕ
-  pub grown : Appends old new front
-  pub begins : Begins piece front
+-- known bytes grew by a prefix of the piece
+pub record GrowsByPrefix (old new : Option (List ℕ)) (piece : List ℕ) : Type 0 where
+  pub prefix : List ℕ
+  pub grown : Appends old new prefix
+  pub begins : Begins piece prefix

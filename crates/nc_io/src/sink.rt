@@ -4,7 +4,7 @@ ghost use Rattle.std.specs.Prelude.{◌≡◌, ◌<◌, ◌≤◌, ℕ, List, le
 ghost use Rattle.std.specs.Io.{WritesAtMost};
 ghost use Rattle.std.specs.Io.KnownBytes.{Appends, WriteAppends};
 ghost use Rattle.nc_io.specs.Causes.{Rose};
-ghost use Rattle.nc_io.specs.Streams.{GrowsByFront};
+ghost use Rattle.nc_io.specs.Streams.{GrowsByPrefix};
 
 /// The reason why a sink took no bytes.
 #[derive(Clone, Copy, Debug, PartialEq, Eq)]
@@ -44,7 +44,7 @@ pub trait Sink {
 /// faults rose in this call or stands at its limit.
 pub fn write_all<K: Sink>(out: &mut K, piece: &[u8]) -> Result<(), Stop>
     ensures ok { OnOk result (Appends (K.held out.old) (K.held out.new) piece.now) }
-    ensures stop { OnErr result (GrowsByFront (K.held out.old) (K.held out.new) piece.now) }
+    ensures stop { OnErr result (GrowsByPrefix (K.held out.old) (K.held out.new) piece.now) }
     ensures later { K.faults out.old ≤ K.faults out.new }
     ensures cause { result ≡ Err Stop.Failed → Rose (K.faults out.old) (K.faults out.new) }
 {

@@ -75,7 +75,7 @@ fn give(left: &[u8], chunk: usize, buf: &mut [u8]) -> usize
     ensures within { result ≤ length left.now }
     ensures chunk { result ≤ chunk }
     ensures room { result ≤ length buf.old }
-    ensures front { take result buf.new ≡ take result left.now }
+    ensures prefix { take result buf.new ≡ take result left.now }
     ensures none { result ≡ 0 → 0 < length buf.old → left.now ≡ [] }
 {
     let count = left.len().min(chunk).min(buf.len());

@@ -1,7 +1,7 @@
 -- What was written of a history, once its run is due.
 use Rattle.std.proofs.Common.{◌≡◌, ℕ, List, Option, subst, inr}
 use Rattle.std.specs.Io.KnownBytes.{Appends}
-use Rattle.nc_io.specs.Streams.{GrowsByFront}
+use Rattle.nc_io.specs.Streams.{GrowsByPrefix}
 use Rattle.nc_scen.specs.Accepted.{IsAccepted}
 use Rattle.nc_scen.specs.declared.events.Event.{Event}
 use Rattle.nc_scen.specs.declared.scenario.Scenario.{Scenario}
@@ -22,5 +22,5 @@ wrote before now sc answered es shown run same is text accepted latest kept copi
   flat = (latest sc accepted es there, kept sc accepted es there, copied sc accepted es there);
 }
 
-pub grew : (before now : Option (List ℕ)) (sc : Scenario) (es shown : List Event) → IsLiveRun sc es → shown ≡ es → GrowsByFront before now (live_text sc shown) → GrewByLive before now sc
-grew before now sc es shown run same front = inr (es, run, subst (λ (xs : List Event). GrowsByFront before now (live_text sc xs)) same front)
+pub grew : (before now : Option (List ℕ)) (sc : Scenario) (es shown : List Event) → IsLiveRun sc es → shown ≡ es → GrowsByPrefix before now (live_text sc shown) → GrewByLive before now sc
+grew before now sc es shown run same prefix = inr (es, run, subst (λ (xs : List Event). GrowsByPrefix before now (live_text sc xs)) same prefix)

@@ -99,7 +99,7 @@ pub fn live_run<N: SceneName + Send + Sync, R: Threads + Wait + Sync, K: Sink, G
     ensures text { IfOk result (λ n. WroteLive (K.held out.old) (K.held out.new) sc.now n) }
     ensures kind { IfOk result IsAnswer }
     ensures run { IfOk result (λ n. n ≢ 3) }
-    ensures front { OnErr result (GrewByLive (K.held out.old) (K.held out.new) sc.now) }
+    ensures prefix { OnErr result (GrewByLive (K.held out.old) (K.held out.new) sc.now) }
     ensures later { K.faults out.old ≤ K.faults out.new }
     ensures cause { result ≡ Err Stop.Failed → Rose (K.faults out.old) (K.faults out.new) }
 {

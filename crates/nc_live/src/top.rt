@@ -6,7 +6,7 @@ ghost use Rattle.nc_io.specs.Causes.{Rose};
 ghost use Rattle.nc_scen.specs.Reading.{reading};
 ghost use Rattle.nc_top.specs.Due.{is_run, unknown_words, IsAnswer};
 ghost use Rattle.nc_top.specs.Inputs.{HasRead, IsRunWhereRead, TakesFew};
-ghost use Rattle.nc_live.specs.Due.{WroteFor, GrewFor, WroteFront};
+ghost use Rattle.nc_live.specs.Due.{WroteFor, GrewFor, WrotePrefix};
 
 use crate::gate::Gate;
 use crate::live::live_run;
@@ -31,7 +31,7 @@ fn answer_to<R: Threads + Wait + Sync, K: Sink, G: Gate>(
     ensures sink { result ≡ 5 → Rose (K.faults out.old) (K.faults out.new) }
     ensures reads { result ≢ 4 }
     ensures read { IsAnswer result → IsRunWhereRead result bytes.now }
-    ensures front { Keeps (K.held out.old) (K.held out.new) ⊎ GrewFor (K.held out.old) (K.held out.new) (reading bytes.now) }
+    ensures prefix { Keeps (K.held out.old) (K.held out.new) ⊎ GrewFor (K.held out.old) (K.held out.new) (reading bytes.now) }
 {
     match read(alloc, bytes) {
         Ok(sc) => match live_run::<Brand, R, K, G>(rt, alloc, &sc, out, gate) {
@@ -82,7 +82,7 @@ pub fn dmalive<R: Threads + Wait + Sync, S: Source, K: Sink, G: Gate>(
     ensures sink { result ≡ 5 → Rose (K.faults out.old) (K.faults out.new) }
 
     // Whatever is answered, what was written is a prefix of what is due.
-    ensures front { WroteFront (map string_bytes words.now.items) (S.left src.old) (S.left src.new) (S.ended src.new) (K.held out.old) (K.held out.new) }
+    ensures prefix { WrotePrefix (map string_bytes words.now.items) (S.left src.old) (S.left src.new) (S.ended src.new) (K.held out.old) (K.held out.new) }
 {
     if !is_run(words) {
         return put(out, 2, b"refused words\n");

@@ -4,7 +4,7 @@ ghost use Rattle.std.specs.Prelude.{◌≡◌, ◌≤◌, [], ◌⊎◌, length,
 ghost use Rattle.std.specs.Io.KnownBytes.{Appends};
 ghost use Rattle.std.specs.List.{flat_map};
 ghost use Rattle.nc_io.specs.Causes.{Rose};
-ghost use Rattle.nc_io.specs.Streams.{GrowsByFront};
+ghost use Rattle.nc_io.specs.Streams.{GrowsByPrefix};
 ghost use Rattle.nc_scen.specs.Events.{IsThere};
 ghost use Rattle.nc_rules.specs.Lines.{line};
 ghost use Rattle.nc_calls.specs.MachineLaws.{SameShape};
@@ -36,7 +36,7 @@ pub fn step_out<K: Sink>(
     ensures world { OnOk result (w.new ≡ record { state = next w.old.state e; records = [] }) }
     ensures shape { OnOk result (SameShape w.old.state.machine w.new.state.machine) }
     ensures written { OnOk result (Appends (K.held out.old) (K.held out.new) (flat_map line (event_records w.old.state e))) }
-    ensures front { OnErr result (GrowsByFront (K.held out.old) (K.held out.new) (flat_map line (event_records w.old.state e))) }
+    ensures prefix { OnErr result (GrowsByPrefix (K.held out.old) (K.held out.new) (flat_map line (event_records w.old.state e))) }
     ensures later { K.faults out.old ≤ K.faults out.new }
     ensures cause { result ≡ Err Stop.Failed → Rose (K.faults out.old) (K.faults out.new) }
     ensures failed { result ≡ Err Stop.Failed → w.new ≡ record { state = next w.old.state e; records = [] } }
@@ -63,7 +63,7 @@ pub fn step_out_with<K: Sink>(
     ensures world { OnOk result (w.new ≡ record { state = next w.old.state e; records = [] }) }
     ensures shape { OnOk result (SameShape w.old.state.machine w.new.state.machine) }
     ensures written { OnOk result (Appends (K.held out.old) (K.held out.new) (flat_map line (event_records w.old.state e))) }
-    ensures front { OnErr result (GrowsByFront (K.held out.old) (K.held out.new) (flat_map line (event_records w.old.state e))) }
+    ensures prefix { OnErr result (GrowsByPrefix (K.held out.old) (K.held out.new) (flat_map line (event_records w.old.state e))) }
     ensures later { K.faults out.old ≤ K.faults out.new }
     ensures cause { result ≡ Err Stop.Failed → Rose (K.faults out.old) (K.faults out.new) }
     ensures failed { result ≡ Err Stop.Failed → w.new ≡ record { state = next w.old.state e; records = [] } }

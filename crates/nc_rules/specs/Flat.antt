@@ -77,6 +77,6 @@ IsKeptAfter sc es =
     Untouched (run_trace (start sc) es)
     → Kept sc.ram (slots_of sc) (owner_of (after (start sc) es)) (is_given (after (start sc) es).machine) (view.middle (after (start sc) es).machine) (byte (flat_after sc es))
 
--- the same after each front of the events, the whole of them too
+-- the same after each prefix of the events, the whole of them too
 abbrev pub IsKept : Scenario → List Event → Type 0
 IsKept sc es = (n : ℕ) → IsKeptAfter sc (take n es)

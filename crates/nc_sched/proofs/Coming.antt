@@ -22,14 +22,14 @@ use Rattle.nc_sched.specs.declared.sched.Phase.{Phase}
 use Rattle.nc_sched.specs.declared.sched.Phase.TheVariants as phases
 use Rattle.nc_sched.specs.Stands.{Stand, listed, first_stand, after_answer, harts_of, round_on, then_rounds, follow, to_come, enter_round, given, next_phase, next_generator}
 
--- ---- fronts of lists
+-- ---- prefixes of lists
 
 take-front : (k : ℕ) (front a b : List Event) → ((j : ℕ) → j ≤ k → take j a ≡ take j b) → take k (front ++ a) ≡ take k (front ++ b)
 take-front k [] a b same = same k (omega arith)
 take-front zero (x ∷ front) a b same = refl
 take-front (suc k) (x ∷ front) a b same = ap (λ es. x ∷ es) (take-front k front a b (λ j le. same j (omega arith)))
 
--- a front that is not empty leaves one event less
+-- a prefix that is not empty leaves one event less
 take-front-less : (k : ℕ) (front a b : List Event) → 0 < length front → ((j : ℕ) → j < k → take j a ≡ take j b) → take k (front ++ a) ≡ take k (front ++ b)
 take-front-less k [] a b some same = absurd (omega (arith, some))
 take-front-less zero (x ∷ front) a b some same = refl

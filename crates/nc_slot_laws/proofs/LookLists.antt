@@ -129,53 +129,53 @@ nil_left : {A : Type 0} (xs ys : List A) → xs ++ ys ≡ [] → xs ≡ []
 nil_left [] ys e = refl
 nil_left (x ∷ xs) ys e = absurd (cc)
 
--- where all looks are none, those of a front are
+-- where all looks are none, those of a prefix are
 pub front_looks : (h : HartNo) (rs ss : List Record) → looks h (rs ++ ss) ≡ [] → looks h rs ≡ []
 front_looks h rs ss e = nil_left (looks h rs) (looks h ss) (sym (looks_append h rs ss) ∙ e)
 
 -- ---- what a list ends in
 
 pub record EndsIn {A : Type 0} (xs ys : List A) : Type 0 where
-  pub front : List A
-  pub is : xs ≡ front ++ ys
+  pub prefix : List A
+  pub is : xs ≡ prefix ++ ys
 
 pub ends_nil : {A : Type 0} (xs : List A) → EndsIn xs []
-ends_nil xs = record { front = xs; is = sym (append-nil xs) }
+ends_nil xs = record { prefix = xs; is = sym (append-nil xs) }
 
 -- one more miss
 pub ends_more : (h : HartNo) (k : ℕ) (seen : List Look) → EndsIn seen (misses h k) → EndsIn (seen ++ miss h k ∷ []) (misses h (k + 1))
 ends_more h k seen ends = record {
-  front = ends.front;
-  is = ap (λ (ls : List Look). ls ++ miss h k ∷ []) ends.is ∙ append_assoc ends.front (misses h k) (miss h k ∷ []) ∙ ap (λ (ls : List Look). ends.front ++ ls) (sym (map-range_with_len_more (miss h) 0 k k (omega arith)));
+  prefix = ends.prefix;
+  is = ap (λ (ls : List Look). ls ++ miss h k ∷ []) ends.is ∙ append_assoc ends.prefix (misses h k) (miss h k ∷ []) ∙ ap (λ (ls : List Look). ends.prefix ++ ls) (sym (map-range_with_len_more (miss h) 0 k k (omega arith)));
 }
 
 length-misses : (h : HartNo) (n : ℕ) → length (misses h n) ≡ n
 length-misses h n = length-map-range_with_len (miss h) 0 n
 
-last_by : (h : HartNo) (n : ℕ) (front : List Look) → last_of n (front ++ misses h n) ≡ misses h n
-last_by h n front =
-    let few : length (front ++ misses h n) - n ≡ length front = omega (arith, length-append front (misses h n), length-misses h n) in
-    ap (λ (m : ℕ). drop m (front ++ misses h n)) few ∙ drop-append_seam front (misses h n)
+last_by : (h : HartNo) (n : ℕ) (prefix : List Look) → last_of n (prefix ++ misses h n) ≡ misses h n
+last_by h n prefix =
+    let few : length (prefix ++ misses h n) - n ≡ length prefix = omega (arith, length-append prefix (misses h n), length-misses h n) in
+    ap (λ (m : ℕ). drop m (prefix ++ misses h n)) few ∙ drop-append_seam prefix (misses h n)
 
 pub last_misses : (h : HartNo) (n : ℕ) (xs : List Look) → EndsIn xs (misses h n) → last_of n xs ≡ misses h n
-last_misses h n xs ends = ap (λ (ls : List Look). last_of n ls) ends.is ∙ last_by h n ends.front
+last_misses h n xs ends = ap (λ (ls : List Look). last_of n ls) ends.is ∙ last_by h n ends.prefix
 
 -- the looks since the last step are the last of all
 since_by : (h : HartNo) (seen : List Look) (r : Record) (rs : List Record) (t : Bool) → ((next : List Look) → EndsIn (next ++ looks h rs) (looks_since h next rs))
     → EndsIn (seen ++ (look_of h (look_in r) ++ looks h rs)) (looks_since h (if t then [] else seen ++ look_of h (look_in r)) rs)
 since_by h seen r rs true rest =
     let more = rest [] in
-    record { front = seen ++ look_of h (look_in r) ++ more.front; is = sym (append_assoc seen (look_of h (look_in r)) (looks h rs)) ∙ ap (λ (ls : List Look). seen ++ look_of h (look_in r) ++ ls) more.is ∙ sym (append_assoc (seen ++ look_of h (look_in r)) more.front (looks_since h [] rs)) }
+    record { prefix = seen ++ look_of h (look_in r) ++ more.prefix; is = sym (append_assoc seen (look_of h (look_in r)) (looks h rs)) ∙ ap (λ (ls : List Look). seen ++ look_of h (look_in r) ++ ls) more.is ∙ sym (append_assoc (seen ++ look_of h (look_in r)) more.prefix (looks_since h [] rs)) }
 since_by h seen r rs false rest =
     let more = rest (seen ++ look_of h (look_in r)) in
-    record { front = more.front; is = sym (append_assoc seen (look_of h (look_in r)) (looks h rs)) ∙ more.is }
+    record { prefix = more.prefix; is = sym (append_assoc seen (look_of h (look_in r)) (looks h rs)) ∙ more.is }
 
 pub since_last : (h : HartNo) (seen : List Look) (rs : List Record) → EndsIn (seen ++ looks h rs) (looks_since h seen rs)
-since_last h seen [] = record { front = []; is = append-nil seen }
+since_last h seen [] = record { prefix = []; is = append-nil seen }
 since_last h seen (r ∷ rs) = since_by h seen r rs (is_step h (event_in r)) (λ next. since_last h next rs)
 
 pub ends_on : {A : Type 0} (xs ys zs : List A) → EndsIn xs ys → EndsIn ys zs → EndsIn xs zs
-ends_on {A = A} xs ys zs a b = record { front = a.front ++ b.front; is = a.is ∙ ap (λ (ls : List A). a.front ++ ls) b.is ∙ sym (append_assoc a.front b.front zs) }
+ends_on {A = A} xs ys zs a b = record { prefix = a.prefix ++ b.prefix; is = a.is ∙ ap (λ (ls : List A). a.prefix ++ ls) b.is ∙ sym (append_assoc a.prefix b.prefix zs) }
 
 -- ---- where an answer stands
 
@@ -197,7 +197,7 @@ split (x ∷ rs) ss (y ∷ before) r behind e =
 
 -- the one answer at the end
 pub record IsLast (rs before : List Record) (h g : HartNo) (o : Option Answer) (a : Answer) : Type 0 where
-  pub front : before ≡ rs
+  pub prefix : before ≡ rs
   pub hart : h ≡ g
   pub is : o ≡ Some a
 
@@ -207,7 +207,7 @@ no_front (x ∷ before) r behind e = cc
 
 at_end : (before behind : List Record) (h g : HartNo) (op n : ℕ) (o : Option Answer) (a : Answer) → answered h op o ≡ before ++ records.Ans g n a ∷ behind → IsLast [] before h g o a
 at_end before behind h g op n None a e = absurd (no_front before (records.Ans g n a) behind e)
-at_end [] behind h g op n (Some b) a e = let hart : h ≡ g = cc in let is : b ≡ a = cc in record { front = refl; hart = hart; is = ap (λ (c : Answer). Some c) is }
+at_end [] behind h g op n (Some b) a e = let hart : h ≡ g = cc in let is : b ≡ a = cc in record { prefix = refl; hart = hart; is = ap (λ (c : Answer). Some c) is }
 at_end (x ∷ before) behind h g op n (Some b) a e = let rest : [] ≡ before ++ records.Ans g n a ∷ behind = cc in absurd (no_front before (records.Ans g n a) behind rest)
 
 not_it : (x : Record) (g : HartNo) (n : ℕ) (a : Answer) → is_answer x ≡ false → x ≡ records.Ans g n a → ⊥
@@ -220,4 +220,4 @@ last_answer (x ∷ rs) (y ∷ before) behind h g op n o a none e =
     let tails : rs ++ answered h op o ≡ before ++ records.Ans g n a ∷ behind = cc in
     let heads : x ≡ y = cc in
     let r = last_answer rs before behind h g op n o a (or_parts (is_answer x) (list_any is_answer rs) none).1 tails in
-    record { front = λ i. sym heads i ∷ r.front i; hart = r.hart; is = r.is }
+    record { prefix = λ i. sym heads i ∷ r.prefix i; hart = r.hart; is = r.is }

@@ -101,7 +101,7 @@ middle_join g slots a b c rs ss x y = record {
     any_join : list_any is_answer rs ≡ false → list_any is_answer ss ≡ false → list_any is_answer (rs ++ ss) ≡ false
     any_join p q = list_any-append is_answer rs ss ∙ or_from (list_any is_answer rs) (list_any is_answer ss) p q
 
--- with the event in front
+-- with the event in prefix
 record Begun (g : HartNo) (slots : ℕ) (seen mid : List Look) (e : Event) (rs : List Record) : Type 0 where
   since : looks_since g seen (records.Event e ∷ rs) ≡ mid
   none : slots ≡ 0 → looks g (records.Event e ∷ rs) ≡ []
@@ -144,23 +144,23 @@ goes_kept w g slots seen mid e h machine went now touch rs d m go =
     let answer = answered h op went.moves.answer in
     let base = at_first g seen e in
     let touches = touch_records touch in
-    let front : List Record = touches ++ rs ++ (owners ++ backs) in
+    let prefix : List Record = touches ++ rs ++ (owners ++ backs) in
     let all = middle_join g slots base mid mid (touches ++ rs) (owners ++ backs) (middle_join g slots base base mid touches rs (quiet_middle g slots base touches (touch_quiet touch)) m)
     (quiet_middle g slots mid (owners ++ backs) (quiet_append owners backs (owners_quiet went.moves.transfers) (plain_quiet backs (plain_backs h went.moves.backs)))) in
-    let b : Begun g slots seen mid e front = begun g slots seen mid e front all in
-    let is : touches ++ rs ++ (owners ++ backs ++ answer) ≡ front ++ answer = sym (append_assoc (touches ++ rs) (owners ++ backs) answer) in
+    let b : Begun g slots seen mid e prefix = begun g slots seen mid e prefix all in
+    let is : touches ++ rs ++ (owners ++ backs ++ answer) ≡ prefix ++ answer = sym (append_assoc (touches ++ rs) (owners ++ backs) answer) in
     subst (λ (ss : List Record). Kept g slots seen (records.Event e ∷ ss) d) (sym is)
     (record {
-      goes = subst (λ (ls : List Look). HasSeen g ls d) (sym (since_append g seen (records.Event e ∷ front) answer ∙ answered_since g h op went.moves.answer (looks_since g seen (records.Event e ∷ front)) ∙ b.since)) go.goes;
-      none = λ z. looks_append g (records.Event e ∷ front) answer ∙ (rw (b.none z, answered_looks g h op went.moves.answer) refl);
+      goes = subst (λ (ls : List Look). HasSeen g ls d) (sym (since_append g seen (records.Event e ∷ prefix) answer ∙ answered_since g h op went.moves.answer (looks_since g seen (records.Event e ∷ prefix)) ∙ b.since)) go.goes;
+      none = λ z. looks_append g (records.Event e ∷ prefix) answer ∙ (rw (b.none z, answered_looks g h op went.moves.answer) refl);
       answers = λ n a before behind at un.
-          let l = last_answer (records.Event e ∷ front) before behind h g op n went.moves.answer a b.answers at in
+          let l = last_answer (records.Event e ∷ prefix) before behind h g op n went.moves.answer a b.answers at in
           let f = go.noslot l.hart (ap noslot_in l.is ∙ un) in
-          found before l.front b f;
+          found before l.prefix b f;
     })
   where
-    found : {front : List Record} (before : List Record) → before ≡ records.Event e ∷ front → Begun g slots seen mid e front → EndsIn mid (misses g slots) × IsOf g slots e → Found g slots seen before
-    found {front} before same b f =
+    found : {prefix : List Record} (before : List Record) → before ≡ records.Event e ∷ prefix → Begun g slots seen mid e prefix → EndsIn mid (misses g slots) × IsOf g slots e → Found g slots seen before
+    found {prefix} before same b f =
         subst (λ (ss : List Record). Found g slots seen ss) (sym same)
         (record {
           since = subst (λ (ls : List Look). EndsIn ls (misses g slots)) (sym b.since) f.0;

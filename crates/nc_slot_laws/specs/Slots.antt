@@ -52,6 +52,6 @@ pub record IsGivenOnce (sc : Scenario) (w : WorldState) : Type 0 where
   pub slots : SlotsAreHeldOnce (length sc.harts) w
   pub grants : GrantsAreApart w.grants
 
--- after each front of every run, touches or not
+-- after each prefix of every run, touches or not
 abbrev pub EachIsGivenOnce : Type 0
 EachIsGivenOnce = (sc : Scenario) (es : List Event) (n : ℕ) → IsAccepted sc → AreThere sc es → IsGivenOnce sc (after (start sc) (take n es))

@@ -4,7 +4,7 @@ use Rattle.std.specs.List.{flat_map}
 use Rattle.std.specs.Io.KnownBytes.{Appends}
 use Rattle.std.proofs.KnownBytes.{Appends-nil, Appends-trans}
 use Rattle.std.proofs.lemmas.Grind.{flat_map-append}
-use Rattle.nc_io.specs.Streams.{GrowsByFront}
+use Rattle.nc_io.specs.Streams.{GrowsByPrefix}
 use Rattle.std.specs.Prelude.{Bool, true, false, if◌then◌else◌}
 use Rattle.nc_scen.specs.Accepted.{IsAccepted}
 use Rattle.nc_scen.specs.declared.events.Event.{Event}
@@ -63,27 +63,27 @@ at_end held now w0 w all left none s =
     let whole : text_of w0 all ≡ s.done = s.text ∙ ap (λ es. s.done ++ text_of w es) none ∙ ap (λ t. s.done ++ t) (text_none w) ∙ append-nil s.done in
     (subst (λ t. Appends held now t) (sym whole) s.grown, sym (s.state ∙ ap (after w) none ∙ state_none w))
 
--- a front of what one event writes, after all before it, is a front of the run and whatever follows it
+-- a prefix of what one event writes, after all before it, is a prefix of the run and whatever follows it
 pub stopped : (held mid now : Option (List ℕ)) (w0 w : WorldState) (all left rest : List Event) (e : Event) (end : List ℕ) → left ≡ e ∷ rest
-    → GrowsByFront mid now (flat_map line (event_records w e)) → SoFar held mid w0 w all left → GrowsByFront held now (text_of w0 all ++ end)
+    → GrowsByPrefix mid now (flat_map line (event_records w e)) → SoFar held mid w0 w all left → GrowsByPrefix held now (text_of w0 all ++ end)
 stopped held mid now w0 w all left rest e end here g s =
     let (behind, is) = g.begins in
     let more = text_of (next w e) rest in
     record {
-      front = s.done ++ g.front;
-      grown = Appends-trans held mid now s.done g.front s.grown g.grown;
+      prefix = s.done ++ g.prefix;
+      grown = Appends-trans held mid now s.done g.prefix s.grown g.grown;
       begins = (behind ++ more ++ end, ap (λ t. t ++ end) (s.text ∙ ap (λ es. s.done ++ text_of w es) here ∙ ap (λ t. s.done ++ t) (text_more w e rest ∙ ap (λ t. t ++ more) is)) ∙ simp append_assoc);
     }
 
 -- nothing of what follows the run
-pub paused : (held now : Option (List ℕ)) (run end : List ℕ) → Appends held now run → GrowsByFront held now (run ++ end)
-paused held now run end h = record { front = run; grown = h; begins = (end, refl) }
+pub paused : (held now : Option (List ℕ)) (run end : List ℕ) → Appends held now run → GrowsByPrefix held now (run ++ end)
+paused held now run end h = record { prefix = run; grown = h; begins = (end, refl) }
 
--- a front of what follows the run
-pub cut : (held mid now : Option (List ℕ)) (run end : List ℕ) → Appends held mid run → GrowsByFront mid now end → GrowsByFront held now (run ++ end)
+-- a prefix of what follows the run
+pub cut : (held mid now : Option (List ℕ)) (run end : List ℕ) → Appends held mid run → GrowsByPrefix mid now end → GrowsByPrefix held now (run ++ end)
 cut held mid now run end h g =
     let (behind, is) = g.begins in
-    record { front = run ++ g.front; grown = Appends-trans held mid now run g.front h g.grown; begins = (behind, ap (λ t. run ++ t) is ∙ sym (append_assoc run g.front behind)) }
+    record { prefix = run ++ g.prefix; grown = Appends-trans held mid now run g.prefix h g.grown; begins = (behind, ap (λ t. run ++ t) is ∙ sym (append_assoc run g.prefix behind)) }
 
 -- ---- a scenario's run in the middle
 
@@ -127,7 +127,7 @@ go_on held mid now sc w v s t last a e here stepped none same answered grown g =
     }
 
 pub go_stopped : (held mid now : Option (List ℕ)) (sc : Scenario) (w : WorldView) (s t : Stand) (last : Option Stepped) (e : Event) → to_come sc s w.state (is_done last) ≡ e ∷ to_come sc t (next w.state e) (enabled w.state e)
-    → GrowsByFront mid now (flat_map line (event_records w.state e)) → Goes held mid sc w s last → GrowsByFront held now (report sc (sched sc))
+    → GrowsByPrefix mid now (flat_map line (event_records w.state e)) → Goes held mid sc w s last → GrowsByPrefix held now (report sc (sched sc))
 unfolding report
 go_stopped held mid now sc w s t last e here grown g =
     stopped held mid now (start sc) w.state (sched sc) (to_come sc s w.state (is_done last)) (to_come sc t (next w.state e) (enabled w.state e)) e (tail sc (after (start sc) (sched sc))) here grown g.so_far
@@ -137,16 +137,16 @@ pub go_end : (held now : Option (List ℕ)) (sc : Scenario) (w : WorldView) (s :
     → Appends held now (text_of (start sc) (sched sc)) × (w.state ≡ after (start sc) (sched sc))
 go_end held now sc w s last none g = at_end held now (start sc) w.state (sched sc) (to_come sc s w.state (is_done last)) none g.so_far
 
-pub go_paused : (held now : Option (List ℕ)) (sc : Scenario) (w : WorldView) (s : Stand) (last : Option Stepped) → to_come sc s w.state (is_done last) ≡ [] → Goes held now sc w s last → GrowsByFront held now (report sc (sched sc))
+pub go_paused : (held now : Option (List ℕ)) (sc : Scenario) (w : WorldView) (s : Stand) (last : Option Stepped) → to_come sc s w.state (is_done last) ≡ [] → Goes held now sc w s last → GrowsByPrefix held now (report sc (sched sc))
 unfolding report
 go_paused held now sc w s last none g = paused held now (text_of (start sc) (sched sc)) (tail sc (after (start sc) (sched sc))) (go_end held now sc w s last none g).0
 
-pub go_cut : (held mid now : Option (List ℕ)) (sc : Scenario) (w : WorldView) (s : Stand) (last : Option Stepped) (text : List ℕ) → to_come sc s w.state (is_done last) ≡ [] → text ≡ tail sc w.state → GrowsByFront mid now text → Goes held mid sc w s last
-    → GrowsByFront held now (report sc (sched sc))
+pub go_cut : (held mid now : Option (List ℕ)) (sc : Scenario) (w : WorldView) (s : Stand) (last : Option Stepped) (text : List ℕ) → to_come sc s w.state (is_done last) ≡ [] → text ≡ tail sc w.state → GrowsByPrefix mid now text → Goes held mid sc w s last
+    → GrowsByPrefix held now (report sc (sched sc))
 unfolding report
 go_cut held mid now sc w s last text none is grown g =
     let p = go_end held mid sc w s last none g in
-    cut held mid now (text_of (start sc) (sched sc)) (tail sc (after (start sc) (sched sc))) p.0 (subst (λ t. GrowsByFront mid now t) (is ∙ ap (tail sc) p.1) grown)
+    cut held mid now (text_of (start sc) (sched sc)) (tail sc (after (start sc) (sched sc))) p.0 (subst (λ t. GrowsByPrefix mid now t) (is ∙ ap (tail sc) p.1) grown)
 
 pub go_done : (held mid now : Option (List ℕ)) (sc : Scenario) (w : WorldView) (s : Stand) (last : Option Stepped) (text : List ℕ) → to_come sc s w.state (is_done last) ≡ [] → text ≡ tail sc w.state → Appends mid now text → Goes held mid sc w s last
     → Appends held now (report sc (sched sc))

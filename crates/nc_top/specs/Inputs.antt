@@ -1,7 +1,7 @@
 -- What a call has read.
 use Rattle.std.specs.Prelude.{◌≡◌, ◌≢◌, ◌+◌, ◌<◌, ◌≤◌, ◌⊎◌, ◌↔◌, ℕ, Ok, List, Bool, true, false, [], Option, length}
 use Rattle.std.specs.Io.KnownBytes.{Consumes, IsAtEnd, Keeps}
-use Rattle.nc_io.specs.Streams.{GrowsByFront}
+use Rattle.nc_io.specs.Streams.{GrowsByPrefix}
 use Rattle.nc_migrate.specs.Migrating.{KeepsReading}
 use Rattle.nc_top.specs.Due.{due, due_for, command_of, asks_input}
 use Rattle.nc_scen.specs.Reading.{most_bytes, reading}
@@ -22,19 +22,19 @@ pub record TakesFew (before now : Option (List ℕ)) : Type 0 where
   pub taken : Consumes before now bytes
   pub few : length bytes ≤ most_bytes + 1
 
--- Nothing was written, or a front of what is due: for words that ask for no input by the words alone, else for all bytes
+-- Nothing was written, or a prefix of what is due: for words that ask for no input by the words alone, else for all bytes
 -- that were read.
-abbrev pub WroteFront : List (List ℕ) → Option (List ℕ) → Option (List ℕ) → Bool → Option (List ℕ) → Option (List ℕ) → Type 0
-WroteFront words before now ended held_before held_now = Keeps held_before held_now
-    ⊎ ((asks_input (command_of words) ≡ false) × GrowsByFront held_before held_now (due words []).text)
-    ⊎ ((bytes : List ℕ) × HasRead before now ended bytes × GrowsByFront held_before held_now (due words bytes).text)
+abbrev pub WrotePrefix : List (List ℕ) → Option (List ℕ) → Option (List ℕ) → Bool → Option (List ℕ) → Option (List ℕ) → Type 0
+WrotePrefix words before now ended held_before held_now = Keeps held_before held_now
+    ⊎ ((asks_input (command_of words) ≡ false) × GrowsByPrefix held_before held_now (due words []).text)
+    ⊎ ((bytes : List ℕ) × HasRead before now ended bytes × GrowsByPrefix held_before held_now (due words bytes).text)
 
 -- The status is a refusal's exactly where the bytes are no scenario.
 abbrev pub IsRunWhereRead : ℕ → List ℕ → Type 0
 IsRunWhereRead status bytes = (status ≢ 3) ↔ ((sc : Scenario) × (reading bytes ≡ Ok sc))
 
 -- Where the status is not a refusal's, the bytes are a scenario. In the run of its schedule the loads and channel reads up to
--- the first touch show flat memory; after each front of the run without a touch flat memory's bytes are kept; and of each
+-- the first touch show flat memory; after each prefix of the run without a touch flat memory's bytes are kept; and of each
 -- answer of a copy before the first touch holds what nc_copied says: with its poll the destination had the source's bytes.
 abbrev pub IsFlat : ℕ → List ℕ → Type 0
 IsFlat status bytes = status ≢ 3 → (sc : Scenario) × (reading bytes ≡ Ok sc) × (IsLatest sc (sched sc) × IsKept sc (sched sc) × IsEachCopied sc (sched sc))

@@ -3,7 +3,7 @@
 ghost use Rattle.std.specs.Prelude.{◌≡◌, ◌≢◌, ◌≤◌, IfOk, OnOk, OnErr, Err};
 ghost use Rattle.std.specs.Io.KnownBytes.{Appends};
 ghost use Rattle.nc_io.specs.Causes.{Rose};
-ghost use Rattle.nc_io.specs.Streams.{GrowsByFront};
+ghost use Rattle.nc_io.specs.Streams.{GrowsByPrefix};
 ghost use Rattle.nc_scen.specs.Accepted.{IsAccepted};
 ghost use Rattle.nc_rules.specs.Lines.{report, status, status_at, at_end};
 ghost use Rattle.nc_rules.specs.Schedule.{sched};
@@ -55,7 +55,7 @@ pub fn run_out<K: Sink>(alloc: Global, sc: &Scenario, out: &mut K) -> Result<u8,
     ensures kind { IfOk result IsAnswer }
     ensures run { IfOk result (λ n. n ≢ 3) }
     ensures text { OnOk result (Appends (K.held out.old) (K.held out.new) (report sc.now (sched sc.now))) }
-    ensures front { OnErr result (GrowsByFront (K.held out.old) (K.held out.new) (report sc.now (sched sc.now))) }
+    ensures prefix { OnErr result (GrowsByPrefix (K.held out.old) (K.held out.new) (report sc.now (sched sc.now))) }
     ensures later { K.faults out.old ≤ K.faults out.new }
     ensures cause { result ≡ Err Stop.Failed → Rose (K.faults out.old) (K.faults out.new) }
 {

@@ -3,7 +3,7 @@
 ghost use Rattle.std.specs.Prelude.{◌≡◌, ◌≢◌, ◌⊎◌, ◌↔◌, [], List, ℕ, map, string_bytes, false, true, Some, None, Ok, Err};
 ghost use Rattle.std.specs.Io.KnownBytes.{Appends, Keeps};
 ghost use Rattle.nc_io.specs.Causes.{Rose};
-ghost use Rattle.nc_io.specs.Streams.{GrowsByFront};
+ghost use Rattle.nc_io.specs.Streams.{GrowsByPrefix};
 ghost use Rattle.nc_scen.specs.Reading.{reading};
 ghost use Rattle.nc_migrate.specs.Migrating.{migrated};
 ghost use Rattle.nc_pieces.specs.Serving.{pool_answer};
@@ -11,7 +11,7 @@ ghost use Rattle.nc_flat.specs.Laws.{EachRunIsLatest, EachRunIsKept};
 ghost use Rattle.nc_copied.specs.Laws.{EachCopyIsDone};
 ghost use Rattle.nc_scen.specs.Accepted.{IsAccepted};
 ghost use Rattle.nc_top.specs.Due.{due, due_by, due_for, due_for_gen, due_for_migrate, due_for_pool, command_of, is_migrate, is_pool, is_run, IsAnswer};
-ghost use Rattle.nc_top.specs.Inputs.{HasRead, IsFlat, IsRunWhereRead, KeepsScenario, TakesFew, TellsItsTouches, WroteFront};
+ghost use Rattle.nc_top.specs.Inputs.{HasRead, IsFlat, IsRunWhereRead, KeepsScenario, TakesFew, TellsItsTouches, WrotePrefix};
 
 use crate::generated::run_generated;
 use crate::input::{Lost, input_of};
@@ -35,7 +35,7 @@ pub fn put<K: Sink>(out: &mut K, status: u8, text: &[u8]) -> u8
     ensures written { IsAnswer result → (result ≡ status) × Appends (K.held out.old) (K.held out.new) text.now }
     ensures sink { result ≡ 5 → Rose (K.faults out.old) (K.faults out.new) }
     ensures reads { result ≢ 4 }
-    ensures front { GrowsByFront (K.held out.old) (K.held out.new) text.now }
+    ensures prefix { GrowsByPrefix (K.held out.old) (K.held out.new) text.now }
 {
     match write_all(out, text) {
         Ok(()) => status,
@@ -51,7 +51,7 @@ fn answer_scenario<K: Sink>(alloc: Global, sc: &Scenario, out: &mut K) -> u8
     ensures sink { result ≡ 5 → Rose (K.faults out.old) (K.faults out.new) }
     ensures reads { result ≢ 4 }
     ensures run { IsAnswer result → result ≢ 3 }
-    ensures front { GrowsByFront (K.held out.old) (K.held out.new) (due_for (Ok sc.now)).text }
+    ensures prefix { GrowsByPrefix (K.held out.old) (K.held out.new) (due_for (Ok sc.now)).text }
 {
     match run_out(alloc, sc, out) {
         Ok(status) => status,
@@ -68,7 +68,7 @@ fn answer_to<K: Sink>(alloc: Global, bytes: &[u8], out: &mut K) -> u8
     ensures read { IsAnswer result → IsRunWhereRead result bytes.now }
     ensures flat { IsAnswer result → IsFlat result bytes.now }
     ensures touches { IsAnswer result → TellsItsTouches result bytes.now }
-    ensures front { Keeps (K.held out.old) (K.held out.new) ⊎ GrowsByFront (K.held out.old) (K.held out.new) (due_for (reading bytes.now)).text }
+    ensures prefix { Keeps (K.held out.old) (K.held out.new) ⊎ GrowsByPrefix (K.held out.old) (K.held out.new) (due_for (reading bytes.now)).text }
 {
     match read(alloc, bytes) {
         Ok(sc) => {
@@ -92,7 +92,7 @@ fn answer_migrate<K: Sink>(alloc: Global, bytes: &[u8], out: &mut K) -> u8
     ensures sink { result ≡ 5 → Rose (K.faults out.old) (K.faults out.new) }
     ensures reads { result ≢ 4 }
     ensures law { result ≡ 0 → KeepsScenario bytes.now (due_for_migrate (migrated bytes.now)).text }
-    ensures front { Keeps (K.held out.old) (K.held out.new) ⊎ GrowsByFront (K.held out.old) (K.held out.new) (due_for_migrate (migrated bytes.now)).text }
+    ensures prefix { Keeps (K.held out.old) (K.held out.new) ⊎ GrowsByPrefix (K.held out.old) (K.held out.new) (due_for_migrate (migrated bytes.now)).text }
 {
     match migrate(alloc, bytes) {
         Ok(text) => put(out, 0, &text),
@@ -109,7 +109,7 @@ fn answer_pool<K: Sink>(alloc: Global, bytes: &[u8], out: &mut K) -> u8
     ensures written { IsAnswer result → (result ≡ (due_for_pool (pool_answer bytes.now)).status) × Appends (K.held out.old) (K.held out.new) (due_for_pool (pool_answer bytes.now)).text }
     ensures sink { result ≡ 5 → Rose (K.faults out.old) (K.faults out.new) }
     ensures reads { result ≢ 4 }
-    ensures front { Keeps (K.held out.old) (K.held out.new) ⊎ GrowsByFront (K.held out.old) (K.held out.new) (due_for_pool (pool_answer bytes.now)).text }
+    ensures prefix { Keeps (K.held out.old) (K.held out.new) ⊎ GrowsByPrefix (K.held out.old) (K.held out.new) (due_for_pool (pool_answer bytes.now)).text }
 {
     match pool_answer(alloc, bytes) {
         Ok(text) => put(out, 0, &text),
@@ -124,7 +124,7 @@ fn answer_gen<K: Sink>(alloc: Global, n: u64, out: &mut K) -> u8
     ensures sink { result ≡ 5 → Rose (K.faults out.old) (K.faults out.new) }
     ensures reads { result ≢ 4 }
     ensures runs { result ≢ 3 }
-    ensures front { Keeps (K.held out.old) (K.held out.new) ⊎ GrowsByFront (K.held out.old) (K.held out.new) (due_for_gen n).text }
+    ensures prefix { Keeps (K.held out.old) (K.held out.new) ⊎ GrowsByPrefix (K.held out.old) (K.held out.new) (due_for_gen n).text }
 {
     match run_generated(alloc, n) {
         Ok(generated) => put(out, generated.status, &generated.line),
@@ -142,7 +142,7 @@ fn answer_command<K: Sink>(alloc: Global, command: Command, bytes: &[u8], out: &
     ensures touches { command ≡ Command.Run → IsAnswer result → TellsItsTouches result bytes.now }
     ensures generated { (n : ℕ) → command ≡ Command.Gen n → result ≢ 3 }
     ensures moved { command ≡ Command.Migrate → result ≡ 0 → KeepsScenario bytes.now (due_by command bytes.now).text }
-    ensures front { Keeps (K.held out.old) (K.held out.new) ⊎ GrowsByFront (K.held out.old) (K.held out.new) (due_by command bytes.now).text }
+    ensures prefix { Keeps (K.held out.old) (K.held out.new) ⊎ GrowsByPrefix (K.held out.old) (K.held out.new) (due_by command bytes.now).text }
 {
     match command {
         Command::Run => answer_to(alloc, bytes, out),
@@ -205,7 +205,7 @@ pub fn dmasim<S: Source, K: Sink>(
     ensures sink { result ≡ 5 → Rose (K.faults out.old) (K.faults out.new) }
 
     // Whatever is answered, what was written is a prefix of what is due.
-    ensures front { WroteFront (map string_bytes words.now.items) (S.left src.old) (S.left src.new) (S.ended src.new) (K.held out.old) (K.held out.new) }
+    ensures prefix { WrotePrefix (map string_bytes words.now.items) (S.left src.old) (S.left src.new) (S.ended src.new) (K.held out.old) (K.held out.new) }
 
     // Up to the first touch every load and channel read of every run shows flat memory, and after each prefix of a run
     // without a touch the bytes of flat memory are kept. It holds of every run of every accepted scenario, the reported

@@ -4,7 +4,7 @@ use Rattle.std.specs.List.{flat_map}
 use Rattle.std.specs.Prelude.{Result, Ok, Err, OnErr}
 use Rattle.std.specs.Io.KnownBytes.{Appends}
 use Rattle.std.proofs.KnownBytes.{Appends-nil, Appends-trans}
-use Rattle.nc_io.specs.Streams.{GrowsByFront}
+use Rattle.nc_io.specs.Streams.{GrowsByPrefix}
 use Rattle.nc_scen.specs.Accepted.{IsAccepted}
 use Rattle.nc_scen.specs.declared.events.Event.{Event}
 use Rattle.nc_scen.specs.declared.scenario.Scenario.{Scenario}
@@ -45,21 +45,21 @@ replay_on held mid now sc w v es left rest e here stepped same grown r = record 
   ram = same.ram ∙ r.ram;
 }
 
-pub replay_stopped : (held mid now : Option (List ℕ)) (sc : Scenario) (w : WorldView) (es left rest : List Event) (e : Event) → left ≡ e ∷ rest → GrowsByFront mid now (flat_map line (event_records w.state e)) → Replaying held mid sc w es left
-    → GrowsByFront held now (report sc es)
+pub replay_stopped : (held mid now : Option (List ℕ)) (sc : Scenario) (w : WorldView) (es left rest : List Event) (e : Event) → left ≡ e ∷ rest → GrowsByPrefix mid now (flat_map line (event_records w.state e)) → Replaying held mid sc w es left
+    → GrowsByPrefix held now (report sc es)
 unfolding report
 replay_stopped held mid now sc w es left rest e here grown r = stopped held mid now (start sc) w.state es left rest e (tail sc (after (start sc) es)) here grown r.so_far
 
-pub replay_paused : (held now : Option (List ℕ)) (sc : Scenario) (w : WorldView) (es left : List Event) → left ≡ [] → Replaying held now sc w es left → GrowsByFront held now (report sc es)
+pub replay_paused : (held now : Option (List ℕ)) (sc : Scenario) (w : WorldView) (es left : List Event) → left ≡ [] → Replaying held now sc w es left → GrowsByPrefix held now (report sc es)
 unfolding report
 replay_paused held now sc w es left none r =
     paused held now (text_of (start sc) es) (tail sc (after (start sc) es)) (at_end held now (start sc) w.state es left none r.so_far).0
 
-pub replay_cut : (held mid now : Option (List ℕ)) (sc : Scenario) (w : WorldView) (es left : List Event) (text : List ℕ) → left ≡ [] → text ≡ tail sc w.state → GrowsByFront mid now text → Replaying held mid sc w es left → GrowsByFront held now (report sc es)
+pub replay_cut : (held mid now : Option (List ℕ)) (sc : Scenario) (w : WorldView) (es left : List Event) (text : List ℕ) → left ≡ [] → text ≡ tail sc w.state → GrowsByPrefix mid now text → Replaying held mid sc w es left → GrowsByPrefix held now (report sc es)
 unfolding report
 replay_cut held mid now sc w es left text none is grown r =
     let p = at_end held mid (start sc) w.state es left none r.so_far in
-    cut held mid now (text_of (start sc) es) (tail sc (after (start sc) es)) p.0 (subst (λ t. GrowsByFront mid now t) (is ∙ ap (tail sc) p.1) grown)
+    cut held mid now (text_of (start sc) es) (tail sc (after (start sc) es)) p.0 (subst (λ t. GrowsByPrefix mid now t) (is ∙ ap (tail sc) p.1) grown)
 
 pub replay_done : (held mid now : Option (List ℕ)) (sc : Scenario) (w : WorldView) (es left : List Event) (text : List ℕ) → left ≡ [] → text ≡ tail sc w.state → Appends mid now text → Replaying held mid sc w es left → Appends held now (report sc es)
 unfolding report
@@ -73,15 +73,15 @@ replay_status held now sc w es left none r = ap status_at (at_end held now (star
 
 -- ---- a history before its report
 
-pub live_cut : (held mid now : Option (List ℕ)) (sc : Scenario) (es : List Event) → Appends held mid (history_lines es) → GrowsByFront mid now (report sc es) → GrowsByFront held now (live_text sc es)
+pub live_cut : (held mid now : Option (List ℕ)) (sc : Scenario) (es : List Event) → Appends held mid (history_lines es) → GrowsByPrefix mid now (report sc es) → GrowsByPrefix held now (live_text sc es)
 unfolding live_text
-live_cut held mid now sc es front grown = cut held mid now (history_lines es) (report sc es) front grown
+live_cut held mid now sc es prefix grown = cut held mid now (history_lines es) (report sc es) prefix grown
 
-pub live_front : (held now : Option (List ℕ)) (sc : Scenario) (es : List Event) → GrowsByFront held now (history_lines es) → GrowsByFront held now (live_text sc es)
+pub live_front : (held now : Option (List ℕ)) (sc : Scenario) (es : List Event) → GrowsByPrefix held now (history_lines es) → GrowsByPrefix held now (live_text sc es)
 unfolding live_text
 live_front held now sc es g =
     let (behind, is) = g.begins in
-    record { front = g.front; grown = g.grown; begins = (behind ++ report sc es, ap (λ t. t ++ report sc es) is ∙ append_assoc g.front behind (report sc es)) }
+    record { prefix = g.prefix; grown = g.grown; begins = (behind ++ report sc es, ap (λ t. t ++ report sc es) is ∙ append_assoc g.prefix behind (report sc es)) }
 
 pub live_done : (held mid now : Option (List ℕ)) (sc : Scenario) (es : List Event) → Appends held mid (history_lines es) → Appends mid now (report sc es) → Appends held now (live_text sc es)
 unfolding live_text

@@ -121,7 +121,7 @@ IsFree sc es Caches = Unit {0}
 
 -- a log of tries ends with this one
 abbrev pub EndsWith : List (ℕ × ℕ) → ℕ × ℕ → Type 0
-EndsWith log t = (front : List (ℕ × ℕ)) × (log ≡ front ++ t ∷ [])
+EndsWith log t = (prefix : List (ℕ × ℕ)) × (log ≡ prefix ++ t ∷ [])
 
 -- what a driver is told of a pool's answer: that it got the slot, exactly where the word found is that of a free slot
 abbrev pub told_by : HartNo → PoolTry → Event

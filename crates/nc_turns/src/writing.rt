@@ -3,7 +3,7 @@
 ghost use Rattle.std.specs.Prelude.{◌≡◌, ◌≢◌, ◌≤◌, ◌++◌, Err, IfOk, OnOk, OnErr};
 ghost use Rattle.std.specs.Io.KnownBytes.{Appends};
 ghost use Rattle.nc_io.specs.Causes.{Rose};
-ghost use Rattle.nc_io.specs.Streams.{GrowsByFront};
+ghost use Rattle.nc_io.specs.Streams.{GrowsByPrefix};
 ghost use Rattle.nc_scen.specs.Accepted.{IsAccepted};
 ghost use Rattle.nc_rules.specs.Flat.{AreThere};
 ghost use Rattle.nc_rules.specs.Lines.{report, status};
@@ -36,7 +36,7 @@ pub fn write_live<K: Sink>(
     ensures kind { IfOk result IsAnswer }
     ensures run { IfOk result (λ n. n ≢ 3) }
     ensures text { OnOk result (Appends (K.held out.old) (K.held out.new) (live_text sc.now history.now)) }
-    ensures front { OnErr result (GrowsByFront (K.held out.old) (K.held out.new) (live_text sc.now history.now)) }
+    ensures prefix { OnErr result (GrowsByPrefix (K.held out.old) (K.held out.new) (live_text sc.now history.now)) }
     ensures later { K.faults out.old ≤ K.faults out.new }
     ensures cause { result ≡ Err Stop.Failed → Rose (K.faults out.old) (K.faults out.new) }
 {
@@ -81,7 +81,7 @@ fn replay_out<K: Sink>(
     ensures kind { IfOk result IsAnswer }
     ensures run { IfOk result (λ n. n ≢ 3) }
     ensures text { OnOk result (Appends (K.held out.old) (K.held out.new) (report sc.now history.now)) }
-    ensures front { OnErr result (GrowsByFront (K.held out.old) (K.held out.new) (report sc.now history.now)) }
+    ensures prefix { OnErr result (GrowsByPrefix (K.held out.old) (K.held out.new) (report sc.now history.now)) }
     ensures later { K.faults out.old ≤ K.faults out.new }
     ensures cause { result ≡ Err Stop.Failed → Rose (K.faults out.old) (K.faults out.new) }
 {

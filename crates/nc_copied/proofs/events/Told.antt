@@ -103,9 +103,9 @@ goes_answer : (w : WorldState) (g : HartNo) (machine : MachineState) (went : Wen
 goes_answer w g machine went slots touch rs h n a none here =
     let ms = went.moves in
     let op = (driver_of w g.0).op in
-    let front = touch_records touch ++ rs in
+    let prefix = touch_records touch ++ rs in
     let moves = owner_records ms.transfers ++ back_records g ms.backs in
-    let k = behind front (moves ++ answered g op ms.answer) h n a (none_append (touch_records touch) rs (touch_none touch) none) here in
+    let k = behind prefix (moves ++ answered g op ms.answer) h n a (none_append (touch_records touch) rs (touch_none touch) none) here in
     let last = behind moves (answered g op ms.answer) h n a (none_append (owner_records ms.transfers) (back_records g ms.backs) (owners_none ms.transfers) (plain_none (back_records g ms.backs) (plain_backs g ms.backs))) k in
     let it = the_answer g op ms.answer h n a last in
     record { by_is = ap Some it.hart; op = ap (λ (x : HartNo). (driver_of w x.0).op) (sym it.hart) ∙ it.op; answer = it.answer }

@@ -83,12 +83,12 @@ in_part range at len i part lt = covers-from range (at + i) (omega (arith, part.
 
 -- the run, whose flat memory is f, has the copy's poll behind it
 pub record IsLeftBy (sc : Scenario) (es : List Event) (f : List ℕ) (h : HartNo) (n : ℕ) (k : CopyOp) : Type 0 where
-  pub front : List Event
+  pub prefix : List Event
   pub behind : List Event
-  pub is : es ≡ front ++ behind
-  pub polled : IsPolled sc front h n k.chan
-  pub left : (i : ℕ) → i < k.len → byte (flat_after sc front) (to_place sc k + i) ≡ byte (flat_after sc front) (from_place sc k + i)
-  pub stays : WritesNone sc front behind k.chan → (i : ℕ) → i < k.len → byte f (to_place sc k + i) ≡ byte f (from_place sc k + i)
+  pub is : es ≡ prefix ++ behind
+  pub polled : IsPolled sc prefix h n k.chan
+  pub left : (i : ℕ) → i < k.len → byte (flat_after sc prefix) (to_place sc k + i) ≡ byte (flat_after sc prefix) (from_place sc k + i)
+  pub stays : WritesNone sc prefix behind k.chan → (i : ℕ) → i < k.len → byte f (to_place sc k + i) ≡ byte f (from_place sc k + i)
 
 -- each byte of its ranges stays, or its channel writes
 pub record EachLeft (sc : Scenario) (w : WorldState) (f : List ℕ) (e : Event) (k : CopyOp) : Type 0 where
@@ -97,12 +97,12 @@ pub record EachLeft (sc : Scenario) (w : WorldState) (f : List ℕ) (e : Event) 
 
 pub extend : (sc : Scenario) (es : List Event) (w : WorldState) (f : List ℕ) (e : Event) (h : HartNo) (n : ℕ) (k : CopyOp) → after (start sc) es ≡ w → EachLeft sc w f e k → IsLeftBy sc es f h n k → IsLeftBy sc (es ++ e ∷ []) (flat f (deeds (event_trace w e))) h n k
 extend sc es w f e h n k at each old =
-    let first = after (start sc) old.front in
-    let here : after first old.behind ≡ w = sym (after_two (start sc) old.front old.behind) ∙ ap (after (start sc)) (sym old.is) ∙ at in
+    let first = after (start sc) old.prefix in
+    let here : after first old.behind ≡ w = sym (after_two (start sc) old.prefix old.behind) ∙ ap (after (start sc)) (sym old.is) ∙ at in
     record {
-      front = old.front;
+      prefix = old.prefix;
       behind = old.behind ++ e ∷ [];
-      is = ap (λ (xs : List Event). xs ++ e ∷ []) old.is ∙ append_assoc old.front old.behind (e ∷ []);
+      is = ap (λ (xs : List Event). xs ++ e ∷ []) old.is ∙ append_assoc old.prefix old.behind (e ∷ []);
       polled = old.polled;
       left = old.left;
       stays = λ none i lt.
@@ -187,7 +187,7 @@ poll_leaves sc es h k s rest may at is poll =
     let still : flat f (deeds (event_trace w e)) ≡ f = ap (λ (ms : List TraceItem). flat f (deeds ms)) p.silent in
     let now : flat_after sc (es ++ e ∷ []) ≡ f = flat_end sc es e ∙ still in
     record {
-      front = es ++ e ∷ [];
+      prefix = es ++ e ∷ [];
       behind = [];
       is = sym (append-nil (es ++ e ∷ []));
       polled = record { before = es; is = refl; may = may; op = refl; polls = nx ∙ ap nexts.Poll p.chan_is };

@@ -89,13 +89,13 @@ at_event sc es e h law a fine lt = record {
   lt = lt;
 }
 
-along : (sc : Scenario) (front es : List Event) (h : HartNo) → RunsAreFlat → IsAccepted sc → IsFine sc (front ++ es) → h.0 < length sc.harts → StandsAt sc front h → StandsAt sc (front ++ es) h
-along sc front [] h law a fine lt old = subst (λ (xs : List Event). StandsAt sc xs h) (sym (append-nil front)) old
-along sc front (e ∷ es) h law a fine lt old =
-    let same : (front ++ e ∷ []) ++ es ≡ front ++ e ∷ es = append_assoc front (e ∷ []) es in
-    let more : IsFine sc ((front ++ e ∷ []) ++ es) = subst (IsFine sc) (sym same) fine in
+along : (sc : Scenario) (prefix es : List Event) (h : HartNo) → RunsAreFlat → IsAccepted sc → IsFine sc (prefix ++ es) → h.0 < length sc.harts → StandsAt sc prefix h → StandsAt sc (prefix ++ es) h
+along sc prefix [] h law a fine lt old = subst (λ (xs : List Event). StandsAt sc xs h) (sym (append-nil prefix)) old
+along sc prefix (e ∷ es) h law a fine lt old =
+    let same : (prefix ++ e ∷ []) ++ es ≡ prefix ++ e ∷ es = append_assoc prefix (e ∷ []) es in
+    let more : IsFine sc ((prefix ++ e ∷ []) ++ es) = subst (IsFine sc) (sym same) fine in
     subst (λ (xs : List Event). StandsAt sc xs h) same
-    (along sc (front ++ e ∷ []) es h law a more lt (stands_next sc front e h (at_event sc front e h law a (fine_front sc (front ++ e ∷ []) es more) lt) old))
+    (along sc (prefix ++ e ∷ []) es h law a more lt (stands_next sc prefix e h (at_event sc prefix e h law a (fine_front sc (prefix ++ e ∷ []) es more) lt) old))
 
 stands : (sc : Scenario) (es : List Event) (h : HartNo) → RunsAreFlat → IsAccepted sc → IsFine sc es → h.0 < length sc.harts → StandsAt sc es h
 stands sc es h law a fine lt = along sc [] es h law a fine lt (started sc h lt)
@@ -224,7 +224,7 @@ is_done sc es e h n k t l =
     (subst (λ (v : WorldState). All (λ (lot : Lot). IsEndName lot.id → ⊥) (driver_of v h.0).lots) (sym here) none)
     (subst (λ (v : WorldState). IsItsOwn h.0 (owner_of v (to_place sc k + i))) (sym here) (last_owned sc es e h k i l t.is.may lt)) in
     record {
-      front = left.front;
+      prefix = left.prefix;
       behind = left.behind;
       is = left.is;
       polled = left.polled;

@@ -328,7 +328,7 @@ some_drops f lot e only comes size some =
     let here : In o (dropped f.effects f.size p) = subst (λ (os : List HartOp). In o os) (sym (cond-true (comes_back lot.list.dir) (map (cbo (return_op f.effects)) (blocks f.size range)) [] comes)) (in_map (cbo (return_op f.effects)) (range.at / f.size) (blocks f.size range) met) in
     (o, in_flat_map (dropped f.effects f.size) p o (parts f lot) there here)
 
--- what comes of a front that ends the lot's stay
+-- what comes of a prefix that ends the lot's stay
 pub coming_front : (n : MapId) (id : LotId) (front more : List Step) → list_any (ends id) front ≡ true → coming n id (front ++ more) ≡ coming n id front
 coming_front n id [] more ended = absurd cc
 coming_front n id (s ∷ front) more ended = elim (cases_Bool (ends id s)) [

@@ -5,11 +5,11 @@ use Rattle.nc_rules.specs.Flat.{AreThere}
 use Rattle.nc_live.proofs.Wrote.{wrote, grew}
 use Rattle.nc_live.proofs.live.live_run.Goals as goal
 
-pub returns-in_err-status-clause-front : goal.returns-in_err-status-clause-front
-returns-in_err-status-clause-front g c =
+pub returns-in_err-status-clause-prefix : goal.returns-in_err-status-clause-prefix
+returns-in_err-status-clause-prefix g c =
     let held = g.K.Sink.held in
     let p = err_from_is_err_and c.from_residual.result c.from_residual.ensures.1 in
-    rw p.1 (grew (held c.args.out.now) (held c.write_live.new.out) c.args.sc.now c.in-Ok.done.events c.history.result.now c.in-Ok.ensures c.history.ensures.value c.in_err-status.ensures.front)
+    rw p.1 (grew (held c.args.out.now) (held c.write_live.new.out) c.args.sc.now c.in-Ok.done.events c.history.result.now c.in-Ok.ensures c.history.ensures.value c.in_err-status.ensures.prefix)
 
 pub returns-clause-text : goal.returns-clause-text
 returns-clause-text g c =

@@ -17,19 +17,19 @@ running-preserved g c =
       omega (arith, c.running.invariant.1, c.in_ok-stepped.ensures.later),
     )
 
-pub returns-in_err-stepped-clause-front : goal.returns-in_err-stepped-clause-front
-returns-in_err-stepped-clause-front g c =
+pub returns-in_err-stepped-clause-prefix : goal.returns-in_err-stepped-clause-prefix
+returns-in_err-stepped-clause-prefix g c =
     let held = g.K.Sink.held in
     let p = err_from_is_err_and c.from_residual.result c.from_residual.ensures.1 in
-    rw p.1 (go_stopped (held c.args.out.now) (held c.running.out) (held c.step_out_with.new.out) c.args.sc.now c.running.w c.running.sched c.next.new.self c.running.last c.in-Some.e c.in-Some.ensures.event c.in_err-stepped.ensures.front c.running.invariant.0)
+    rw p.1 (go_stopped (held c.args.out.now) (held c.running.out) (held c.step_out_with.new.out) c.args.sc.now c.running.w c.running.sched c.next.new.self c.running.last c.in-Some.e c.in-Some.ensures.event c.in_err-stepped.ensures.prefix c.running.invariant.0)
 
-pub returns-in_default-tail-clause-front : goal.returns-in_default-tail-clause-front
-returns-in_default-tail-clause-front g c =
+pub returns-in_default-tail-clause-prefix : goal.returns-in_default-tail-clause-prefix
+returns-in_default-tail-clause-prefix g c =
     let held = g.K.Sink.held in
     go_paused (held c.args.out.now) (held c.running.out) c.args.sc.now c.running.w c.running.sched c.running.last c.in_default-next.ensures.event c.running.invariant.0
 
-pub returns-in_err-write_all-clause-front : goal.returns-in_err-write_all-clause-front
-returns-in_err-write_all-clause-front g c =
+pub returns-in_err-write_all-clause-prefix : goal.returns-in_err-write_all-clause-prefix
+returns-in_err-write_all-clause-prefix g c =
     let held = g.K.Sink.held in
     let p = err_from_is_err_and c.from_residual-in_err-write_all.result c.from_residual-in_err-write_all.ensures.1 in
     rw p.1 (go_cut (held c.args.out.now) (held c.running.out) (held c.write_all.new.out) c.args.sc.now c.running.w c.running.sched c.running.last c.deref.result.now

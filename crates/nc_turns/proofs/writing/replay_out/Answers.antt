@@ -17,22 +17,22 @@ loop-e-preserved g c =
       omega (arith, c.loop-e.invariant.1, c.in_ok-step_out_with.ensures.later),
     )
 
-pub returns-in_err-step_out_with-clause-front : goal.returns-in_err-step_out_with-clause-front
-returns-in_err-step_out_with-clause-front g c =
+pub returns-in_err-step_out_with-clause-prefix : goal.returns-in_err-step_out_with-clause-prefix
+returns-in_err-step_out_with-clause-prefix g c =
     let held = g.K.Sink.held in
     let es = c.args.history.now in
     let p = err_from_is_err_and c.from_residual.result c.from_residual.ensures.1 in
-    rw p.1 (replay_stopped (held c.args.out.now) (held c.loop-e.out) (held c.step_out_with.new.out) c.args.sc.now c.loop-e.w es _ _ _ (drop_more es c.loop-e.e-index _ c.loop-e-test.true) c.in_err-step_out_with.ensures.front c.loop-e.invariant.0)
+    rw p.1 (replay_stopped (held c.args.out.now) (held c.loop-e.out) (held c.step_out_with.new.out) c.args.sc.now c.loop-e.w es _ _ _ (drop_more es c.loop-e.e-index _ c.loop-e-test.true) c.in_err-step_out_with.ensures.prefix c.loop-e.invariant.0)
 
-pub returns-in_default-tail-clause-front : goal.returns-in_default-tail-clause-front
-returns-in_default-tail-clause-front g c =
+pub returns-in_default-tail-clause-prefix : goal.returns-in_default-tail-clause-prefix
+returns-in_default-tail-clause-prefix g c =
     let held = g.K.Sink.held in
     let es = c.args.history.now in
     let none : drop c.loop-e.e-index es ≡ [] = drop_all c.loop-e.e-index es (omega (arith, c.loop-e-test.false)) in
     replay_paused (held c.args.out.now) (held c.loop-e.out) c.args.sc.now c.loop-e.w es _ none c.loop-e.invariant.0
 
-pub returns-in_err-write_all-clause-front : goal.returns-in_err-write_all-clause-front
-returns-in_err-write_all-clause-front g c =
+pub returns-in_err-write_all-clause-prefix : goal.returns-in_err-write_all-clause-prefix
+returns-in_err-write_all-clause-prefix g c =
     let held = g.K.Sink.held in
     let es = c.args.history.now in
     let none : drop c.loop-e.e-index es ≡ [] = drop_all c.loop-e.e-index es (omega (arith, c.loop-e-test.false)) in
