@@ -60,7 +60,7 @@ fn number_to_field(object: &Value, key: &str, top: u64) -> Result<u64, Wrong>
     most(number_field(object, key)?, top)
 }
 
-/// Reads the number of a required key, which is at most `most`.
+/// Reads the number of a required key, which is at most `top`.
 pub fn number_to_at(
     alloc: Global,
     object: &Value,
