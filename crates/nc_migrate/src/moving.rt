@@ -43,7 +43,8 @@ fn moved(alloc: Global, value: Value, version: u64) -> Result<Value, AllocError>
     }
 }
 
-/// The scenario that the bytes are, moved to version 2, as one line: the compact text of its JSON value with a line feed.
+/// Returns the scenario that the bytes are, moved to version 2, as one line: the compact text of its JSON value and a
+/// line feed.
 /// A version 1 value gets `version` 2, and `block` and `zero` of 64; a version 2 value is unchanged.
 ///
 /// # Errors

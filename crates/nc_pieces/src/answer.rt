@@ -33,8 +33,8 @@ fn read(alloc: Global, bytes: &[u8]) -> Result<Request, PoolFault>
     }
 }
 
-/// The lines that the command `pool` answers to some bytes, or the first refusal: of length, JSON, form, size, alignment
-/// and boundary.
+/// Returns the lines that the command `pool` answers to some bytes, or the first refusal: of length, JSON, form, size,
+/// alignment and boundary.
 ///
 /// # Errors
 ///
@@ -49,7 +49,7 @@ pub fn pool_answer(alloc: Global, bytes: &[u8]) -> Result<Vec<u8>, PoolFault>
     Ok(text.into_bytes())
 }
 
-/// The line of a refusal.
+/// Returns the line of a refusal.
 pub fn pool_refused(refused: PoolRefused) -> &'static [u8]
     ensures { result.now ≡ pool_refused_line refused }
 {

@@ -174,7 +174,7 @@ fn op_items(value: &Value) -> Result<&Vec<Value>, Wrong>
     sized(field(value, "ops")?, 0, 4096)
 }
 
-/// The request that a value is.
+/// Reads the request that a value is.
 #[tactic(auto, unfolding(crate::specs::Reading::request_of))]
 pub fn read_request(alloc: Global, value: &Value) -> Result<Request, OpFault>
     ensures { GivesOp (λ r. r) result (request_of (view value.now)) }

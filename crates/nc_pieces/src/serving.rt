@@ -45,7 +45,7 @@ impl Model for Serving {
 }
 
 impl Serving {
-    /// The pool that a request asks for, with all its pages free.
+    /// Makes the pool that a request asks for, with all its pages free.
     pub fn new(alloc: Global, request: &Request) -> Result<Serving, PoolFault>
         ensures empty { IfOk result (λ s. set.len s.pool.used ≡ 0) }
         ensures gives { GivesPool (λ s. s) result (serving_of request.now (pool_of (layout_of request.now.size request.now.align request.now.boundary))) }
