@@ -1,14 +1,14 @@
-//! How a pool cuts its pages.
+//! The layout of a pool's pages: where on a page pieces may start.
 
 ghost use Rattle.std.specs.Prelude.{◌≡◌, ◌+◌, ◌*◌, ◌/◌, ◌%◌, ◌<◌, ◌≤◌, MatchOption, ℕ};
 ghost use Rattle.nc_dmapool.specs.Layouts.{is_power, layout_of, offset_of, place_count};
 
 use std::marker::Model;
 
-/// The bytes of a page.
+/// The size of a page, in bytes.
 pub const PAGE: u32 = 4096;
 
-/// Why no pool has such pieces.
+/// Why a pool of such pieces is refused.
 #[derive(Clone, Copy, Debug, PartialEq, Eq)]
 pub enum PoolBad {
     /// The size is 0, or above the 4,096 bytes of a page.
@@ -19,15 +19,16 @@ pub enum PoolBad {
     Boundary,
 }
 
-/// How a pool cuts its pages: pieces of `size` bytes at multiples of `align`, none of them across a multiple of `range`.
+/// How a pool cuts its pages: into pieces of `size` bytes at multiples of `align`, none of them across a multiple of
+/// `range`.
 #[derive(Drop)]
 pub struct Layout {
     size: u32,
     align: u32,
     range: u32,
-    /// From one piece of a range to the next, in bytes.
+    /// The distance from the start of a piece to the start of the next piece of its range, in bytes.
     step: u32,
-    /// The pieces of a range.
+    /// The number of pieces in a range.
     count: u32,
 }
 
@@ -44,7 +45,14 @@ impl Model for Layout {
 }
 
 impl Layout {
-    /// The layout for such pieces; a boundary of 0 is that of the page.
+    /// Returns the layout of pieces of `size` bytes at multiples of `align`, none of which crosses a multiple of
+    /// `boundary`. A boundary of 0 stands for that of the page, 4,096.
+    ///
+    /// # Errors
+    ///
+    /// The first that is wrong: `Size` where the size is not 1 to 4,096; `Align` where the alignment is not a power of
+    /// two from 4 to 4,096; `Boundary` where the boundary is not a power of two up to 4,096, or is less than the size
+    /// rounded up to a multiple of `align`.
     pub fn new(size: u32, align: u32, boundary: u32) -> Result<Layout, PoolBad>
         ensures { result ≡ layout_of size align boundary }
     {
@@ -68,14 +76,14 @@ impl Layout {
         })
     }
 
-    /// The bytes of a piece.
+    /// Returns the size of a piece, in bytes.
     pub fn size(&self) -> u32
         ensures { result ≡ self.now.size }
     {
         self.size
     }
 
-    /// The number of places of a page.
+    /// Returns the number of places on a page, at least 1.
     pub fn places(&self) -> usize
         ensures value { result ≡ place_count self.now }
         ensures some { 0 < result }
@@ -83,7 +91,7 @@ impl Layout {
         (PAGE / self.range * self.count) as usize
     }
 
-    /// Where place `n` of a page is, in bytes from the start of the page.
+    /// Returns the offset of place `n`, which is in range, from the start of its page: in bytes, below 4,096.
     pub fn offset(&self, n: usize) -> u32
         requires { n < place_count self.now }
         ensures value { result ≡ offset_of self.now n }
@@ -93,7 +101,8 @@ impl Layout {
         n / self.count * self.range + n % self.count * self.step
     }
 
-    /// The number of the place at an offset from the start of a page, None where no piece starts there.
+    /// Returns the index of the place at an offset in bytes from the start of a page, or None where no place starts
+    /// there.
     pub fn number(&self, offset: u32) -> Option<usize>
         ensures { MatchOption result ((n : ℕ) → n < place_count self.now → ¬ (offset_of self.now n ≡ offset)) (λ n. offset_of self.now n ≡ offset) }
     {
@@ -107,7 +116,7 @@ impl Layout {
     }
 }
 
-/// Whether a number is a power of two up to 4,096.
+/// Returns whether `x` is a power of two up to 4,096.
 fn is_power(x: u32) -> bool
     ensures { result ≡ is_power x }
 {

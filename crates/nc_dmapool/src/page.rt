@@ -1,4 +1,4 @@
-//! One page that a pool took.
+//! A page that a pool took.
 
 ghost use Rattle.std.specs.Prelude.{◌≡◌, ℕ, ◌+◌, ◌<◌, ◌≤◌, true, false, length, replicate, slice_index_or, slice_set, IfOk, MatchOption};
 ghost use Rattle.nc_dmapool.specs.Marks.{IsFirstFrom, IsFirstMark, HasNoMark};
@@ -7,12 +7,12 @@ use nc_num::NoMemory;
 use std::alloc::Global;
 use std::marker::Model;
 
-/// A page, and of each of its places whether a piece in use starts there.
+/// A page that a pool took, with a mark for each of its places: whether a piece in use starts there.
 #[derive(Drop)]
 pub struct Page {
     at: u32,
     used: Vec<bool>,
-    /// The first place that is not in use, or the number of places.
+    /// The index of the first place that is not in use, or the number of places where all are in use.
     first: usize,
 }
 
@@ -27,7 +27,11 @@ impl Model for Page {
 }
 
 impl Page {
-    /// The page at a place of RAM, with so many places and no piece in use.
+    /// Makes the page that starts at place `at` of RAM, with `places` places and no piece in use.
+    ///
+    /// # Errors
+    ///
+    /// `NoMemory` where memory runs out.
     pub fn new(alloc: Global, at: u32, places: usize) -> Result<Page, NoMemory>
         ensures { IfOk result (λ p. p ≡ record { at = at; marks = replicate places false }) }
     {
@@ -35,14 +39,14 @@ impl Page {
         Ok(Page { at, used, first: 0 })
     }
 
-    /// The place of RAM where the page starts.
+    /// Returns the place of RAM where the page starts, in bytes.
     pub fn at(&self) -> u32
         ensures { result ≡ self.now.at }
     {
         self.at
     }
 
-    /// Whether a piece in use starts at place `n` of the page; false where there is no such place.
+    /// Returns whether a piece in use starts at place `n` of the page; false where `n` is out of range.
     pub fn is_used(&self, n: usize) -> bool
         ensures { result ≡ slice_index_or self.now.marks n false }
     {
@@ -52,7 +56,7 @@ impl Page {
         }
     }
 
-    /// The number of the first place that is not in use.
+    /// Returns the index of the first place that is not in use, or None where all are in use.
     pub fn first_free(&self) -> Option<usize>
         ensures { MatchOption result (HasNoMark false self.now.marks) (λ n. IsFirstMark false self.now.marks n) }
     {
@@ -63,14 +67,14 @@ impl Page {
         }
     }
 
-    /// The number of the first place that is in use.
+    /// Returns the index of the first place that is in use, or None where none is.
     pub fn first_used(&self) -> Option<usize>
         ensures { MatchOption result (HasNoMark true self.now.marks) (λ n. IsFirstMark true self.now.marks n) }
     {
         self.used.iter().position(|used| *used)
     }
 
-    /// Marks place `n` as in use.
+    /// Marks place `n` of the page, which is in range, as in use.
     pub fn mark(&mut self, n: usize)
         requires { n < length self.old.marks }
         ensures { self.new ≡ record self.old { marks = slice_set self.old.marks n true } }
@@ -81,7 +85,7 @@ impl Page {
         }
     }
 
-    /// Marks place `n` as not in use.
+    /// Marks place `n` of the page, which is in range, as not in use.
     pub fn clear(&mut self, n: usize)
         requires { n < length self.old.marks }
         ensures { self.new ≡ record self.old { marks = slice_set self.old.marks n false } }
@@ -91,7 +95,8 @@ impl Page {
     }
 }
 
-/// The first place from a number on that is not in use, or the number of places.
+/// Returns the index of the first place from `from` on that is not in use, or the number of places where all of them
+/// are.
 fn first_from(used: &[bool], from: usize) -> usize
     requires { from ≤ length used.now }
     ensures { IsFirstFrom used.now from result }

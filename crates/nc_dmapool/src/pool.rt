@@ -16,7 +16,7 @@ use nc_num::{Place, Span};
 use std::alloc::Global;
 use std::marker::Model;
 
-/// Why no piece is given.
+/// Why `alloc` gives no piece.
 #[derive(Clone, Copy, Debug, PartialEq, Eq)]
 pub enum AllocNo {
     /// No place is free on the pages taken, and no page is free.
@@ -25,11 +25,11 @@ pub enum AllocNo {
     NoMemory,
 }
 
-/// No piece in use starts at this place.
+/// The error of `free`: no piece in use starts at this place.
 #[derive(Clone, Copy, Debug, PartialEq, Eq)]
 pub struct NotPiece(pub Place);
 
-/// The pool that was to end, unchanged, and the lowest place at which a piece in use starts.
+/// The error of `destroy`: the pool, unchanged, and the lowest place at which a piece in use starts.
 #[derive(Drop)]
 pub struct InUse {
     pub pool: DmaPool,
@@ -59,13 +59,14 @@ impl Model for DmaPool {
 }
 
 impl DmaPool {
-    /// A pool of pieces of `size` bytes at multiples of `align`, none of which crosses a multiple of `boundary`; a
-    /// boundary of 0 is that of the page, 4,096. It has no page yet, and takes no memory.
+    /// Makes a pool of pieces of `size` bytes at multiples of `align`, none of which crosses a multiple of `boundary`.
+    /// A boundary of 0 stands for that of the page, 4,096. The pool has no page yet, and takes no memory.
     ///
     /// # Errors
     ///
-    /// The first that is wrong of size (1 to 4,096), alignment (a power of two from 4 to 4,096) and boundary (a power of
-    /// two up to 4,096, and at least the size rounded up to a multiple of `align`).
+    /// The first that is wrong: `Size` where the size is not 1 to 4,096; `Align` where the alignment is not a power of
+    /// two from 4 to 4,096; `Boundary` where the boundary is not a power of two up to 4,096, or is less than the size
+    /// rounded up to a multiple of `align`.
     pub fn new(alloc: Global, size: u32, align: u32, boundary: u32) -> Result<DmaPool, PoolBad>
         ensures { result ≡ pool_of (layout_of size align boundary) }
     {
@@ -76,21 +77,22 @@ impl DmaPool {
         })
     }
 
-    /// The number of pages that the pool took.
+    /// Returns the number of pages that the pool took.
     pub fn pages_taken(&self) -> usize
         ensures { result ≡ length self.now.pages }
     {
         self.pages.len()
     }
 
-    /// Gives the lowest free place on the pages taken; where there is none, takes the lowest free page of `pages`, and
-    /// gives its first place.
+    /// Gives a piece at the lowest free place on the pages taken. Where no place is free, takes the lowest free page of
+    /// `pages`, and gives a piece at its first place.
     ///
-    /// Each page of this pool is to be taken in `pages`, and is so afterwards.
+    /// The caller has each page of this pool taken in `pages`, and it is so afterwards.
     ///
     /// # Errors
     ///
-    /// `NoPage` exactly where no place and no page is free; `NoMemory` where memory runs out. Nothing is changed then.
+    /// `NoPage` exactly where no place and no page is free; `NoMemory` where memory runs out. Both pools are then
+    /// unchanged.
     pub fn alloc(&mut self, pages: &mut PagePool) -> Result<Span, AllocNo>
         requires { HasTaken pages.old self.old }
         ensures given { IfOk result (λ piece. (given self.old pages.old ≡ Some (record { at = piece.at; pool = self.new; pages = pages.new })) × (piece.len ≡ self.old.layout.size)) }
@@ -108,11 +110,11 @@ impl DmaPool {
         Ok(Span { at, len })
     }
 
-    /// Takes back the piece that starts at a place. It takes no memory.
+    /// Takes back the piece that starts at place `at`. It takes no memory.
     ///
     /// # Errors
     ///
-    /// `NotPiece` exactly where no piece in use starts there. Nothing is changed then.
+    /// `NotPiece` exactly where no piece in use starts there; then the pool is unchanged.
     pub fn free(&mut self, at: Place) -> Result<(), NotPiece>
         ensures freed { OnOk result ((set.contains self.old.used at.0 ≡ true) × (self.new ≡ without_piece self.old at.0)) }
         ensures not_piece { IfErr result (λ e. (e.0 ≡ at) × (set.contains self.old.used at.0 ≡ false) × (self.new ≡ self.old)) }
@@ -126,11 +128,11 @@ impl DmaPool {
         }
     }
 
-    /// Ends the pool, and gives all its pages back. It takes no memory. `pages` is as for `alloc`.
+    /// Ends the pool, and gives all its pages back to `pages`, which is as for `alloc`. It takes no memory.
     ///
     /// # Errors
     ///
-    /// `InUse` exactly where a piece is in use, with the pool unchanged and the lowest such place.
+    /// `InUse` exactly where a piece is in use, with the pool and the lowest such place; both pools are then unchanged.
     pub fn destroy(self, pages: &mut PagePool) -> Result<(), InUse>
         requires { HasTaken pages.old self }
         ensures back { OnOk result ((lowest_used self ≡ None) × (pages.new ≡ all_back pages.old self.pages)) }
@@ -147,7 +149,11 @@ impl DmaPool {
     }
 }
 
-/// Takes the lowest free page, and gives the place of its first piece, which is in use then.
+/// Takes the lowest free page of `pages`, and returns the place of its first piece, which is then in use.
+///
+/// # Errors
+///
+/// `NoPage` exactly where no page is free; `NoMemory` where memory runs out. Nothing is changed then.
 fn take_page(layout: &Layout, own: &mut Vec<Page>, pages: &mut PagePool) -> Result<u32, AllocNo>
     ensures taken { IfOk result (λ at. (lowest_span pages.old 1 ≡ Some (page_span at)) × (own.new.items ≡ own.old.items ++ fresh_page layout.now at ∷ []) × (pages.new ≡ with_pages pages.old (page_span at) false)) }
     ensures whole { IfOk result (λ at. at % 4096 ≡ 0) }
@@ -169,7 +175,7 @@ fn take_page(layout: &Layout, own: &mut Vec<Page>, pages: &mut PagePool) -> Resu
     Ok(span.at)
 }
 
-/// Gives pages back.
+/// Gives the pages of `own` back to `pages`.
 fn give_back(own: &[Page], pages: &mut PagePool)
     requires { AreTaken pages.old own.now }
     ensures { pages.new ≡ all_back pages.old (map (λ p. p.at) own.now) }
@@ -182,8 +188,9 @@ fn give_back(own: &[Page], pages: &mut PagePool)
     }
 }
 
-/// After any list of calls the pieces in use share no byte, start at multiples of the alignment, cross no multiple of the
-/// boundary, and lie on pages that the pool took.
+/// Proves that after any list of calls of `alloc` and `free` on a new pool, the pieces in use share no byte, start at
+/// multiples of the alignment, cross no multiple of the boundary, and lie on pages that the pool took. Each `alloc` is
+/// called with whole pages in RAM, among which the pool's own are taken.
 pub fn pieces_are_apart()
     ensures { PiecesAreApart }
 {}

@@ -1,4 +1,4 @@
-//! The places of all pages that a pool took.
+//! The places on all pages that a pool took.
 
 ghost use Rattle.std.specs.Prelude.{◌≡◌, ℕ, ◌+◌, ◌<◌, ◌≤◌, ◌⊎◌, true, length, List, slice_index_or, MatchOption};
 ghost use Rattle.nc_dmapool.specs.Layouts.{IsLayout, offset_of, place_count};
@@ -7,16 +7,18 @@ ghost use Rattle.nc_dmapool.specs.Marks.{IsFirstMark, HasNoMark, IsPage, ArePage
 use crate::layout::{Layout, PAGE};
 use crate::page::Page;
 
-/// A place of a page, by the number of the page in the order of taking and by its number there.
+/// A place on a page of the pool: `page` is the index of the page, in the order of taking, and `number` the index of
+/// the place on that page.
 #[derive(Clone, Copy, Debug, PartialEq, Eq)]
 pub struct Spot {
-    /// Where it is in RAM.
+    /// The place in RAM, in bytes.
     pub at: u32,
     pub page: usize,
     pub number: usize,
 }
 
-/// The lowest place that is in use, or not, as asked.
+/// Returns the lowest place that is in use where `used` is true, or that is free where it is false; None where there is
+/// no such place.
 pub fn lowest(layout: &Layout, pages: &[Page], used: bool) -> Option<Spot>
     requires { ArePages layout.now pages.now }
     ensures { Finds layout.now used pages.now (length pages.now) result }
@@ -28,7 +30,7 @@ pub fn lowest(layout: &Layout, pages: &[Page], used: bool) -> Option<Spot>
     best
 }
 
-/// The lower of a spot and the first one of a page that is in use, or not, as asked.
+/// Returns the lower of `best` and the first place of page `i` that is in use or free, as `used` asks.
 fn lower(layout: &Layout, best: Option<Spot>, i: usize, page: &Page, used: bool) -> Option<Spot>
     requires layout { IsLayout layout.now }
     requires page { IsPage layout.now page.now }
@@ -48,7 +50,7 @@ fn lower(layout: &Layout, best: Option<Spot>, i: usize, page: &Page, used: bool)
     }
 }
 
-/// The number of the first place of a page that is in use, or not, as asked.
+/// Returns the index of the first place of a page that is in use or free, as `used` asks.
 fn first(page: &Page, used: bool) -> Option<usize>
     ensures { MatchOption result (HasNoMark used page.now.marks) (λ n. IsFirstMark used page.now.marks n) }
 {
@@ -59,7 +61,7 @@ fn first(page: &Page, used: bool) -> Option<usize>
     }
 }
 
-/// The spot at which a piece in use starts at a place of RAM, None where none does.
+/// Returns the spot at which a piece in use starts at place `at` of RAM, or None where no piece does.
 pub fn used_at(layout: &Layout, pages: &[Page], at: u32) -> Option<Spot>
     requires { ArePages layout.now pages.now }
     ensures { FindsUsed layout.now pages.now at result }
@@ -78,7 +80,7 @@ pub fn used_at(layout: &Layout, pages: &[Page], at: u32) -> Option<Spot>
     }
 }
 
-/// The number of the page that a place is on.
+/// Returns the index of a page that place `at` of RAM is on, or None where it is on no page.
 fn page_of(pages: &[Page], at: u32) -> Option<usize>
     ensures { MatchOption result ((i : ℕ) → i < length pages.now → ¬ (is_on (page_at pages.now i) at ≡ true)) (λ i. (i < length pages.now) × (is_on (page_at pages.now i) at ≡ true)) }
 {
@@ -90,7 +92,7 @@ fn page_of(pages: &[Page], at: u32) -> Option<usize>
     None
 }
 
-/// Marks a place as in use, or as free.
+/// Marks the place at `spot`, which exists, as in use where `used` is true, and as free where it is false.
 pub fn mark(pages: &mut Vec<Page>, spot: Spot, used: bool)
     requires page { spot.page < length pages.old.items }
     requires number { spot.number < length (page_at pages.old.items spot.page).marks }

@@ -20,11 +20,16 @@ pub enum CopyStep {
     Poll,
 }
 
-/// Where RAM starts on the bus.
+/// The bus address of RAM's first byte.
 const BUS: u64 = 0x8000_0000;
 
-/// The steps of a copy from the claim of its channel to its end, where `cfg` is the value of NextConfig. The copy, its
-/// order and its registers are this project's own.
+/// Returns the steps of a copy from the claim of its channel to its end, where `cfg` is the value of NextConfig: the
+/// source is lent, then the destination; the channel copies; the destination is taken back, then the source. The device
+/// reads `src` and writes `dst`, which are equally long. The copy, its order and its registers are this project's own.
+///
+/// # Errors
+///
+/// `NoMemory` where memory runs out.
 #[tactic(auto, unfolding(crate::specs::Copy::copy_steps))]
 pub fn copy_plan(
     alloc: Global,
@@ -54,8 +59,13 @@ pub fn copy_plan(
     Ok(steps)
 }
 
-/// The steps between the lending of a copy's ranges and their return: the registers of the channel are set, it is
-/// started, polled and released. The copy and its registers are this project's own.
+/// Returns the steps between the lending of a copy's ranges and their return: the registers of the channel are set, and
+/// it is started, polled and released. `cfg` is the value of NextConfig. The copy and its registers are this project's
+/// own.
+///
+/// # Errors
+///
+/// `NoMemory` where memory runs out.
 pub fn transfer_plan(
     alloc: Global,
     chan: ChanNo,
@@ -72,7 +82,7 @@ pub fn transfer_plan(
     Ok(steps)
 }
 
-/// Sets the registers of the channel, starts it, polls it and releases it.
+/// Pushes the steps that set the registers of the channel, start it, poll it and release it.
 fn push_transfer(
     steps: &mut Vec<CopyStep>,
     chan: ChanNo,
@@ -102,7 +112,7 @@ fn push_transfer(
     push(steps, CopyStep::Op(reg(chan, 0x000, 4, 0)))
 }
 
-/// A store to a register of a channel.
+/// Returns the store of `value` to the register of `width` bytes at offset `off` of a channel.
 fn reg(chan: ChanNo, off: u16, width: u8, value: u64) -> HartOp
     ensures { result ≡ reg chan off width value }
 {

@@ -24,18 +24,18 @@ pub enum ChanStep {
     Idle,
     /// These bytes of RAM were read, or written.
     Moved {
-        /// Where they are.
+        /// The place of the bytes in RAM.
         span: Span,
         /// The bytes, at most 64.
         bytes: Bytes,
-        /// Whether a write left no byte to write; never of a read.
+        /// Whether a write left no byte to write; false for a read.
         done: bool,
     },
     /// The bytes are not all in RAM, and the transfer has ended.
     Error {
         /// The bus address of the first of them.
         bus: u64,
-        /// The number of them.
+        /// How many bytes they are.
         len: u32,
     },
 }
@@ -57,7 +57,7 @@ impl Model for Channel {
     ghost invariant = { λ c. IsChannel (record { regs = c.regs; fifo = c.fifo.items }) };
 }
 
-/// The place of the first of `len` bytes at a bus address, or None where they are not all in RAM.
+/// Returns the place in RAM of the first of `len` bytes at a bus address, or None where they are not all in RAM.
 fn place_on_bus(ram: u32, bus: u64, len: u32) -> Option<u32>
     ensures { result ≡ place_of ram bus len }
 {
@@ -69,7 +69,7 @@ fn place_on_bus(ram: u32, bus: u64, len: u32) -> Option<u32>
     }
 }
 
-/// Puts bytes behind those in the FIFO, which has room for them.
+/// Appends bytes to the FIFO, which has room for them.
 fn put_in(fifo: &mut ArrayVec<u8, 64>, bytes: &[u8])
     requires { array_vec_len fifo.old + length bytes.now ≤ 64 }
     ensures { fifo.new.items ≡ fifo.old.items ++ bytes.now }
@@ -80,7 +80,7 @@ fn put_in(fifo: &mut ArrayVec<u8, 64>, bytes: &[u8])
     }
 }
 
-/// Takes the first `n` bytes out of the FIFO.
+/// Removes the first `n` bytes from the FIFO, and returns them.
 fn take_out(fifo: &mut ArrayVec<u8, 64>, n: usize) -> Bytes
     requires { n ≤ array_vec_len fifo.old }
     ensures bytes { result ≡ take n fifo.old.items }
@@ -96,7 +96,7 @@ fn take_out(fifo: &mut ArrayVec<u8, 64>, n: usize) -> Bytes
 }
 
 impl Channel {
-    /// A channel that nobody has claimed: its registers are 0, and its FIFO is empty.
+    /// Makes a channel that nobody has claimed: its registers are 0, and its FIFO is empty.
     pub fn new() -> Channel
         ensures { result ≡ new_channel }
     {
@@ -106,11 +106,11 @@ impl Channel {
         }
     }
 
-    /// The value of the register of this width at an offset, both in bytes.
+    /// Returns the value of the register of `width` bytes at offset `off`, in bytes.
     ///
     /// # Errors
     ///
-    /// `BadMmio` exactly where there is none.
+    /// `BadMmio` exactly where no such register exists.
     pub fn read(&self, off: u16, width: u8) -> Result<u64, BadMmio>
         ensures value { result ≡ read_of self.now.regs off width }
         ensures sound { IsChannel self.now }
@@ -118,11 +118,11 @@ impl Channel {
         self.regs.read(off, width)
     }
 
-    /// Writes the register of this width at an offset, both in bytes. A start and a stop empty the FIFO.
+    /// Writes `value` to the register of `width` bytes at offset `off`, in bytes. A start and a stop empty the FIFO.
     ///
     /// # Errors
     ///
-    /// `BadMmio` exactly where there is none. Then nothing has changed.
+    /// `BadMmio` exactly where no such register exists; then the channel is unchanged.
     pub fn write(&mut self, off: u16, width: u8, value: u64) -> Result<(), BadMmio>
         ensures answer { result ≡ known_at off width }
         ensures state { self.new ≡ channel_write self.old off width value }
@@ -135,10 +135,12 @@ impl Channel {
         answer
     }
 
-    /// One read: bytes of RAM at ExecSource go into the FIFO.
+    /// Moves the bytes of one read from RAM at ExecSource into the FIFO: those up to the next multiple of the read
+    /// size, as far as they are left to read and the FIFO has room for them.
     ///
-    /// It is disabled where no transfer runs, nothing is left to read, or the FIFO is full; with the order bit also
-    /// where the FIFO has a byte.
+    /// Returns `Idle`, with nothing changed, where no transfer runs, nothing is left to read, or the FIFO is full; with
+    /// the order bit also where the FIFO has a byte. Returns `Error` where the bytes are not all in RAM; then the
+    /// transfer has ended, and the FIFO is empty.
     pub fn read_step(&mut self, ram: &Ram) -> ChanStep
         ensures step { result ≡ read_step self.old ram.now }
         ensures state { self.new ≡ read_next self.old (read_step self.old ram.now) }
@@ -163,9 +165,11 @@ impl Channel {
         }
     }
 
-    /// One write: the first bytes of the FIFO go to RAM at ExecDestination.
+    /// Moves the bytes of one write, the first of the FIFO, to RAM at ExecDestination: those up to the next multiple of
+    /// the write size, as far as the FIFO has them.
     ///
-    /// It is disabled where no transfer runs or the FIFO is empty.
+    /// Returns `Idle`, with nothing changed, where no transfer runs or the FIFO is empty. Returns `Error` where the
+    /// bytes would not all be in RAM; then RAM is unchanged, the transfer has ended, and the FIFO is empty.
     pub fn write_step(&mut self, ram: &mut Ram) -> ChanStep
         ensures step { result ≡ write_step self.old (length ram.old) }
         ensures state { self.new ≡ write_next self.old (write_step self.old (length ram.old)) }
@@ -188,14 +192,14 @@ impl Channel {
         ChanStep::Moved { span, bytes, done }
     }
 
-    /// How many bytes are left to read.
+    /// Returns the number of bytes that are left to read.
     fn to_read(&self) -> u64
         ensures { result ≡ to_read self.now }
     {
         self.regs.exec().bytes - self.fifo.len() as u64
     }
 
-    /// Whether a read is enabled.
+    /// Returns whether a read is enabled.
     fn may_read(&self) -> bool
         ensures { result ≡ may_read self.now }
     {
@@ -205,7 +209,7 @@ impl Channel {
             && !(self.regs.exec().is_ordered() && !self.fifo.is_empty())
     }
 
-    /// How many bytes a read takes.
+    /// Returns the number of bytes that a read takes.
     fn read_len(&self) -> u32
         ensures { result ≡ read_len self.now }
     {
@@ -215,14 +219,14 @@ impl Channel {
         (size - exec.source % size).min(self.to_read()).min(room) as u32
     }
 
-    /// Whether a write is enabled.
+    /// Returns whether a write is enabled.
     fn may_write(&self) -> bool
         ensures { result ≡ may_write self.now }
     {
         self.regs.is_running() && !self.fifo.is_empty()
     }
 
-    /// How many bytes a write gives.
+    /// Returns the number of bytes that a write moves.
     fn write_len(&self) -> u32
         ensures { result ≡ write_len self.now }
     {
@@ -231,7 +235,7 @@ impl Channel {
         (size - exec.destination % size).min(self.fifo.len() as u64) as u32
     }
 
-    /// The transfer meets an error, and ends.
+    /// Ends the transfer with an error, and empties the FIFO.
     fn fail(&mut self)
         ensures { self.new ≡ channel_failed self.old }
     {

@@ -2,8 +2,8 @@
 //!
 //! The profile (registers, FIFO, the sizes of transactions, errors) is this project's own; names are after the SiFive
 //! FU540-C000, and no agreement with its manual is claimed. The one contract for the crates above: an access to a
-//! register and each of the two steps give and leave exactly what `specs/Channel` and `specs/Steps` say. The machine
-//! stands above it, with four channels beside the caches.
+//! register, a read and a write return, and leave behind, exactly what `specs/Channel` and `specs/Steps` say. The
+//! machine stands above it, with four channels beside the caches.
 #![tactic(auto)]
 
 mod channel;

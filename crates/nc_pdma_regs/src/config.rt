@@ -1,4 +1,4 @@
-//! What a transfer goes by: the four registers of Next, or those of Exec.
+//! The four registers of a transfer: those of Next, or those of Exec.
 
 ghost use Rattle.std.specs.Prelude.{◌≡◌, ◌^◌, ◌<◌, min};
 ghost use Rattle.nc_pdma_regs.specs.Config.{config_kept, no_transfer, order_of, read_size, repeat_of, write_size};
@@ -16,14 +16,14 @@ pub struct Transfer {
     pub source: u64,
 }
 
-/// What Config keeps of a value that is written.
+/// Returns what Config keeps of a value that is written: bits 2 and 3, and bits 31:24. This project's own.
 pub fn config_of(value: u64) -> u32
     ensures { result ≡ config_kept value }
 {
     ((value & 0xc) + (value & 0xff00_0000)) as u32
 }
 
-/// A size, by its power of two, and at most 64 bytes.
+/// Returns a size in bytes: two to the power of `power`, and at most 64.
 #[tactic(auto, using(crate::proofs::PowersOfTwo::shifted, crate::proofs::PowersOfTwo::some))]
 fn size_of(power: u32) -> u64
     ensures value { result ≡ 2 ^ min power 6 }
@@ -33,7 +33,7 @@ fn size_of(power: u32) -> u64
 }
 
 impl Transfer {
-    /// No transfer: all four registers are 0.
+    /// Makes the registers of no transfer: all four are 0.
     pub fn none() -> Transfer
         ensures { result ≡ no_transfer }
     {
@@ -45,14 +45,14 @@ impl Transfer {
         }
     }
 
-    /// Whether a transfer that is done starts again.
+    /// Returns the repeat bit: whether a transfer that is done starts again.
     pub fn repeats(&self) -> bool
         ensures { result ≡ repeat_of self.now.config }
     {
         self.config >> 2 & 1 == 1
     }
 
-    /// Whether a read waits until all that was read before is written.
+    /// Returns the order bit: whether a read waits until all bytes read before are written.
     pub fn is_ordered(&self) -> bool
         ensures { result ≡ order_of self.now.config }
     {
@@ -60,7 +60,7 @@ impl Transfer {
     }
 
     #[tactic(auto, unfolding(crate::specs::Config::read_size))]
-    /// The size of a read, 1 to 64 bytes: a power of two, across whose multiples no read goes.
+    /// Returns the size of a read, a power of two from 1 to 64 bytes. No read crosses a multiple of it.
     pub fn read_size(&self) -> u64
         ensures value { result ≡ read_size self.now.config }
         ensures some { 0 < result }
@@ -69,7 +69,7 @@ impl Transfer {
     }
 
     #[tactic(auto, unfolding(crate::specs::Config::write_size))]
-    /// The size of a write, 1 to 64 bytes: a power of two, across whose multiples no write goes.
+    /// Returns the size of a write, a power of two from 1 to 64 bytes. No write crosses a multiple of it.
     pub fn write_size(&self) -> u64
         ensures value { result ≡ write_size self.now.config }
         ensures some { 0 < result }

@@ -7,7 +7,7 @@ ghost use Rattle.nc_pdma_regs.specs.Writes.{claim_after, claims, control_after, 
 
 use bitflags::{Flag, Flags, bitflag_items};
 
-/// Control: the claim, run, doneIE, errorIE, done and error bits.
+/// The value of Control: the claim, run, doneIE, errorIE, done and error bits. This project's own.
 #[derive(Clone, Copy, PartialEq, Eq, Debug)]
 pub struct Control(pub u32);
 
@@ -53,14 +53,14 @@ impl Flags for Control {
 }
 
 impl Control {
-    /// The low 32 bits of a value that is written.
+    /// Makes a Control of the low 32 bits of a value that is written.
     pub fn written(value: u64) -> Control
         ensures { result.0 ≡ value % 2 ^ 32 }
     {
         Control((value & 0xffff_ffff) as u32)
     }
 
-    /// These flags and no others.
+    /// Makes a Control with these flags; its other bits are 0.
     pub fn of(
         claim: bool,
         run: bool,
@@ -83,49 +83,49 @@ impl Control {
         c
     }
 
-    /// Whether the channel is claimed.
+    /// Returns whether the channel is claimed: bit 0.
     pub fn claim(self) -> bool
         ensures { result ≡ bit self.0 0 }
     {
         self.contains(Control::CLAIM)
     }
 
-    /// Whether a transfer runs.
+    /// Returns whether a transfer runs: bit 1.
     pub fn run(self) -> bool
         ensures { result ≡ bit self.0 1 }
     {
         self.contains(Control::RUN)
     }
 
-    /// Whether an interrupt is wanted when a transfer is done. None is delivered.
+    /// Returns whether an interrupt is wanted when a transfer is done: bit 14. None is delivered.
     pub fn done_ie(self) -> bool
         ensures { result ≡ bit self.0 14 }
     {
         self.contains(Control::DONE_IE)
     }
 
-    /// Whether an interrupt is wanted when a transfer meets an error. None is delivered.
+    /// Returns whether an interrupt is wanted when a transfer meets an error: bit 15. None is delivered.
     pub fn error_ie(self) -> bool
         ensures { result ≡ bit self.0 15 }
     {
         self.contains(Control::ERROR_IE)
     }
 
-    /// Whether a transfer was done.
+    /// Returns whether a transfer was done: bit 30.
     pub fn done(self) -> bool
         ensures { result ≡ bit self.0 30 }
     {
         self.contains(Control::DONE)
     }
 
-    /// Whether a transfer met an error.
+    /// Returns whether a transfer met an error: bit 31.
     pub fn error(self) -> bool
         ensures { result ≡ bit self.0 31 }
     {
         self.contains(Control::ERROR)
     }
 
-    /// The claim bit after a write: it stays while a transfer runs.
+    /// Returns the claim bit after a write: it stays while a transfer runs.
     fn claim_after(self, written: Control) -> bool
         ensures { result ≡ claim_after (bits_of self.0) written.0 }
     {
@@ -136,21 +136,22 @@ impl Control {
         }
     }
 
-    /// Whether a write claims the channel.
+    /// Returns whether a write of `written` to Control claims the channel.
     pub fn claims(self, written: Control) -> bool
         ensures { result ≡ claims (bits_of self.0) written.0 }
     {
         !self.claim() && self.claim_after(written)
     }
 
-    /// Whether a write starts the transfer that Next tells of.
+    /// Returns whether a write of `written` to Control starts the transfer that Next describes.
     pub fn starts(self, written: Control) -> bool
         ensures { result ≡ starts (bits_of self.0) written.0 }
     {
         !self.run() && written.run() && self.claim() && self.claim_after(written)
     }
 
-    /// Control after a write, where Next tells of a transfer of no bytes or of some.
+    /// Returns Control after a write of `written`; `is_empty` says whether Next describes a transfer of no bytes, which
+    /// is done as it starts.
     pub fn after(self, written: Control, is_empty: bool) -> Control
         ensures bits { bits_of result.0 ≡ control_after (bits_of self.0) is_empty written.0 }
         ensures others { result.0 ≡ number_of (bits_of result.0) }
@@ -170,7 +171,7 @@ impl Control {
         )
     }
 
-    /// Control once the transfer has met an error.
+    /// Returns Control once the transfer has met an error: run is cleared, and error is set.
     pub fn failed(self) -> Control
         ensures bits { bits_of result.0 ≡ record (bits_of self.0) { run = false; error = true } }
         ensures others { result.0 ≡ number_of (bits_of result.0) }
@@ -185,7 +186,8 @@ impl Control {
         )
     }
 
-    /// Control once the transfer is done, where it starts again or not.
+    /// Returns Control once the transfer is done: done is set, and run stays only where `again` is true, as the
+    /// transfer starts again.
     pub fn finished(self, again: bool) -> Control
         ensures bits { bits_of result.0 ≡ done_flags again (bits_of self.0) }
         ensures others { result.0 ≡ number_of (bits_of result.0) }

@@ -36,7 +36,7 @@ impl Model for Regs {
 }
 
 impl Regs {
-    /// The registers of a channel that nobody has claimed: all of them are 0.
+    /// Makes the registers of a channel that nobody has claimed: all of them are 0.
     pub fn new() -> Regs
         ensures { result ≡ no_registers }
     {
@@ -47,7 +47,7 @@ impl Regs {
         }
     }
 
-    /// The number that a register holds.
+    /// Returns the number that a register holds.
     fn value(&self, register: Register) -> u64
         ensures value { result ≡ value_of self.now register }
         ensures fits { width_of register ≡ 4 → result < 2 ^ 32 }
@@ -65,11 +65,11 @@ impl Regs {
         }
     }
 
-    /// The value of the register of this width at an offset, both in bytes.
+    /// Returns the value of the register of `width` bytes at offset `off`, in bytes.
     ///
     /// # Errors
     ///
-    /// `BadMmio` exactly where there is none.
+    /// `BadMmio` exactly where no such register exists.
     pub fn read(&self, off: u16, width: u8) -> Result<u64, BadMmio>
         ensures { result ≡ read_of self.now off width }
     {
@@ -79,12 +79,13 @@ impl Regs {
         }
     }
 
-    /// Writes the register of this width at an offset, both in bytes. A register of 4 bytes takes the low 32 bits of
-    /// the value. A write to Next is ignored while the channel is not claimed, and a write to Exec always is.
+    /// Writes `value` to the register of `width` bytes at offset `off`, in bytes. A register of 4 bytes takes the low
+    /// 32 bits of the value. A write to Next is ignored while the channel is not claimed; a write to Exec is always
+    /// ignored.
     ///
     /// # Errors
     ///
-    /// `BadMmio` exactly where there is none. Then nothing has changed.
+    /// `BadMmio` exactly where no such register exists; then the registers are unchanged.
     pub fn write(&mut self, off: u16, width: u8, value: u64) -> Result<(), BadMmio>
         ensures answer { result ≡ known_at off width }
         ensures registers { self.new ≡ write_of self.old off width value }
@@ -98,11 +99,12 @@ impl Regs {
         }
     }
 
-    /// Reads the register at an offset into the slice, whose length is the width of the access, the lowest byte first.
+    /// Reads the register at offset `off`, in bytes, into the slice, lowest byte first. The slice's length, at most 8,
+    /// is the width of the access.
     ///
     /// # Errors
     ///
-    /// `BadMmio` exactly where there is no register of this width. Then the slice is as before.
+    /// `BadMmio` exactly where no register of this width exists there; then the slice is unchanged.
     #[tactic(auto, using(crate::proofs::Fits::register_fits))]
     pub fn read_bytes(&self, off: u16, out: &mut [u8]) -> Result<(), BadMmio>
         requires { length out.old ≤ 8 }
@@ -122,11 +124,12 @@ impl Regs {
         }
     }
 
-    /// Writes the register at an offset from the slice, whose length is the width of the access, the lowest byte first.
+    /// Writes the slice, lowest byte first, to the register at offset `off`, in bytes. The slice's length, at most 8,
+    /// is the width of the access.
     ///
     /// # Errors
     ///
-    /// `BadMmio` exactly where there is no register of this width. Then nothing has changed.
+    /// `BadMmio` exactly where no register of this width exists there; then the registers are unchanged.
     pub fn write_bytes(&mut self, off: u16, bytes: &[u8]) -> Result<(), BadMmio>
         requires { length bytes.now ≤ 8 }
         ensures answer { result ≡ known_at off (length bytes.now) }
@@ -146,28 +149,28 @@ impl Regs {
         }
     }
 
-    /// Whether a transfer runs.
+    /// Returns whether a transfer runs.
     pub fn is_running(&self) -> bool
         ensures { result ≡ self.now.control.run }
     {
         self.control.run()
     }
 
-    /// The registers of the transfer that runs, or that ran last.
+    /// Returns the Exec registers: those of the transfer that runs, or that ran last.
     pub fn exec(&self) -> Transfer
         ensures { result ≡ self.now.exec }
     {
         self.exec
     }
 
-    /// The transfer meets an error, and ends.
+    /// Ends the transfer with an error: run is cleared, and error is set.
     pub fn fail(&mut self)
         ensures { self.new ≡ failed self.old }
     {
         self.control = self.control.failed();
     }
 
-    /// The transfer has read `n` bytes more.
+    /// Advances ExecSource past the `n` bytes that the transfer has read.
     pub fn read_on(&mut self, n: u64)
         requires { self.old.exec.source + n < 2 ^ 64 }
         ensures { self.new ≡ bytes_read self.old n }
@@ -175,8 +178,8 @@ impl Regs {
         self.exec.source += n;
     }
 
-    /// The transfer has written `n` bytes more. Answers whether none is left: then it is done, and starts again or
-    /// ends.
+    /// Advances the Exec registers past the `n` bytes that the transfer has written, at most those that are left, and
+    /// returns whether none is left. Where none is left, the transfer is done, and starts again or ends.
     #[tactic(auto, unfolding(crate::specs::Moves::written_on))]
     pub fn write_on(&mut self, n: u64) -> bool
         requires left { n ≤ self.old.exec.bytes }
@@ -236,14 +239,15 @@ impl Regs {
     }
 }
 
-/// A write to Control of its own value with bit 0 set, on a channel that nobody has claimed, is the claim: it sets the
-/// claim bit, clears the Next registers, and changes nothing else.
+/// Proves that, on a channel that is neither claimed nor running, a write to Control of its own value with bit 0 set is
+/// the claim: it sets the claim bit, clears the Next registers, and changes nothing else.
 #[tactic(auto, using(crate::proofs::Claims::claim_by_control))]
 pub fn claim_by_control()
     ensures { IsClaimByControl }
 {}
 
-/// A channel runs only while it is claimed: no access and no move changes that.
+/// Proves that a channel runs only while it is claimed: it is so at the start, and no access, move or error changes
+/// that.
 #[tactic(auto, using(crate::proofs::Claims::stays_claimed))]
 pub fn runs_are_claimed()
     ensures { RunsAreClaimed }

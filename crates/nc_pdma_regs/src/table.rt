@@ -1,4 +1,4 @@
-//! Which registers there are.
+//! The table of registers, by offset and width.
 
 ghost use Rattle.std.specs.Prelude.{◌≡◌, IfSome};
 ghost use Rattle.nc_pdma_regs.specs.Table.{register_at, width_of, known_at};
@@ -18,7 +18,7 @@ pub const CONTROL: u16 = 0x000;
 /// A register of a channel.
 #[derive(Clone, Copy, Debug, PartialEq, Eq)]
 pub enum Register {
-    /// 0x000, 4 bytes: claim, run and what came of the last transfer.
+    /// 0x000, 4 bytes: claim, run, and the outcome of the last transfer.
     Control,
     /// 0x004, 4 bytes.
     NextConfig,
@@ -38,7 +38,7 @@ pub enum Register {
     ExecSource,
 }
 
-/// The register that an access of this width finds at an offset, or None where there is none.
+/// Returns the register of `width` bytes at offset `off`, in bytes, or None where no such register exists.
 pub fn find_register(off: u16, width: u8) -> Option<Register>
     ensures value { result ≡ register_at off width }
     ensures width { IfSome result (λ r. width ≡ width_of r) }
@@ -57,11 +57,11 @@ pub fn find_register(off: u16, width: u8) -> Option<Register>
     }
 }
 
-/// Whether there is a register of this width at an offset, both in bytes.
+/// Tests that a register of `width` bytes exists at offset `off`, in bytes.
 ///
 /// # Errors
 ///
-/// `BadMmio` exactly where there is none.
+/// `BadMmio` exactly where no such register exists.
 pub fn known(off: u16, width: u8) -> Result<(), BadMmio>
     ensures { result ≡ known_at off width }
 {

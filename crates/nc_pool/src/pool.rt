@@ -15,21 +15,21 @@ use std::marker::Model;
 pub enum PoolTry {
     /// The slot was free, and the seat holds it now.
     Got,
-    /// The slot was held. The word found is the number of the seat that holds it, plus 1: never 0.
+    /// The slot was held. The word is the number of the seat that holds it, plus 1: never 0.
     Held(u64),
 }
 
-/// A seat, where one was left.
+/// What a call for a seat returns.
 #[derive(Drop)]
 pub enum NewSeat {
-    /// The seat of the next number.
+    /// The seat with the next number.
     Seat(PoolSeat),
-    /// As many seats were made as the pool has.
+    /// No seat is left: as many were made as the pool has.
     NoneLeft,
 }
 
-/// The slots, shared by threads. Slot k stands in word k + 1, which is 0 where the slot is free and n + 1 where the
-/// seat n holds it. Contracts see the pool's identity, the number of its slots and that of its seats.
+/// Bounce slots that threads share. Slot k stands in word k + 1, which is 0 where the slot is free and n + 1 where seat
+/// n holds it. Contracts see the pool's identity, and how many slots and seats it has.
 #[derive(Drop)]
 pub struct Pool {
     table: Table<u64, PoolView, PoolKey, PoolRule, Global>,
@@ -48,8 +48,8 @@ impl Model for Pool {
     ghost invariant = { λ p. (p.table.shared.key ≡ record { slots = p.slots; seats = p.seats }) × (p.table.shared.table_id.words ≡ p.slots + 1) };
 }
 
-/// The right to try slots and to hold them: one thread has it. Contracts see its pool, its number, the slots that
-/// it holds, in the order got, and the log of its tries, each a slot and the word found there.
+/// The right to try slots and to hold them; one thread has it. Contracts see its pool, its number, the slots that it
+/// holds, in the order got, and the log of its tries, each a slot and the word found there.
 #[derive(Drop)]
 pub struct PoolSeat {
     seat: Seat<u64, PoolView>,
@@ -68,8 +68,8 @@ impl Model for PoolSeat {
     ghost invariant = { λ s. (s.seat.me ≡ (Live s.number (held_of s.seat.me.0) (log_of s.seat.me.0), [])) × (s.number < 2 ^ 32) × ((k : ℕ) → has k (held_of s.seat.me.0) ≡ true → k + 1 < s.seat.table_id.words) };
 }
 
-/// Makes the seats of a pool and takes them back. Contracts see its pool and the next number: those below it are
-/// given.
+/// The root of a pool: the right to make its seats and to end them. Contracts see its pool and the next number; all
+/// numbers below it are given.
 #[derive(Drop)]
 pub struct PoolRoot {
     seat: Seat<u64, PoolView>,
@@ -89,7 +89,7 @@ impl Model for PoolRoot {
 }
 
 impl PoolSeat {
-    /// The seat's number: seats are numbered 0, 1, .. in the order made.
+    /// Returns the seat's number: seats are numbered 0, 1, .. in the order made.
     pub fn number(&self) -> u64
         ensures { result ≡ self.now.number }
     {
@@ -98,7 +98,11 @@ impl PoolSeat {
 }
 
 impl Pool {
-    /// A pool whose slots are all free, and its root, which makes `seats` seats in all.
+    /// Makes a pool of `slots` free slots, and its root, which makes `seats` seats in all.
+    ///
+    /// # Errors
+    ///
+    /// `NoMemory` where memory runs out.
     pub fn new(alloc: Global, slots: u32, seats: u32) -> Result<(Pool, PoolRoot), NoMemory>
         ensures sizes { IfOk result (λ r. (r.0.slots ≡ slots) × (r.0.seats ≡ seats)) }
         ensures root { IfOk result (λ r. (r.1.pool ≡ r.0.id) × (r.1.next ≡ 0)) }
@@ -119,7 +123,8 @@ impl Pool {
         ))
     }
 
-    /// The next seat: one atomic step of the root. It holds no slot and has tried none.
+    /// Makes the seat with the root's next number, in one atomic step. The seat holds no slot and has tried none.
+    /// Returns `NoneLeft`, with the root unchanged, exactly where the pool's seats were all made.
     pub fn seat(&self, root: &mut PoolRoot) -> NewSeat
         requires { root.old.pool ≡ self.now.id }
         ensures pool { root.new.pool ≡ root.old.pool }
@@ -134,8 +139,8 @@ impl Pool {
         NewSeat::Seat(PoolSeat { seat, number })
     }
 
-    /// Tries slot k, by one compare-exchange of its word: Got exactly where the word found is 0, and Held with the
-    /// word found exactly where it is not.
+    /// Tries slot `k`, by one compare-exchange of its word. Returns `Got` exactly where the word found is 0, and else
+    /// `Held` with the word found.
     pub fn try_slot(&self, seat: &mut PoolSeat, k: u32) -> PoolTry
         requires slot { k < self.now.slots }
         requires pool { seat.old.pool ≡ self.now.id }
@@ -157,8 +162,9 @@ impl Pool {
         }
     }
 
-    /// Tries the slots 0, 1, .. in order until one is free. None exactly where each of them was tried and its word
-    /// was found not 0; each was so at its own try, and not all at one moment.
+    /// Tries the slots 0, 1, .. in order until one is free, and returns that slot, which the seat then holds. Returns
+    /// None exactly where each slot was tried and its word was found not 0; each was so at its own try, and not all at
+    /// one moment.
     pub fn search(&self, seat: &mut PoolSeat) -> Option<u32>
         requires { seat.old.pool ≡ self.now.id }
         ensures same { (seat.new.pool ≡ seat.old.pool) × (seat.new.number ≡ seat.old.number) }
@@ -173,7 +179,7 @@ impl Pool {
         None
     }
 
-    /// Gives back slot k, which the seat holds, by one swap of its word to 0.
+    /// Gives back slot `k`, which the seat holds, by one swap of its word to 0.
     pub fn give(&self, seat: &mut PoolSeat, k: u32)
         requires holds { has k seat.old.held ≡ true }
         requires pool { seat.old.pool ≡ self.now.id }
@@ -184,7 +190,7 @@ impl Pool {
             .swap::<Giving>(&mut seat.seat, k as usize + 1, 0);
     }
 
-    /// Ends a seat that holds no slot: one atomic step. Its number is not given again.
+    /// Ends a seat that holds no slot, in one atomic step. Its number is not given again.
     pub fn join(&self, root: &mut PoolRoot, seat: PoolSeat)
         requires root { root.old.pool ≡ self.now.id }
         requires seat { seat.pool ≡ self.now.id }

@@ -1,11 +1,11 @@
-//! What the seats of a pool know, the rule over words and views, and the four kinds of atomic step.
+//! The views of a pool's seats, the rule over words and views, and the four kinds of atomic step.
 
 ghost use Rattle.nc_pool.specs.Rules.{EachIsOwned};
 
 use atomic_table::{Join, Play, Split, TableRule};
 use std::collections::LinkedList;
 
-/// What a seat of the table knows. Contracts alone speak of it: no value of it is made.
+/// The view of a seat of the table. Contracts alone speak of it; no value of it is made.
 pub enum PoolView {
     /// The root: the number of the next seat.
     Root(u64),
@@ -73,8 +73,8 @@ impl Join<PoolView> for Seating {
     ghost spent = { Gone };
 }
 
-/// Whenever the rule holds, each slot is free and no view holds it, or its word is n + 1, the live seat n holds it,
-/// and no other view does. This project's own.
+/// Proves that, whenever the rule of a pool holds, each slot is free and no view holds it, or its word is n + 1, the
+/// live seat n holds it, and no other view does. This project's own.
 pub fn each_slot_is_owned_once()
     ensures { EachIsOwned }
 {}
