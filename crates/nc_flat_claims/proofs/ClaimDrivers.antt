@@ -123,7 +123,7 @@ target_behind lots lot here named =
 
 -- ---- the hart's other mappings
 
--- a mapping that is there is of no end
+-- a mapping that exists is of no end
 pub record IsFar (n : MapId) (src dst : Lot) : Type 0 where
   pub source : names_entry n src ≡ false
   pub target : names_entry n dst ≡ false

@@ -97,7 +97,7 @@ of_lot me slots_at lot (turns.Sync id) = moved (to_side me sides.Synced lot) Non
 of_lot me slots_at lot (turns.Settle id) = moved (to_side me sides.Own lot) None
 of_lot me slots_at lot (turns.End id) = ended_lot me lot
 
--- what a turn moves of a lot that is there
+-- what a turn moves of a lot that exists
 abbrev pub of_one : HartNo → ℕ → Turn → Option Lot → Moved
 of_one me slots_at t None = nothing
 of_one me slots_at t (Some lot) = if is_of t lot then of_lot me slots_at lot t else nothing

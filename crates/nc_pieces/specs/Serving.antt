@@ -108,7 +108,7 @@ pool_refused_line (refusals.Pool Size) = words (codes "refused" ∷ codes "pool"
 pool_refused_line (refusals.Pool Align) = words (codes "refused" ∷ codes "pool" ∷ codes "align" ∷ [])
 pool_refused_line (refusals.Pool Boundary) = words (codes "refused" ∷ codes "pool" ∷ codes "boundary" ∷ [])
 
--- what the code answers, beside the definition: want of memory is the one free answer
+-- what the code answers, beside the definition: that memory runs out is the one free answer
 abbrev pub FailsPool : {Y : Type 0} → PoolFault → Result Y PoolRefused → Type 0
 FailsPool faults.NoMemory r = Unit {0}
 FailsPool (faults.Refused e) r = r ≡ Err e

@@ -30,7 +30,7 @@ get_none [] i le = refl
 get_none (x ∷ xs) zero le = absurd (omega arith)
 get_none (x ∷ xs) (suc i) le = get_none xs i (omega arith)
 
--- an entry that is there may drain where it may leave those before it
+-- an entry that exists may drain where it may leave those before it
 pub may_drain-there : (s : ℕ) (q : List Entry) (i : ℕ) (e : Entry) → i < length q → e ≡ get_or q i e → may_drain s q i ≡ may_leave s (take i q) e
 unfolding may_drain
 may_drain-there s q i e lt is = ap (leaves s (take i q)) (get_some q i e lt ∙ ap Some (sym is))

@@ -53,7 +53,7 @@ pub record IsQueueIn (m : MachineState) (q : QueueState) : Type 0 where
   pub fit : AllFit m.size q.entries
   pub there : All (EntryIsThere m) q.entries
 
--- a channel is granted exactly where its claim bit is set, to a hart that is there
+-- a channel is granted exactly where its claim bit is set, to a hart that exists
 pub record IsGranted (m : MachineState) (c : ℕ) : Type 0 where
   pub channel : IsChannel (channel_of m c)
   pub claimed : is_some (grantee_of m c) ≡ (channel_of m c).regs.control.claim

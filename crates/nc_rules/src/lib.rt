@@ -2,10 +2,10 @@
 //!
 //! `specs/` composes the parts' definitions into one machine: its state and its calls (Machine, Calls), a hart's view
 //! of memory (View), the drivers of scripts (Operations, Driver), the events and when they may happen (Events), the
-//! state after an event and what it records (Outcomes, Next), runs and schedules (Run, Schedule), and the report (Lines).
-//! Beside it stand the plain types of which these speak. The crate has no code but their accessors, and no laws: those
-//! stand in crates of their own, nc_calls on the machine's calls and nc_scripts on its drivers. The contract for the
-//! layers above: the definitions.
+//! state after an event and what it records (Outcomes, Next), runs and schedules (Run, Schedule), and the report
+//! (Lines). Beside it stand the plain types of which these speak. The crate has no code but their accessors, and no
+//! laws: those stand in crates of their own, nc_calls on the machine's calls and nc_scripts on its drivers. The
+//! contract for the layers above: the definitions.
 #![tactic(auto)]
 
 mod answers;

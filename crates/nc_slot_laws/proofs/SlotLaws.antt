@@ -119,7 +119,7 @@ has_one w k h all lt e =
     let at = held_at k of.0.list.entries of.2 in
     record { lot = of.0; i = at.i; has = record { entry = at.entry; here = record { lot_in = of.1; entry = at.here }; slot = at.slot } }
 
--- ---- each holder is a hart that is there
+-- ---- each holder is a hart that exists
 
 abbrev HoldersAre : ℕ → List (Option HartNo) → Type 0
 HoldersAre n slots = (k : ℕ) (g : HartNo) → holder_of slots k ≡ Some g → g.0 < n

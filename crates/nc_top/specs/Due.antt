@@ -106,7 +106,7 @@ due_of (Some command) bytes = due_by command bytes
 unfoldable pub due : List (List ℕ) → List ℕ → Due
 due given bytes = due_of (command_of given) bytes
 
--- an answer, and neither a failure nor want of memory
+-- an answer, and neither a failure nor out of memory
 pub record IsAnswer (status : ℕ) : Type 0 where
   pub reads : status ≢ 4
   pub writes : status ≢ 5

@@ -15,7 +15,7 @@ abbrev pub ◌>>=◌ : {A B E : Type 0} → Result A E → (A → Result B E) �
 (Ok x) >>= f = f x
 (Err e) >>= f = Err e
 
--- want of memory is the one free answer
+-- that memory runs out is the one free answer
 abbrev pub Fails : {Y : Type 0} → ScenFault → Result Y Refused → Type 0
 Fails faults.NoMemory read = Unit {0}
 Fails (faults.Refused r) read = read ≡ Err r

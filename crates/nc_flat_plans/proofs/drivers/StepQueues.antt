@@ -171,7 +171,7 @@ other_zeroed sc f w h k went lot to s rest b u plain rest_is left shift ends_one
       owned = λ x met. shift.off x (beyond x (is.owned x met)) ∙ is.owned x met;
     }
 
--- the entries that are there
+-- the entries that exist
 pub queue_stays : (sc : Scenario) (f : List ℕ) (w : WorldState) (h : HartNo) (k : MachineState) (went : Went) → Flatness sc f w
     → ((b : ℕ) → IsDropped (book_of w) (owner_of w) w.machine.size h.0 b → IsDropped (book_of (gone w h k went)) (owner_of (gone w h k went)) w.machine.size h.0 b)
     → ((b : ℕ) → IsZeroed (book_of w) (owner_of w) w.machine.size h.0 b → IsZeroed (book_of (gone w h k went)) (owner_of (gone w h k went)) w.machine.size h.0 b)

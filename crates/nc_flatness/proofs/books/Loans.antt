@@ -34,7 +34,7 @@ use Rattle.nc_flatness.specs.Flatness.{is_mapping, IsMapping, Flatness}
 
 -- ---- the lots of a driver
 
--- a driver that is there
+-- a driver that exists
 lots_past : (w : WorldState) (h : ℕ) → length w.drivers ≤ h → (driver_of w h).lots ≡ []
 lots_past w h past = ap (λ (d : DriverState). d.lots) (get_or_past w.drivers h no_driver past)
 

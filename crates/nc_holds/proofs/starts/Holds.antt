@@ -37,7 +37,7 @@ use Rattle.nc_holds.proofs.starts.Regions.{regions_of_scenario}
 
 -- ---- the drivers
 
--- the driver of a hart that is there
+-- the driver of a hart that exists
 driver_is : (sc : Scenario) (h : ℕ) → h < length sc.harts → driver_of (start sc) h ≡ first_driver sc (hart h)
 unfolding start
 driver_is sc h lt = get_or-map-range_with_len (λ (h : ℕ). first_driver sc (hart h)) 0 (length sc.harts) h h no_driver lt (omega arith)
