@@ -265,8 +265,8 @@ pub enum Op {
 }
 
 impl Op {
-    /// Returns a copy of the operation. The error comes where memory runs out for the bytes of a store or the entries of a
-    /// list.
+    /// Returns a copy of the operation. The error comes where memory runs out for the bytes of a store or the entries
+    /// of a list.
     pub fn try_clone(&self) -> Result<Op, NoMemory>
         ensures { IfOk result (λ o. o ≡ self.now) }
     {
