@@ -10,7 +10,7 @@ use std::marker::Model;
 /// What a load or a store names.
 #[derive(Clone, Copy, Debug, PartialEq, Eq)]
 pub enum Spot {
-    /// The buffer of this number.
+    /// The buffer of this index.
     Buffer(u8),
     /// The coherent area of this label.
     Area(Label),
@@ -25,7 +25,7 @@ pub enum BusArg {
     At(u64),
     /// The bus address of the mapping of this label.
     Map(Label),
-    /// The bus address of the segment of this number, from 0, of the scatter list of this label.
+    /// The bus address of the segment of this index, from 0, of the scatter list of this label.
     Segment(Label, u32),
     /// The bus address of the coherent area of this label.
     Area(Label),
@@ -34,7 +34,7 @@ pub enum BusArg {
 /// An entry of a scatter list.
 #[derive(Clone, Copy, Debug, PartialEq, Eq)]
 pub struct SgEntry {
-    /// The number of its buffer.
+    /// The index of its buffer.
     pub buf: u8,
     /// Where it starts in the buffer, in bytes.
     pub off: u32,
@@ -58,14 +58,14 @@ impl Model for SgEntries {
 }
 
 impl SgEntries {
-    /// These entries.
+    /// Makes a scatter list's entries of these, in order.
     pub fn new(items: Vec<SgEntry>) -> SgEntries
         ensures { result ≡ items.items }
     {
         SgEntries { items }
     }
 
-    /// The entries, in order.
+    /// Returns the entries, in order.
     pub fn as_slice(&self) -> &[SgEntry]
         ensures { result.now ≡ self.now }
     {
@@ -88,7 +88,7 @@ impl Model for HexBytes {
 }
 
 impl HexBytes {
-    /// These bytes.
+    /// Makes the bytes of a store of these, in order.
     pub fn new(items: Vec<u8>) -> HexBytes
         ensures value { result ≡ items.items }
         ensures bytes { All (λ b. b < 256) items.items }
@@ -96,7 +96,7 @@ impl HexBytes {
         HexBytes { items }
     }
 
-    /// The bytes, in order.
+    /// Returns the bytes, in order.
     pub fn as_slice(&self) -> &[u8]
         ensures { result.now ≡ self.now }
     {
@@ -127,7 +127,7 @@ pub enum Op {
     },
     /// A cache-block operation (RISC-V CMO 1.0) on the block of a buffer's byte, and a zero on its zeroed range.
     Cbo {
-        /// Which operation.
+        /// The operation.
         op: CboOp,
         /// The buffer.
         buf: u8,
@@ -189,9 +189,9 @@ pub enum Op {
         /// The channel that may use it.
         chan: ChanNo,
     },
-    /// The coherent area goes to the channel.
+    /// The coherent area is given to the channel.
     Cgive(Label),
-    /// The coherent area comes back.
+    /// The coherent area is taken back from the channel.
     Ctake(Label),
     /// `dma_free_coherent` (Linux DMA API).
     Cfree(Label),
@@ -206,7 +206,7 @@ pub enum Op {
     Take(u8),
     /// The channel is claimed.
     Claim(ChanNo),
-    /// The channel is let go.
+    /// The channel is released.
     Free(ChanNo),
     /// The channel's next transfer is set.
     Regs {
@@ -265,7 +265,11 @@ pub enum Op {
 }
 
 impl Op {
-    /// Returns a copy of the operation. The error is want of memory, for the bytes of a store and the entries of a list.
+    /// Returns a copy of the operation, with the bytes of a store or the entries of a list.
+    ///
+    /// # Errors
+    ///
+    /// `NoMemory` where memory runs out; then the operation is unchanged.
     pub fn try_clone(&self) -> Result<Op, NoMemory>
         ensures { IfOk result (λ o. o ≡ self.now) }
     {
@@ -289,14 +293,14 @@ impl Model for Ops {
 }
 
 impl Ops {
-    /// These operations.
+    /// Makes a script of these operations, in order.
     pub fn new(items: Vec<Op>) -> Ops
         ensures { result ≡ items.items }
     {
         Ops { items }
     }
 
-    /// The operations, in order.
+    /// Returns the operations, in order.
     pub fn as_slice(&self) -> &[Op]
         ensures { result.now ≡ self.now }
     {
