@@ -13,7 +13,7 @@ use nc_values::{OpFault, Wrong, below, label, list, number, text, wide};
 use serde_json::Value;
 use std::alloc::Global;
 
-/// How many harts and buffers a scenario has.
+/// The counts of harts and buffers of a scenario.
 #[derive(Clone, Copy, Debug, PartialEq, Eq)]
 pub struct Counts {
     /// The harts, 1 to 4.

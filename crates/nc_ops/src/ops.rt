@@ -7,7 +7,7 @@ use nc_env::CboOp;
 use nc_num::{ChanNo, Dir, HartNo, Label, NoMemory};
 use std::marker::Model;
 
-/// What a load or a store names.
+/// The memory that a load or a store names.
 #[derive(Clone, Copy, Debug, PartialEq, Eq)]
 pub enum Spot {
     /// The buffer of this index.
@@ -18,7 +18,7 @@ pub enum Spot {
     Virtual,
 }
 
-/// What a channel's address register is set to.
+/// The value that a channel's address register is set to.
 #[derive(Clone, Copy, Debug, PartialEq, Eq)]
 pub enum BusArg {
     /// This bus address.

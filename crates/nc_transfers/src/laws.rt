@@ -10,17 +10,17 @@ pub fn copies_set_up()
     ensures { CopiesSetUp }
 {}
 
-/// Proves that while a copy's channel runs, a read takes bytes of the source alone, those behind the bytes already
-/// read, and is never an error. Where RAM has flat memory's bytes there, the FIFO has them. A channel that does not run
-/// reads nothing.
+/// Proves that while a copy's channel runs, a read takes bytes of the source alone, those after the bytes already read,
+/// and is never an error. Where RAM has flat memory's bytes there, the FIFO has them. A channel that does not run reads
+/// nothing.
 #[tactic(auto, using(crate::proofs::ReadSteps::copies_read))]
 pub fn copies_read()
     ensures { CopiesRead }
 {}
 
-/// Proves that while a copy's channel runs, a write gives bytes to the destination alone, those behind the bytes that
-/// it has, and is never an error. Done is set exactly where they are the last, and then the destination has the
-/// source's bytes. A channel that does not run writes nothing.
+/// Proves that while a copy's channel runs, a write gives bytes to the destination alone, those after the bytes that it
+/// has, and is never an error. Done is set exactly where they are the last, and then the destination has the source's
+/// bytes. A channel that does not run writes nothing.
 #[tactic(auto, using(crate::proofs::WriteSteps::copies_write))]
 pub fn copies_write()
     ensures { CopiesWrite }
