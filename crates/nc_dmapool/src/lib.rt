@@ -1,7 +1,7 @@
 //! A pool of small coherent pieces, after Linux's `dma_pool`: pieces of one size, cut from pages of the coherent pool.
 //!
-//! The contract for the crates above: `alloc` gives the lowest free place, and takes a page exactly where there is
-//! none; the pieces in use are apart, aligned, within the boundary and on pages that the pool took, after any list of
+//! The contract for the crates above: `alloc` gives the lowest free place, and takes a page exactly where no place is
+//! free; the pieces in use are apart, aligned, within the boundary and on pages that the pool took, after any list of
 //! calls.
 #![tactic(auto)]
 

@@ -16,7 +16,7 @@ use std::alloc::Global;
 pub enum CopyStep {
     /// The hart issues an operation.
     Op(HartOp),
-    /// The hart loads the channel's Control until it tells done or an error.
+    /// The hart loads the channel's Control until done or error is set.
     Poll,
 }
 

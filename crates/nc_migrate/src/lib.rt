@@ -1,8 +1,8 @@
-//! The command `migrate`: a scenario of version 1 becomes one of version 2.
+//! The command `migrate`: it turns a scenario of version 1 into one of version 2.
 //!
-//! The contract for the crates above: what is written is the definition's, to the byte, or the refusal of the scenario
-//! (`specs/Migrating.antt`), or memory ran out; and the reading of what is written is the reading of the input, with
-//! version 2.
+//! The contract for the crates above: the line written is the definition's, to the byte, or the scenario is refused
+//! (`specs/Migrating.antt`), or memory runs out. Where the line is no longer than a scenario may be, its reading is the
+//! reading of the input, with version 2.
 #![tactic(auto)]
 
 mod moving;

@@ -1,4 +1,4 @@
-//! From bytes to bytes.
+//! The move of a scenario to version 2, from bytes to bytes.
 
 ghost use Rattle.std.specs.Prelude.{◌≡◌, ◌++◌, ◌∷◌, [], false, IfOk, OnOk};
 ghost use Rattle.serde_json.specs.Data.{number, unsigned, put};
@@ -20,7 +20,7 @@ fn put(alloc: Global, members: &mut Map<String, Value>, key: &str, n: u64) -> Re
     Ok(())
 }
 
-/// The members of a version 1 value, with version 2 and the sizes that version 1 has.
+/// Returns the members of a version 1 value, with version 2 and the sizes that version 1 has.
 fn raised(alloc: Global, mut members: Map<String, Value>) -> Result<Map<String, Value>, AllocError>
     ensures { IfOk result (λ m. members_view m.entries ≡ raised (members_view members.entries)) }
 {
@@ -30,7 +30,7 @@ fn raised(alloc: Global, mut members: Map<String, Value>) -> Result<Map<String, 
     Ok(members)
 }
 
-/// The value of a scenario of a version, moved to version 2.
+/// Returns the value of a scenario of version `version`, moved to version 2.
 fn moved(alloc: Global, value: Value, version: u64) -> Result<Value, AllocError>
     ensures { IfOk result (λ v. view v ≡ moved version (view value)) }
 {
@@ -43,13 +43,14 @@ fn moved(alloc: Global, value: Value, version: u64) -> Result<Value, AllocError>
     }
 }
 
-/// Returns the scenario that the bytes are, moved to version 2, as one line: the compact text of its JSON value and a
-/// line feed.
-/// A version 1 value gets `version` 2, and `block` and `zero` of 64; a version 2 value is unchanged.
+/// Returns the scenario that the bytes are, moved to version 2, as one line: the compact text of its JSON value with a
+/// line feed. A version 1 value gets `version` 2, and `block` and `zero` of 64; a version 2 value is unchanged. Where
+/// the line is no longer than a scenario may be, its reading is that of `bytes` with version 2, and moving it again
+/// changes nothing. This project's own.
 ///
 /// # Errors
 ///
-/// `Refused` with the first refusal of the scenario, and `NoMemory` where memory runs out.
+/// `Refused` with the first refusal of the scenario; `NoMemory` where memory runs out.
 pub fn migrate(alloc: Global, bytes: &[u8]) -> Result<Vec<u8>, ScenFault>
     ensures gives { Gives (λ v. v.items) result (migrated bytes.now) }
     ensures law { IfOk result (λ v. KeepsReading bytes.now v.items) }

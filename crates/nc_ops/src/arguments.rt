@@ -13,7 +13,7 @@ use nc_values::{OpFault, Wrong, below, label, list, number, text, wide};
 use serde_json::Value;
 use std::alloc::Global;
 
-/// How many harts and buffers a scenario has.
+/// The counts of harts and buffers of a scenario.
 #[derive(Clone, Copy, Debug, PartialEq, Eq)]
 pub struct Counts {
     /// The harts, 1 to 4.
@@ -22,7 +22,11 @@ pub struct Counts {
     pub buffers: u8,
 }
 
-/// Reads what a load or a store names from its text.
+/// Returns what a load or a store names by its text.
+///
+/// # Errors
+///
+/// `Shape` where the value is no such text.
 pub fn spot_text(value: &Value) -> Result<SpotText, Wrong>
     ensures { result ≡ spot_of (view value.now) }
 {
@@ -32,7 +36,11 @@ pub fn spot_text(value: &Value) -> Result<SpotText, Wrong>
     }
 }
 
-/// Checks what a load or a store names against the number of buffers.
+/// Returns what a load or a store names, in a scenario of `buffers` buffers.
+///
+/// # Errors
+///
+/// `Limit` with the number where no such buffer exists, or the label is above 999.
 pub fn spot_there(spot: SpotText, buffers: u8) -> Result<Spot, Wrong>
     ensures value { result ≡ spot_there buffers spot }
     ensures fits { IfOk result (FitsSpot buffers) }
@@ -44,7 +52,11 @@ pub fn spot_there(spot: SpotText, buffers: u8) -> Result<Spot, Wrong>
     }
 }
 
-/// Reads an address of a channel from a number or a text.
+/// Returns what a channel's address names, by its number or text.
+///
+/// # Errors
+///
+/// `Shape` where the value is neither.
 pub fn bus_text(value: &Value) -> Result<BusText, Wrong>
     ensures { result ≡ bus_of (view value.now) }
 {
@@ -57,7 +69,11 @@ pub fn bus_text(value: &Value) -> Result<BusText, Wrong>
     }
 }
 
-/// Checks an address of a channel against the limits of labels and segments.
+/// Returns a channel's address whose label is at most 999 and whose segment is below 2^32.
+///
+/// # Errors
+///
+/// `Limit` with the first number that is out of range.
 pub fn bus_there(bus: BusText) -> Result<BusArg, Wrong>
     ensures value { result ≡ bus_there bus }
     ensures fits { IfOk result FitsBus }
@@ -73,7 +89,11 @@ pub fn bus_there(bus: BusText) -> Result<BusArg, Wrong>
     }
 }
 
-/// Decodes the bytes of a hexadecimal text.
+/// Returns the bytes that a hexadecimal text writes, two digits each, of either case.
+///
+/// # Errors
+///
+/// `Wrong` with `Shape` where the value is no such text; `NoMemory` where memory runs out.
 pub fn hex_bytes(alloc: Global, value: &Value) -> Result<HexBytes, OpFault>
     ensures gives { GivesOp (λ b. b) result (hex_of (view value.now)) }
     ensures bytes { IfOk result (λ b. All (λ x. x < 256) b) }
@@ -85,7 +105,11 @@ pub fn hex_bytes(alloc: Global, value: &Value) -> Result<HexBytes, OpFault>
     }
 }
 
-/// Checks that there are at most 4,096 bytes.
+/// Tests that the bytes are at most 4,096, and returns them.
+///
+/// # Errors
+///
+/// `Limit` with their count where they are more.
 pub fn few_bytes(bytes: HexBytes) -> Result<HexBytes, Wrong>
     ensures value { result ≡ few_bytes bytes }
     ensures few { IfOk result (λ b. length b ≤ 4096) }
@@ -99,7 +123,7 @@ pub fn few_bytes(bytes: HexBytes) -> Result<HexBytes, Wrong>
     }
 }
 
-/// The three numbers of an entry of a scatter list.
+/// Returns the three numbers of an entry of a scatter list: buffer, offset and length.
 #[tactic(auto, unfolding(crate::specs::Operations::entry_numbers))]
 fn entry_numbers(value: &Value) -> Result<(u64, u64, u64), Wrong>
     ensures { result ≡ entry_numbers (view value.now) }
@@ -110,7 +134,7 @@ fn entry_numbers(value: &Value) -> Result<(u64, u64, u64), Wrong>
     }
 }
 
-/// An entry of a scatter list, where there are so many buffers.
+/// Returns the entry of a scatter list that a value is, in a scenario of `buffers` buffers.
 #[tactic(auto, unfolding(crate::specs::Operations::entry_of))]
 fn entry(value: &Value, buffers: u8) -> Result<SgEntry, Wrong>
     ensures value { result ≡ entry_of buffers (view value.now) }
@@ -123,7 +147,11 @@ fn entry(value: &Value, buffers: u8) -> Result<SgEntry, Wrong>
     Ok(SgEntry { buf, off, len })
 }
 
-/// Checks that each value has the shape of a scatter list's entry.
+/// Tests that each value has the shape of an entry of a scatter list: a list of three numbers.
+///
+/// # Errors
+///
+/// `Shape` where one does not.
 pub fn check_entries(items: &[Value]) -> Result<(), Wrong>
     ensures { result ≡ check_each (λ i d. entry_numbers d) 0 (items_view items.now) }
 {
@@ -133,7 +161,7 @@ pub fn check_entries(items: &[Value]) -> Result<(), Wrong>
     Ok(())
 }
 
-/// The entries of a scatter list, where there are so many buffers.
+/// Returns the entries of a scatter list, in a scenario of `buffers` buffers.
 fn entries(alloc: Global, items: &[Value], buffers: u8) -> Result<SgEntries, OpFault>
     ensures gives { GivesOp (λ e. e) result (each (λ i d. entry_of buffers d) 0 (items_view items.now)) }
     ensures fits { IfOk result (λ e. All (FitsEntry buffers) e) }
@@ -147,7 +175,12 @@ fn entries(alloc: Global, items: &[Value], buffers: u8) -> Result<SgEntries, OpF
     Ok(SgEntries::new(read))
 }
 
-/// Reads the entries of a scatter list, of which there are at most 16.
+/// Returns the entries of a scatter list, at most 16, in a scenario of `buffers` buffers.
+///
+/// # Errors
+///
+/// `Wrong` with `Limit` and the count where they are more than 16, or with what is wrong with the first wrong entry;
+/// `NoMemory` where memory runs out.
 #[tactic(auto, using(nc_values::proofs::Items::items_len_view))]
 pub fn few_entries(alloc: Global, items: &[Value], buffers: u8) -> Result<SgEntries, OpFault>
     ensures gives { GivesOp (λ e. e) result (few_entries buffers (items_view items.now)) }

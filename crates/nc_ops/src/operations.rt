@@ -280,7 +280,7 @@ fn read_copy(
     })
 }
 
-/// An operation on one label.
+/// Reads an operation on one label.
 fn read_on_label(name: &str, value: &Value) -> Result<Op, Wrong>
     ensures value { result ≡ label_op name.now (view value.now) }
     ensures fits { (harts buffers : ℕ) → IfOk result (FitsOp harts buffers) }
@@ -411,7 +411,7 @@ fn read_7(
     }
 }
 
-/// An operation by its name and its arguments.
+/// Reads an operation by its name and its arguments.
 fn read_named(alloc: Global, counts: Counts, name: &str, arguments: &[Value]) -> Result<Op, OpFault>
     ensures gives { GivesOp (λ o. o) result (op_named counts name.now (items_view arguments.now)) }
     ensures fits { IfOk result (FitsOp counts.harts counts.buffers) }
@@ -428,7 +428,12 @@ fn read_named(alloc: Global, counts: Counts, name: &str, arguments: &[Value]) ->
     }
 }
 
-/// Reads the operation that a value is, in a scenario of so many harts and buffers (this project's own format).
+/// Returns the operation that a value is, in a scenario of as many harts and buffers as `counts` says.
+///
+/// # Errors
+///
+/// `Wrong` with what is wrong with the value; `NoMemory` where memory runs out. The shapes of the name and of all
+/// arguments come before the limits of the arguments.
 #[tactic(auto, unfolding(crate::specs::Operations::op_of))]
 pub fn read_op(alloc: Global, counts: Counts, value: &Value) -> Result<Op, OpFault>
     ensures gives { GivesOp (λ o. o) result (op_of counts (view value.now)) }

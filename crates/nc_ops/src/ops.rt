@@ -7,10 +7,10 @@ use nc_env::CboOp;
 use nc_num::{ChanNo, Dir, HartNo, Label, NoMemory};
 use std::marker::Model;
 
-/// What a load or a store names.
+/// The memory that a load or a store names.
 #[derive(Clone, Copy, Debug, PartialEq, Eq)]
 pub enum Spot {
-    /// The buffer of this number.
+    /// The buffer of this index.
     Buffer(u8),
     /// The coherent area of this label.
     Area(Label),
@@ -18,14 +18,14 @@ pub enum Spot {
     Virtual,
 }
 
-/// What a channel's address register is set to.
+/// The value that a channel's address register is set to.
 #[derive(Clone, Copy, Debug, PartialEq, Eq)]
 pub enum BusArg {
     /// This bus address.
     At(u64),
     /// The bus address of the mapping of this label.
     Map(Label),
-    /// The bus address of the segment of this number, from 0, of the scatter list of this label.
+    /// The bus address of the segment of this index, from 0, of the scatter list of this label.
     Segment(Label, u32),
     /// The bus address of the coherent area of this label.
     Area(Label),
@@ -34,7 +34,7 @@ pub enum BusArg {
 /// An entry of a scatter list.
 #[derive(Clone, Copy, Debug, PartialEq, Eq)]
 pub struct SgEntry {
-    /// The number of its buffer.
+    /// The index of its buffer.
     pub buf: u8,
     /// Where it starts in the buffer, in bytes.
     pub off: u32,
@@ -58,7 +58,7 @@ impl Model for SgEntries {
 }
 
 impl SgEntries {
-    /// Makes a list of these entries.
+    /// Makes a scatter list's entries of these, in order.
     pub fn new(items: Vec<SgEntry>) -> SgEntries
         ensures { result ≡ items.items }
     {
@@ -88,7 +88,7 @@ impl Model for HexBytes {
 }
 
 impl HexBytes {
-    /// Makes a list of these bytes.
+    /// Makes the bytes of a store of these, in order.
     pub fn new(items: Vec<u8>) -> HexBytes
         ensures value { result ≡ items.items }
         ensures bytes { All (λ b. b < 256) items.items }
@@ -127,7 +127,7 @@ pub enum Op {
     },
     /// A cache-block operation (RISC-V CMO 1.0) on the block of a buffer's byte, and a zero on its zeroed range.
     Cbo {
-        /// Which operation.
+        /// The operation.
         op: CboOp,
         /// The buffer.
         buf: u8,
@@ -189,9 +189,9 @@ pub enum Op {
         /// The channel that may use it.
         chan: ChanNo,
     },
-    /// The coherent area goes to the channel.
+    /// The coherent area is given to the channel.
     Cgive(Label),
-    /// The coherent area comes back.
+    /// The coherent area is taken back from the channel.
     Ctake(Label),
     /// `dma_free_coherent` (Linux DMA API).
     Cfree(Label),
@@ -206,7 +206,7 @@ pub enum Op {
     Take(u8),
     /// The channel is claimed.
     Claim(ChanNo),
-    /// The channel is let go.
+    /// The channel is released.
     Free(ChanNo),
     /// The channel's next transfer is set.
     Regs {
@@ -265,8 +265,11 @@ pub enum Op {
 }
 
 impl Op {
-    /// Returns a copy of the operation. The error comes where memory runs out for the bytes of a store or the entries
-    /// of a list.
+    /// Returns a copy of the operation, with the bytes of a store or the entries of a list.
+    ///
+    /// # Errors
+    ///
+    /// `NoMemory` where memory runs out; then the operation is unchanged.
     pub fn try_clone(&self) -> Result<Op, NoMemory>
         ensures { IfOk result (λ o. o ≡ self.now) }
     {
@@ -290,7 +293,7 @@ impl Model for Ops {
 }
 
 impl Ops {
-    /// Makes a list of these operations.
+    /// Makes a script of these operations, in order.
     pub fn new(items: Vec<Op>) -> Ops
         ensures { result ≡ items.items }
     {

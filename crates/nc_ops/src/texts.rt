@@ -5,7 +5,7 @@ ghost use Rattle.nc_ops.specs.Texts.{point_at, spot_in, segment_in, mapping_in, 
 
 use nc_values::number_in;
 
-/// What the text of a load or a store names, before its limits are looked at.
+/// What the text of a load or a store names, before its limits are checked.
 #[derive(Clone, Copy, Debug, PartialEq, Eq)]
 pub enum SpotText {
     /// `bN`: a buffer.
@@ -16,7 +16,7 @@ pub enum SpotText {
     Virtual,
 }
 
-/// What an address of a channel names, before its limits are looked at.
+/// What an address of a channel names, before its limits are checked.
 #[derive(Clone, Copy, Debug, PartialEq, Eq)]
 pub enum BusText {
     /// A bus address.
@@ -29,7 +29,7 @@ pub enum BusText {
     Area(u64),
 }
 
-/// How many bytes stand before the first point.
+/// Returns the index of the first point, or the length of the text where it has none.
 fn point_at(text: &[u8]) -> usize
     ensures value { result ≡ point_at text.now }
     ensures within { result ≤ length text.now }
@@ -42,7 +42,7 @@ fn point_at(text: &[u8]) -> usize
     text.len()
 }
 
-/// Parses `bN` (a buffer), `cL` (the area of a label) or `v` (a virtual address).
+/// Returns what a load's or a store's text names, `bN`, `cL` or `v`, or None where it has another form.
 pub fn spot_in(text: &[u8]) -> Option<SpotText>
     ensures { result ≡ spot_in text.now }
 {
@@ -54,7 +54,7 @@ pub fn spot_in(text: &[u8]) -> Option<SpotText>
     }
 }
 
-/// `L.S`, where the point is at i.
+/// Returns the segment that a text `L.S` names, whose point is at index `i`, or None where it has another form.
 fn segment_in(text: &[u8], i: usize) -> Option<BusText>
     requires { i < length text.now }
     ensures { result ≡ segment_in i text.now }
@@ -64,7 +64,7 @@ fn segment_in(text: &[u8], i: usize) -> Option<BusText>
     Some(BusText::Segment(label, segment))
 }
 
-/// `L` or `L.S`.
+/// Returns the mapping or segment that a text `L` or `L.S` names, or None where it has another form.
 fn mapping_in(text: &[u8]) -> Option<BusText>
     ensures { result ≡ mapping_in text.now }
 {
@@ -76,7 +76,7 @@ fn mapping_in(text: &[u8]) -> Option<BusText>
     }
 }
 
-/// Parses `mL` (the mapping of a label), `mL.S` (one of its segments) or `cL` (the area of a label).
+/// Returns what a channel's address names, `mL`, `mL.S` or `cL`, or None where it has another form.
 pub fn bus_in(text: &[u8]) -> Option<BusText>
     ensures { result ≡ bus_in text.now }
 {

@@ -17,7 +17,7 @@ use std::marker::Model;
 /// The bus address of RAM's first byte.
 const RAM_BASE: u64 = 0x8000_0000;
 
-/// What a step of a channel did.
+/// The result of a step of a channel.
 #[derive(Clone, Copy, Debug, PartialEq, Eq)]
 pub enum ChanStep {
     /// The step is disabled, and nothing has changed.

@@ -1,4 +1,4 @@
-//! From bytes to the answer.
+//! The answer of the command `pool` to some bytes.
 
 ghost use Rattle.std.specs.Prelude.{◌≡◌, Ok};
 ghost use Rattle.nc_pieces.specs.Reading.{request_in};
@@ -13,7 +13,11 @@ use std::alloc::Global;
 
 const MOST_BYTES: usize = 8_388_608;
 
-/// The request that the bytes are, or the first refusal: of length, JSON, form.
+/// Returns the request that the bytes are.
+///
+/// # Errors
+///
+/// `Refused` with the first refusal: of length, JSON or form. `NoMemory` where memory runs out.
 #[tactic(auto, unfolding(crate::specs::Reading::request_in))]
 fn read(alloc: Global, bytes: &[u8]) -> Result<Request, PoolFault>
     ensures { GivesPool (λ r. r) result (request_in bytes.now) }
@@ -33,12 +37,12 @@ fn read(alloc: Global, bytes: &[u8]) -> Result<Request, PoolFault>
     }
 }
 
-/// Returns the lines that the command `pool` answers to some bytes, or the first refusal: of length, JSON, form, size,
-/// alignment and boundary.
+/// Returns the lines that the command `pool` writes for some bytes. The command and its lines are this project's own.
 ///
 /// # Errors
 ///
-/// `Refused` exactly where the definition refuses; `NoMemory` where memory runs out.
+/// `Refused` with the first refusal: of length, JSON, form, size, alignment or boundary. It comes exactly where the
+/// definition refuses. `NoMemory` where memory runs out.
 pub fn pool_answer(alloc: Global, bytes: &[u8]) -> Result<Vec<u8>, PoolFault>
     ensures { GivesPool (λ v. v.items) result (pool_answer bytes.now) }
 {
@@ -49,7 +53,7 @@ pub fn pool_answer(alloc: Global, bytes: &[u8]) -> Result<Vec<u8>, PoolFault>
     Ok(text.into_bytes())
 }
 
-/// Returns the line of a refusal.
+/// Returns the line of a refusal, with its line feed.
 pub fn pool_refused(refused: PoolRefused) -> &'static [u8]
     ensures { result.now ≡ pool_refused_line refused }
 {

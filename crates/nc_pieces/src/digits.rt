@@ -5,7 +5,7 @@ ghost use Rattle.nc_rules.specs.Lines.{hex_digits};
 
 use std::fmt;
 
-/// A number in at least six hexadecimal digits.
+/// A number that is printed in at least six hexadecimal digits.
 #[derive(Drop)]
 pub(crate) struct Six(pub u32);
 

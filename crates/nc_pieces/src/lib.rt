@@ -1,7 +1,7 @@
-//! The command `pool`: a pool of small coherent pieces, asked by a list of operations.
+//! The command `pool`: a pool of small coherent pieces, and a list of operations on it.
 //!
 //! The contract for the crates above: the answer to some bytes is the definition's, to the byte, or its refusal
-//! (`specs/Serving.antt`), or that memory ran out. All of it is this project's own.
+//! (`specs/Serving.antt`), or memory runs out. All of it is this project's own.
 #![tactic(auto)]
 
 mod answer;

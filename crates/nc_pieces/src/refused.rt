@@ -1,4 +1,4 @@
-//! Why there is no answer.
+//! The faults of the command `pool`.
 
 ghost use Rattle.std.specs.Prelude.{◌≡◌};
 ghost use Rattle.nc_pieces.specs.declared.refused.PoolFault.TheVariants as faults;
@@ -7,20 +7,20 @@ use nc_dmapool::PoolBad;
 use nc_num::NoMemory;
 use std::alloc::{AllocError, AllocFailed};
 
-/// What is wrong with an input, the first that is.
+/// The first thing that is wrong with an input.
 #[derive(Clone, Copy, Debug, PartialEq, Eq)]
 pub enum PoolRefused {
     /// More than 8,388,608 bytes.
     TooLong,
-    /// No JSON text.
+    /// The bytes are no JSON text.
     NotJson,
-    /// A value of another form.
+    /// The value has another form.
     Shape,
-    /// No pool has such pieces.
+    /// A pool of such pieces is refused.
     Pool(PoolBad),
 }
 
-/// Why there is no answer.
+/// Why an input gets no answer.
 #[derive(Clone, Copy, Debug, PartialEq, Eq)]
 pub enum PoolFault {
     /// The input is refused.

@@ -15,13 +15,13 @@ use std::marker::Model;
 /// An operation of the command, with its label, 0 to 999.
 #[derive(Clone, Copy, Debug, PartialEq, Eq)]
 pub enum PieceOp {
-    /// A piece for the label.
+    /// The label gets a piece.
     Alloc(u32),
-    /// The label's piece goes back.
+    /// The label's piece is given back.
     Free(u32),
 }
 
-/// What is asked: the pages, the layout of the pool, and at most 4,096 operations.
+/// A request: the pages, the layout of the pool, and at most 4,096 operations.
 #[derive(Drop)]
 pub struct Request {
     pub(crate) at: u32,
@@ -42,7 +42,7 @@ impl Model for Request {
     ghost invariant = { λ r. FitsRequest (record { at = r.at; pages = r.pages; size = r.size; align = r.align; boundary = r.boundary; ops = r.ops.items }) };
 }
 
-/// Whether the object may have a key.
+/// Returns whether a request may have a key.
 fn knows(key: &str) -> bool
     ensures { result ≡ knows key.now }
 {
@@ -54,7 +54,7 @@ fn knows(key: &str) -> bool
         || key == "ops"
 }
 
-/// Whether the object has no other keys.
+/// Returns whether a request has no other keys.
 fn knows_all(members: &Map<String, Value>) -> bool
     ensures { result ≡ knows_all (members_view members.now.entries) }
 {
@@ -66,7 +66,7 @@ fn knows_all(members: &Map<String, Value>) -> bool
     true
 }
 
-/// That a value is an object with no other keys than the six.
+/// Tests that a value is an object with no other keys than the six.
 fn check_keys(value: &Value) -> Result<(), Wrong>
     ensures { result ≡ keyed (view value.now) }
 {
@@ -80,7 +80,7 @@ fn check_keys(value: &Value) -> Result<(), Wrong>
     }
 }
 
-/// The operation of a name and a label.
+/// Returns the operation of a name and a label.
 fn named(name: &str, label: u32) -> Result<PieceOp, Wrong>
     requires { label ≤ 999 }
     ensures value { result ≡ op_named name.now label }
@@ -102,7 +102,7 @@ fn read_with(name: &Value, label: &Value) -> Result<PieceOp, Wrong>
     named(name, label)
 }
 
-/// The operation that a value is.
+/// Returns the operation that a value is.
 fn read_op(value: &Value) -> Result<PieceOp, Wrong>
     ensures value { result ≡ op_of (view value.now) }
     ensures fits { IfOk result FitsOp }
@@ -126,7 +126,7 @@ fn read_ops(alloc: Global, items: &[Value]) -> Result<Vec<PieceOp>, OpFault>
     Ok(ops)
 }
 
-/// Where the pages start.
+/// Returns the place at which the pages start, a multiple of 4,096.
 fn start_field(value: &Value) -> Result<u64, Wrong>
     ensures value { result ≡ got start_of (codes "at") (view value.now) }
     ensures whole { IfOk result (λ n. n % 4096 ≡ 0) }
@@ -139,14 +139,14 @@ fn start_field(value: &Value) -> Result<u64, Wrong>
     }
 }
 
-/// Whether so many pages from a place on are at most 64, and end at 1,048,576 at most.
+/// Returns whether `pages` pages from place `at` on are at most 64, and end at 1,048,576 at most.
 fn has_pages(at: u64, pages: u64) -> bool
     ensures { result ≡ (nat_le pages 64 && nat_le (at + 4096 * pages) 1048576) }
 {
     pages <= 64 && at <= 1_048_576 && at + 4096 * pages <= 1_048_576
 }
 
-/// How many pages there are.
+/// Returns the number of pages, at most 64, which end at 1,048,576 at most.
 fn pages_field(value: &Value, at: u64) -> Result<u64, Wrong>
     ensures value { result ≡ got (pages_from at) (codes "pages") (view value.now) }
     ensures ends { IfOk result (λ n. at + 4096 * n ≤ 1048576) }
@@ -159,7 +159,7 @@ fn pages_field(value: &Value, at: u64) -> Result<u64, Wrong>
     }
 }
 
-/// A number of 32 bits.
+/// Returns the number of a key, below 2^32.
 fn wide_field(value: &Value, key: &str) -> Result<u32, Wrong>
     ensures { result ≡ got wide_of key.now (view value.now) }
 {
@@ -167,14 +167,18 @@ fn wide_field(value: &Value, key: &str) -> Result<u32, Wrong>
     Ok(most(n, 4_294_967_295)? as u32)
 }
 
-/// The values of the operations.
+/// Returns the values of the operations, at most 4,096.
 fn op_items(value: &Value) -> Result<&Vec<Value>, Wrong>
     ensures { MatchResult result (λ v. (got (sized_of 0 4096) (codes "ops") (view value.now) ≡ Ok (items_view v.now.items)) × (length v.now.items ≤ 4096)) (λ e. got (sized_of 0 4096) (codes "ops") (view value.now) ≡ Err e) }
 {
     sized(field(value, "ops")?, 0, 4096)
 }
 
-/// Reads the request that a value is.
+/// Returns the request that a value is.
+///
+/// # Errors
+///
+/// `Wrong` with what is wrong with the value; `NoMemory` where memory runs out.
 #[tactic(auto, unfolding(crate::specs::Reading::request_of))]
 pub fn read_request(alloc: Global, value: &Value) -> Result<Request, OpFault>
     ensures { GivesOp (λ r. r) result (request_of (view value.now)) }

@@ -1,4 +1,4 @@
-//! The pool that serves, and its lines.
+//! The pool that serves a request, and the lines of its operations.
 
 ghost use Rattle.std.specs.Prelude.{◌≡◌, ◌≤◌, ◌<◌, ◌+◌, ◌*◌, ◌^◌, ◌++◌, All, IfOk, OnOk, Ok, Some, None, length, replicate, string_bytes, slice_index_or};
 ghost use Rattle.std.specs.FinSet as set;
@@ -17,16 +17,16 @@ use nc_num::{NoMemory, Place};
 use std::alloc::Global;
 use std::marker::Model;
 
-/// The labels are 0 to 999.
+/// The number of labels, which are 0 to 999.
 const LABELS: usize = 1000;
 
-/// The pool, the pages that it takes from, and of each label the place of its piece.
+/// The pool of a request, the pages that it takes from, and the place of each label's piece.
 #[derive(Drop)]
 pub struct Serving {
     pool: DmaPool,
     pages: PagePool,
     held: Vec<Option<u32>>,
-    /// The pieces in use.
+    /// The number of pieces in use.
     pieces: u32,
 }
 
@@ -45,7 +45,11 @@ impl Model for Serving {
 }
 
 impl Serving {
-    /// Makes the pool that a request asks for, with all its pages free.
+    /// Makes the pool that a request describes, with all its pages free and no piece in use.
+    ///
+    /// # Errors
+    ///
+    /// `Refused` with `Pool` where the size, the alignment or the boundary is wrong; `NoMemory` where memory runs out.
     pub fn new(alloc: Global, request: &Request) -> Result<Serving, PoolFault>
         ensures empty { IfOk result (λ s. set.len s.pool.used ≡ 0) }
         ensures gives { GivesPool (λ s. s) result (serving_of request.now (pool_of (layout_of request.now.size request.now.align request.now.boundary))) }
@@ -132,7 +136,12 @@ impl Serving {
         Ok(())
     }
 
-    /// Does operations one after another, and writes all lines.
+    /// Runs the operations one after another, and appends their lines and the last line to `text`. They are at most
+    /// 4,096, with labels from 0 to 999, and no piece is in use before them.
+    ///
+    /// # Errors
+    ///
+    /// `NoMemory` where memory runs out; then some of the operations may be done, and some of the lines written.
     pub fn serve_all(&mut self, ops: &[PieceOp], text: &mut String) -> Result<(), NoMemory>
         requires fits { All FitsOp ops.now }
         requires few { length ops.now ≤ 4096 }
@@ -146,7 +155,7 @@ impl Serving {
     }
 }
 
-/// So many labels, none of which has a piece.
+/// Makes a list of `labels` labels, none of which has a piece.
 fn no_pieces(alloc: Global, labels: usize) -> Result<Vec<Option<u32>>, NoMemory>
     ensures { IfOk result (λ v. v.items ≡ replicate labels None) }
 {
@@ -154,7 +163,7 @@ fn no_pieces(alloc: Global, labels: usize) -> Result<Vec<Option<u32>>, NoMemory>
     Ok(held)
 }
 
-/// Gives a piece back where one starts at a place, and tells how many are in use.
+/// Gives back the piece at a place, if one starts there, and returns how many are then in use.
 fn freed(pool: &mut DmaPool, pieces: u32, at: u32) -> u32
     requires { pieces ≡ set.len pool.old.used }
     ensures after { pool.new ≡ after_free pool.old at (set.contains pool.old.used at) }

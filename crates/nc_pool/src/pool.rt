@@ -10,7 +10,7 @@ use nc_num::NoMemory;
 use std::alloc::Global;
 use std::marker::Model;
 
-/// What a try of a slot found.
+/// The result of a try of a slot.
 #[derive(Clone, Copy, PartialEq, Eq, Debug)]
 pub enum PoolTry {
     /// The slot was free, and the seat holds it now.
@@ -19,7 +19,7 @@ pub enum PoolTry {
     Held(u64),
 }
 
-/// What a call for a seat returns.
+/// The result of a call for a seat.
 #[derive(Drop)]
 pub enum NewSeat {
     /// The seat with the next number.

@@ -1,4 +1,4 @@
-//! What a script's operations, and the machine, are answered.
+//! The answers of a script's operations, and of the machine.
 
 use nc_cache::BusList;
 use nc_env::Field;
@@ -21,15 +21,15 @@ pub enum Refusal {
     NotYours(Owner),
     /// A cache operation that the call needs is disabled by this field.
     CboOff(Field),
-    /// The range finds no room in a bounce slot.
+    /// The range does not fit in a bounce slot.
     TooBig,
-    /// Each bounce slot was found held.
+    /// Every bounce slot was found held.
     NoSlot,
     /// The channel is claimed, by this hart.
     ChannelBusy(HartNo),
     /// `menvcfg.PBMTE` is 0, so there are no memory types.
     NoPbmt,
-    /// The pool has no run of so many free pages.
+    /// The pool has no run of as many free pages.
     NoPage,
     /// The list has this many entries.
     BadCount(u32),
@@ -41,7 +41,7 @@ pub enum Refusal {
     BadMmio(u16, u8),
 }
 
-/// The answer of an operation that ends with one. Bus addresses count from 0x8000_0000, RAM's first byte.
+/// The answer of an operation, for those that end with one. Bus addresses count from 0x8000_0000, RAM's first byte.
 #[derive(Clone, Copy, Debug, PartialEq, Eq)]
 pub enum Answer {
     /// A mapping, by the bus address of its device range.
@@ -80,7 +80,7 @@ pub enum Answer {
     Done(u32),
     /// A transfer met an error, with this value of Control.
     Error(u32),
-    /// What a register holds.
+    /// The value that a register holds.
     Value(u64),
     /// A register is written.
     Wrote,
@@ -92,7 +92,7 @@ pub enum Answer {
     Refused(Refusal),
 }
 
-/// What the machine did with an operation of a hart.
+/// The result of an operation that a hart issued to the machine.
 #[derive(Debug, Drop)]
 pub enum Issued {
     /// A load, with the bytes of its span and the transfers that it made.

@@ -1,4 +1,4 @@
-//! What a hart has mapped, and who has it now.
+//! The lots of a hart: what it has mapped, and who has it now.
 
 use nc_num::{ChanNo, Label};
 use nc_sg::SgList;
@@ -16,10 +16,10 @@ pub enum Kind {
     Copy,
 }
 
-/// Who has a lot: the owner of its bytes, as far as they are not those of single mappings. This project's own.
+/// Who has a lot: the owner of its bytes, except for bytes of single mappings. This project's own.
 #[derive(Clone, Copy, Debug, PartialEq, Eq)]
 pub enum Side {
-    /// It is not lent yet, and may want slots. Its bytes are the hart's own.
+    /// It is not lent yet, and may need slots. Its bytes are the hart's own.
     Wanted,
     /// The plan that lends it to its channel is under way.
     Lending,
@@ -36,9 +36,9 @@ pub enum Side {
 /// The name of a lot among those of its hart.
 #[derive(Clone, Copy, Debug, PartialEq, Eq)]
 pub struct LotId {
-    /// Its label, 0 to 999, or 1000 of a copy's ends.
+    /// Its label: 0 to 999, or 1000 for the ends of a copy.
     pub label: Label,
-    /// The number of its first entry: 1 of a copy's destination, and else 0.
+    /// The index of its first entry: 1 for a copy's destination, and else 0.
     pub first: u8,
 }
 
@@ -51,7 +51,7 @@ pub struct Lot {
     pub kind: Kind,
     /// The channel that may use it.
     pub chan: ChanNo,
-    /// Its ranges, with their direction and the slots of those that bounce: one, but for a scatter list.
+    /// Its ranges, with their direction, and the slots of those that bounce: one range, except in a scatter list.
     pub list: SgList,
     /// Who has it.
     pub side: Side,

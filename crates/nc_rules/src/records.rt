@@ -1,4 +1,4 @@
-//! What a run records, one record a line of the report.
+//! The records of a run: one record is one line of the report.
 
 use crate::answers::Answer;
 use nc_cache::Origin;
@@ -9,7 +9,7 @@ use nc_plan::IoTarget;
 use nc_scen::Event;
 use nc_slots::TryAnswer;
 
-/// What became of a told answer of the slot pool.
+/// The outcome of a told answer of the slot pool.
 #[derive(Clone, Copy, Debug, PartialEq, Eq)]
 pub enum ToldAnswer {
     /// The slot was got, and the core's word was free.
@@ -209,7 +209,7 @@ pub enum Record {
         hart: HartNo,
         /// The word.
         word: u32,
-        /// What became of it.
+        /// The outcome.
         answer: ToldAnswer,
     },
     /// A slot was given back.
@@ -223,7 +223,7 @@ pub enum Record {
     Ans {
         /// The hart.
         hart: HartNo,
-        /// The number of the operation in its script.
+        /// The index of the operation in its script.
         op: u32,
         /// The answer.
         answer: Answer,

@@ -1,10 +1,10 @@
-//! The steps of a driver: what it does next, what it saw, and what a step leaves to do.
+//! The steps of a driver: its next step, what the step saw, and its effect on owners and pages.
 
 use crate::lots::LotId;
 use nc_num::{ChanNo, HartNo, Span};
 use nc_plan::HartOp;
 
-/// What a driver does next.
+/// The next step of a driver.
 #[derive(Clone, Copy, Debug, PartialEq, Eq)]
 pub enum Next {
     /// Nothing: its script is at its end.
@@ -17,7 +17,7 @@ pub enum Next {
     Op(HartOp),
     /// It claims a channel.
     Claim(ChanNo),
-    /// It reads a channel's Control once done or error is set.
+    /// It polls a channel: it reads Control, once done or error is set.
     Poll(ChanNo),
     /// It takes the message of a buffer's box.
     Take(u8),
@@ -38,7 +38,7 @@ pub enum Seen {
     Value(u64),
 }
 
-/// What a step does to the pages of the coherent pool.
+/// The effect of a step on the pages of the coherent pool.
 #[derive(Clone, Copy, Debug, PartialEq, Eq)]
 pub enum PageMove {
     /// Nothing.
@@ -49,7 +49,7 @@ pub enum PageMove {
     Give(Span),
 }
 
-/// What a step of a plan does.
+/// The action of a step of a plan.
 #[derive(Clone, Copy, Debug, PartialEq, Eq)]
 pub enum Act {
     /// An operation of the hart.
@@ -62,8 +62,8 @@ pub enum Act {
     Take(u8),
 }
 
-/// What a step does to owners: to a range by itself, or to the bytes of a lot, with the grants, slots and pages that go
-/// with these.
+/// The effect of a step on owners: on a range by itself, or on the bytes of a lot, with the grants, slots and pages
+/// that go with these.
 #[derive(Clone, Copy, Debug, PartialEq, Eq)]
 pub enum Turn {
     /// Nothing.
@@ -99,13 +99,13 @@ pub struct Step {
     pub last: Turn,
 }
 
-/// Where the operation in hand stands.
+/// The phase of the current operation.
 #[derive(Clone, Copy, Debug, PartialEq, Eq)]
 pub enum Phase {
-    /// So many of its steps are done; an operation begins at 0.
+    /// This many of its steps are done; an operation begins at 0.
     Steps(u32),
     /// It searches for a bounce slot, and tries this word next.
     Search(u32),
-    /// It has a plan, of which a rest is left.
+    /// It works through a plan, of which steps are left.
     Work,
 }

@@ -18,17 +18,17 @@ use std::alloc::Global;
 /// The version, the sizes in bytes, and whether fences are light.
 #[derive(Clone, Copy, Debug, PartialEq, Eq)]
 pub struct Format {
-    /// 1 or 2.
+    /// The version, 1 or 2.
     pub version: u64,
     /// The size of a block.
     pub block_size: u32,
-    /// The size of what a zero sets.
+    /// The size of the range that a cache-block zero sets.
     pub zero_size: u32,
     /// Whether fences are light.
     pub light: bool,
 }
 
-/// That there is no such key, which only a later version has.
+/// Tests that the scenario lacks a key, which only a later version has.
 fn check_absent(alloc: Global, value: &Value, key: &str) -> Result<(), ScenFault>
     ensures { Gives (λ u. u) result (absent key.now (view value.now)) }
 {
@@ -38,7 +38,7 @@ fn check_absent(alloc: Global, value: &Value, key: &str) -> Result<(), ScenFault
     }
 }
 
-/// A size that a block can have, of at least so many bytes.
+/// Returns the size at a key, one that a block can have, of at least `least` bytes.
 fn size_field(value: &Value, key: &str, least: u32) -> Result<u32, Wrong>
     ensures value { result ≡ got (size_in least) key.now (view value.now) }
     ensures sized { IfOk result IsBlockSize }
@@ -65,7 +65,7 @@ fn size_at(alloc: Global, value: &Value, key: &str, least: u32) -> Result<u32, S
     )
 }
 
-/// Whether fences are light; they are full where nothing is said.
+/// Returns whether fences are light; they are full where the scenario has no such key.
 fn fences_or_full(alloc: Global, value: Option<&Value>) -> Result<bool, ScenFault>
     ensures { Gives (λ b. b) result (fences_or_full (option_map (λ v. view v.now) value.entry)) }
 {
@@ -107,7 +107,12 @@ fn new_format(alloc: Global, value: &Value) -> Result<Format, ScenFault>
     })
 }
 
-/// Reads the version of a scenario, with the sizes of blocks in bytes and the kind of fences.
+/// Returns the version of a scenario, with the sizes of blocks and the kind of fences.
+///
+/// # Errors
+///
+/// `Refused` with `Version` where the version is neither 1 nor 2, or with another first refusal; `NoMemory` where
+/// memory runs out.
 #[tactic(auto, unfolding(crate::specs::Parts::format_of))]
 pub fn read_format(alloc: Global, value: &Value) -> Result<Format, ScenFault>
     ensures gives { Gives (λ f. f) result (format_of (view value.now)) }

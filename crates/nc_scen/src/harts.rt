@@ -16,7 +16,7 @@ use nc_values::{OpFault, Path, ScenFault, list_at, mode_at, register_at};
 use serde_json::Value;
 use std::alloc::Global;
 
-/// All of a hart but its script.
+/// A hart without its script.
 #[derive(Clone, Copy, Debug, PartialEq, Eq)]
 pub struct Settings {
     /// The mode that its script runs in.
@@ -44,7 +44,7 @@ fn read_settings(alloc: Global, value: &Value, path: &Path) -> Result<Settings, 
     })
 }
 
-/// The values of a script, of which there are at most 4,096.
+/// Returns the values of a script, at most 4,096.
 fn script_items<'a>(
     alloc: Global,
     value: &'a Value,
@@ -56,7 +56,7 @@ fn script_items<'a>(
     list_at(alloc, value, path, "script", 0, 4096)
 }
 
-/// That a value is a hart, whose operations are not looked at.
+/// Tests that value `i` of the list is a hart; its operations are not read.
 fn check_hart(alloc: Global, value: &Value, i: usize) -> Result<(), ScenFault>
     ensures { Gives (λ u. u) result (hart_checked i (view value.now)) }
 {
@@ -66,7 +66,11 @@ fn check_hart(alloc: Global, value: &Value, i: usize) -> Result<(), ScenFault>
     Ok(())
 }
 
-/// Checks that each value has the shape of a hart, whose operations are not looked at.
+/// Tests that each value is a hart; their operations are not read.
+///
+/// # Errors
+///
+/// `Refused` with the first refusal; `NoMemory` where memory runs out.
 pub fn check_harts(alloc: Global, items: &[Value]) -> Result<(), ScenFault>
     ensures { Gives (λ u. u) result (check_each hart_checked 0 (items_view items.now)) }
 {
@@ -76,7 +80,7 @@ pub fn check_harts(alloc: Global, items: &[Value]) -> Result<(), ScenFault>
     Ok(())
 }
 
-/// The operation of this number of a script.
+/// Returns operation `i` of a script.
 fn read_op_at(
     alloc: Global,
     counts: Counts,
@@ -94,7 +98,7 @@ fn read_op_at(
     }
 }
 
-/// The operations of a script.
+/// Returns the operations of the script of the hart at `path`.
 fn read_script(
     alloc: Global,
     counts: Counts,
@@ -110,7 +114,7 @@ fn read_script(
     Ok(Ops::new(ops))
 }
 
-/// The operations of a script whose path this is.
+/// Returns the operations of the script at path `script`.
 fn read_ops(
     alloc: Global,
     counts: Counts,
@@ -150,7 +154,7 @@ fn read_hart(
     })
 }
 
-/// The hart of this number, with its operations.
+/// Returns hart `i`, with its operations.
 fn read_hart_at(
     alloc: Global,
     counts: Counts,
@@ -164,7 +168,11 @@ fn read_hart_at(
     read_hart(alloc, counts, value, &path)
 }
 
-/// Reads the harts with their operations.
+/// Returns the harts with their operations, in order.
+///
+/// # Errors
+///
+/// `Refused` with the first refusal; `NoMemory` where memory runs out.
 pub fn read_harts(
     alloc: Global,
     counts: Counts,

@@ -9,7 +9,7 @@ use nc_values::{Path, Refused, ScenFault};
 use serde_json::{Map, Value};
 use std::alloc::Global;
 
-/// Which object of the scenario.
+/// An object of the scenario, by the keys that it may have.
 #[derive(Clone, Copy, Debug, PartialEq, Eq)]
 pub enum Keys {
     /// The whole.
@@ -44,7 +44,7 @@ impl Keys {
     }
 }
 
-/// Whether the whole may have a key.
+/// Returns whether the whole may have a key.
 fn knows_top(key: &str) -> bool
     ensures { result ≡ knows Keys.Top key.now }
 {
@@ -64,7 +64,7 @@ fn knows_top(key: &str) -> bool
         || key == "limit"
 }
 
-/// The first key of an object that is not known.
+/// Returns the first key of an object that it may not have, or None where it may have all.
 fn first_unknown(members: &Map<String, Value>, keys: Keys) -> Option<&str>
     ensures { option_map (λ k. k.now) result ≡ first_unknown keys (members_view members.now.entries) }
 {
@@ -76,7 +76,12 @@ fn first_unknown(members: &Map<String, Value>, keys: Keys) -> Option<&str>
     None
 }
 
-/// Checks that a value is an object with no other keys than the known ones.
+/// Tests that the value at `path` is an object, and has no other keys than it may have.
+///
+/// # Errors
+///
+/// `Refused` with `Shape`: at the path where the value is no object, and at the first unknown key where it is one.
+/// `NoMemory` where memory runs out.
 pub fn check_keys(alloc: Global, value: &Value, keys: Keys, path: &Path) -> Result<(), ScenFault>
     ensures { Gives (λ u. u) result (keyed keys path.now (view value.now)) }
 {

@@ -1,8 +1,9 @@
-//! The scenario: what a run of the machine is told, as one JSON value, and the reading of it.
+//! The scenario, which is all that a run of the machine is given, as one JSON value; and the reading of it.
 //!
-//! The contract for the crates above: for every byte string, `read` gives the scenario that it is or its first refusal
-//! (`specs/Reading.antt`), or says that memory ran out; and what it gives is accepted (`specs/Accepted.antt`): all that
-//! the machine, the driver and the schedule take for granted of a scenario. All of it is this project's own.
+//! The contract for the crates above: for every byte string, `read` returns the scenario that it is or its first
+//! refusal (`specs/Reading.antt`), or that memory ran out. The scenario that it returns is accepted
+//! (`specs/Accepted.antt`): it meets all that the machine, the driver and the schedule take for granted. All of it is
+//! this project's own.
 #![tactic(auto)]
 
 mod events;

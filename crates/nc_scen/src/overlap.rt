@@ -9,7 +9,7 @@ use nc_num::Span;
 use nc_values::ScenFault;
 use std::alloc::Global;
 
-/// Whether two regions share a byte.
+/// Returns whether two regions share a byte.
 fn meet(a: &Span, b: &Span) -> bool
     ensures { result ≡ meet a.now b.now }
 {
@@ -19,7 +19,7 @@ fn meet(a: &Span, b: &Span) -> bool
         && u64::from(b.at) < u64::from(a.at) + u64::from(a.len)
 }
 
-/// The first of these, whose numbers begin at j, that meets a region.
+/// Returns the index of the first of `others` that shares a byte with a region, where their indices begin at `j`.
 fn first_meeting(r: &Span, j: usize, others: &[Span]) -> Option<usize>
     requires { j + length others.now < 2 ^ 32 }
     ensures value { result ≡ first_meeting r.now j others.now }
@@ -33,7 +33,7 @@ fn first_meeting(r: &Span, j: usize, others: &[Span]) -> Option<usize>
     None
 }
 
-/// Returns the least pair of indices of regions that share a byte; None where no two do.
+/// Returns the indices of the first two regions that share a byte, the lower index first, or None where no two do.
 pub fn first_overlap(regions: &[Span]) -> Option<(usize, usize)>
     requires { length regions.now < 2 ^ 31 }
     ensures value { result ≡ first_overlap 0 regions.now }
@@ -49,6 +49,10 @@ pub fn first_overlap(regions: &[Span]) -> Option<(usize, usize)>
 }
 
 /// Returns the regions in the order of their indices: the buffers, the slots and the pool.
+///
+/// # Errors
+///
+/// `NoMemory` where memory runs out.
 pub fn regions(
     alloc: Global,
     buffers: &[BufferSpec],

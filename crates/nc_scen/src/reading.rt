@@ -1,4 +1,4 @@
-//! From bytes to a scenario.
+//! The reading of a scenario from bytes.
 
 ghost use Rattle.std.specs.Prelude.{◌≡◌, ◌≤◌, ◌<◌, ◌*◌, ◌/◌, IfOk, OnOk, All, length, option_map};
 ghost use Rattle.serde_json.specs.Find.{get};
@@ -26,7 +26,7 @@ use std::alloc::Global;
 
 const MOST_BYTES: usize = 8_388_608;
 
-/// What lies in RAM.
+/// The page table, the regions of RAM, and the reach of each channel.
 #[derive(Debug, Drop)]
 pub struct Land {
     /// The page table.
@@ -62,7 +62,7 @@ fn read_land(alloc: Global, ram: u32, harts: u8, value: &Value) -> Result<Land, 
     })
 }
 
-/// Whether finishing rounds follow; they do where nothing is said.
+/// Returns whether finishing rounds follow; they do where the scenario has no such key.
 fn finish_or_true(alloc: Global, value: Option<&Value>) -> Result<bool, ScenFault>
     ensures { Gives (λ b. b) result (finish_or_true (option_map (λ v. view v.now) value.entry)) }
 {
@@ -79,7 +79,7 @@ fn limit_in(value: &Value) -> Result<u64, Wrong>
     most(number(value)?, MOST_EVENTS)
 }
 
-/// How many events are tried at most, 100,000 where nothing is said.
+/// Returns how many events are tried at most; 100,000 where the scenario has no such key.
 fn limit_or_default(alloc: Global, value: Option<&Value>) -> Result<u64, ScenFault>
     ensures gives { Gives (λ n. n) result (limit_or_default (option_map (λ v. view v.now) value.entry)) }
     ensures most { IfOk result (λ n. n ≤ 400000) }
@@ -90,7 +90,7 @@ fn limit_or_default(alloc: Global, value: Option<&Value>) -> Result<u64, ScenFau
     placed(alloc, limit_in(value), &Path::root(alloc), "limit")
 }
 
-/// That no two regions share a byte.
+/// Tests that no two regions share a byte.
 fn check_apart(alloc: Global, land: &Land) -> Result<(), ScenFault>
     requires few { length land.now.buffers ≤ 64 }
     requires slots_few { land.now.slots.count ≤ 64 }
@@ -122,7 +122,7 @@ pub struct Terms {
     pub limit: u64,
 }
 
-/// How the run ends.
+/// Returns how a run ends.
 #[tactic(auto, unfolding(crate::specs::Reading::terms_of))]
 fn read_terms(alloc: Global, value: &Value) -> Result<Terms, ScenFault>
     ensures gives { Gives (λ t. t) result (terms_of (view value.now)) }
@@ -133,7 +133,7 @@ fn read_terms(alloc: Global, value: &Value) -> Result<Terms, ScenFault>
     Ok(Terms { finish, limit })
 }
 
-/// The values of the harts, which are checked but for their operations.
+/// Returns the values of the harts, which are tested except for their operations.
 fn known_harts(alloc: Global, value: &Value) -> Result<&Vec<Value>, ScenFault>
     ensures gives { Gives (λ v. items_view v.now.items) result (harts_known (view value.now)) }
     ensures least { IfOk result (λ v. 1 ≤ length v.now.items) }
@@ -144,7 +144,7 @@ fn known_harts(alloc: Global, value: &Value) -> Result<&Vec<Value>, ScenFault>
     Ok(items)
 }
 
-/// The harts with their operations.
+/// Returns the harts with their operations.
 #[tactic(auto, using(nc_values::proofs::Items::items_len_view))]
 fn harts_of(alloc: Global, land: &Land, items: &[Value]) -> Result<HartSpecs, ScenFault>
     requires few { length items.now ≤ 4 }
@@ -197,12 +197,12 @@ fn read_scenario(alloc: Global, value: &Value) -> Result<Scenario, ScenFault>
     })
 }
 
-/// Reads the scenario that the bytes are, or returns the first refusal: of length, JSON, keys, values, regions,
-/// operations and tokens, in this order.
+/// Returns the scenario that the bytes are, which is then accepted (`specs/Accepted.antt`).
 ///
 /// # Errors
 ///
-/// `Refused` with that refusal, and `NoMemory` where memory runs out.
+/// `Refused` with the first refusal: of length, JSON, keys, values, regions, operations and tokens, in this order.
+/// `NoMemory` where memory runs out.
 #[tactic(auto, unfolding(crate::specs::Reading::reading))]
 pub fn read(alloc: Global, bytes: &[u8]) -> Result<Scenario, ScenFault>
     ensures gives { Gives (λ sc. sc) result (reading bytes.now) }

@@ -1,4 +1,4 @@
-//! What lies in RAM: buffers, slots and pool, what channels reach, and that no two regions share a byte.
+//! The regions of RAM: buffers, slots and pool, and what channels reach.
 
 ghost use Rattle.std.specs.Prelude.{◌≡◌, ◌<◌, ◌≤◌, ◌+◌, ◌*◌, ◌%◌, ◌/◌, ◌==◌, ◌&&◌, All, IfOk, length, codes, option_map};
 ghost use Rattle.serde_json.specs.View.{view, items_view};
@@ -33,7 +33,11 @@ fn ram_field(value: &Value) -> Result<u32, Wrong>
     }
 }
 
-/// Reads the size of RAM in bytes.
+/// Returns the size of RAM in bytes: a multiple of 4,096, from 4,096 to 1,048,576.
+///
+/// # Errors
+///
+/// `Refused` with `Shape` or `Limit` at the key `ram`; `NoMemory` where memory runs out.
 pub fn read_ram(alloc: Global, value: &Value) -> Result<u32, ScenFault>
     ensures gives { Gives (λ n. n) result (ram_of (view value.now)) }
     ensures whole { IfOk result (λ n. n % 4096 ≡ 0) }
@@ -43,7 +47,7 @@ pub fn read_ram(alloc: Global, value: &Value) -> Result<u32, ScenFault>
     placed(alloc, ram_field(value), &Path::root(alloc), "ram")
 }
 
-/// The word of this number of the page table.
+/// Returns word `i` of the page table.
 fn read_word(alloc: Global, ram: u32, value: &Value, i: usize) -> Result<u64, ScenFault>
     ensures gives { Gives (λ n. n) result (word_at ram i (view value.now)) }
     ensures valid { IfOk result (IsPteWord ram) }
@@ -67,7 +71,12 @@ fn read_word_list(alloc: Global, ram: u32, items: &[Value]) -> Result<Vec<u64>, 
     Ok(words)
 }
 
-/// Reads the words of the page table; none where the key is absent.
+/// Returns the words of the page table, at most 256 and valid for a RAM of `ram` bytes (Svpbmt); none where the
+/// scenario has no such key.
+///
+/// # Errors
+///
+/// `Refused` with the first refusal; `NoMemory` where memory runs out.
 pub fn read_words(alloc: Global, ram: u32, value: Option<&Value>) -> Result<Vec<u64>, ScenFault>
     ensures gives { Gives (λ v. v.items) result (words_or_none ram (option_map (λ v. view v.now) value.entry)) }
     ensures valid { IfOk result (λ v. All (IsPteWord ram) v.items) }
@@ -82,7 +91,7 @@ pub fn read_words(alloc: Global, ram: u32, value: Option<&Value>) -> Result<Vec<
     }
 }
 
-/// Whether so many bytes from a place on end in RAM.
+/// Returns whether `len` bytes from place `at` on end in RAM.
 fn ends_in(ram: u32, at: u64, len: u64) -> bool
     ensures { result ≡ ends_in ram at len }
 {
@@ -129,7 +138,7 @@ fn read_buffer(
     })
 }
 
-/// The buffer of this number.
+/// Returns buffer `i`.
 fn read_buffer_at(
     alloc: Global,
     ram: u32,
@@ -144,7 +153,11 @@ fn read_buffer_at(
     read_buffer(alloc, ram, harts, value, &path)
 }
 
-/// Reads the buffers, which lie in a RAM of so many bytes and belong to one of so many harts.
+/// Returns the buffers of a scenario of `harts` harts and a RAM of `ram` bytes, in order.
+///
+/// # Errors
+///
+/// `Refused` with the first refusal; `NoMemory` where memory runs out.
 pub fn read_buffers(
     alloc: Global,
     ram: u32,
@@ -163,7 +176,7 @@ pub fn read_buffers(
     Ok(buffers)
 }
 
-/// The slots or the pool.
+/// The kind of a region: the slots or the pool.
 #[derive(Clone, Copy, Debug, PartialEq, Eq)]
 pub enum RegionKind {
     /// The bounce slots, of 2,048 bytes.
@@ -200,7 +213,7 @@ impl RegionKind {
         }
     }
 
-    /// Returns the size of a slot or of a page in bytes.
+    /// Returns the size of a slot or of a page, in bytes.
     pub fn unit(self) -> u32
         ensures { result ≡ unit_of self }
     {
@@ -211,12 +224,12 @@ impl RegionKind {
     }
 }
 
-/// Where the slots or the pool lie.
+/// The region of the slots or of the pool.
 #[derive(Clone, Copy, Debug, PartialEq, Eq)]
 pub struct Region {
-    /// The first place.
+    /// Its first place.
     pub at: u32,
-    /// How many slots or pages there are.
+    /// The count of its slots or pages.
     pub count: u32,
 }
 
@@ -270,7 +283,12 @@ fn read_region(
     })
 }
 
-/// Reads the slots or the pool; an empty region where the key is absent.
+/// Returns the region of the slots or of the pool, at most 64 of them, at a multiple of their size and in a RAM of
+/// `ram` bytes. It is empty where the scenario has no such key.
+///
+/// # Errors
+///
+/// `Refused` with the first refusal; `NoMemory` where memory runs out.
 pub fn region_or_none(
     alloc: Global,
     kind: RegionKind,
@@ -286,7 +304,7 @@ pub fn region_or_none(
     }
 }
 
-/// The end of a region, and 0 where it is empty.
+/// Returns the place at which a region ends, and 0 where it is empty.
 fn end_of(kind: RegionKind, r: Region, ram: u32) -> u32
     requires { FitsRegion kind ram r }
     ensures { result ≡ end_of kind r }
@@ -298,7 +316,7 @@ fn end_of(kind: RegionKind, r: Region, ram: u32) -> u32
     }
 }
 
-/// Returns the least reach of a channel, in bytes, where the slots and the pool lie so.
+/// Returns the least reach of a channel: the later end of the slots and the pool, as far as these are not empty.
 pub fn least_reach(slots: Region, pool: Region, ram: u32) -> u32
     requires slots_fit { FitsRegion RegionKind.Slots ram slots }
     requires pool_fits { FitsRegion RegionKind.Pool ram pool }
@@ -321,7 +339,7 @@ fn reach_in(value: &Value, least: u32, ram: u32) -> Result<u32, Wrong>
     }
 }
 
-/// The reach of the channel of this number.
+/// Returns the reach of channel `i`.
 fn reach_at(alloc: Global, least: u32, ram: u32, value: &Value, i: usize) -> Result<u32, ScenFault>
     ensures gives { Gives (λ n. n) result (reach_at least ram i (view value.now)) }
     ensures within { IfOk result (Reaches least ram) }
@@ -348,7 +366,12 @@ fn reach_items(alloc: Global, least: u32, ram: u32, items: &[Value]) -> Result<[
     }
 }
 
-/// Reads the reach of each channel, at least so many bytes; all of RAM where the key is absent.
+/// Returns the reach of each of the four channels, from `least` to `ram`; all of RAM where the scenario has no such
+/// key.
+///
+/// # Errors
+///
+/// `Refused` with the first refusal; `NoMemory` where memory runs out.
 pub fn read_reach(
     alloc: Global,
     least: u32,

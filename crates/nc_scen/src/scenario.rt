@@ -1,4 +1,4 @@
-//! What a scenario is.
+//! A scenario and its parts.
 
 ghost use Rattle.std.specs.Prelude.{◌≡◌};
 ghost use Rattle.nc_scen.specs.Accepted.{IsAccepted};
@@ -24,14 +24,14 @@ pub struct HartSpec {
     pub script: Ops,
 }
 
-/// A buffer: where it lies, its first bytes, and whose it is.
+/// A buffer: its range, its first bytes, and its owner.
 #[derive(Clone, Copy, Debug, PartialEq, Eq)]
 pub struct BufferSpec {
     /// Its range, 1 to 65,536 bytes, in RAM.
     pub span: Span,
-    /// Its first byte at the start.
+    /// The value of its first byte at the start.
     pub fill: u8,
-    /// How much each next byte is more, mod 256.
+    /// How much more each next byte is, mod 256.
     pub step: u8,
     /// The hart that owns it at the start.
     pub owner: HartNo,
@@ -53,7 +53,7 @@ impl Model for HartSpecs {
 }
 
 impl HartSpecs {
-    /// Makes a list of these harts.
+    /// Makes a scenario's harts of these, in order.
     pub fn new(items: Vec<HartSpec>) -> HartSpecs
         ensures { result ≡ items.items }
     {
@@ -84,7 +84,7 @@ impl Model for BufferSpecs {
 }
 
 impl BufferSpecs {
-    /// Makes a list of these buffers.
+    /// Makes a scenario's buffers of these, in order.
     pub fn new(items: Vec<BufferSpec>) -> BufferSpecs
         ensures { result ≡ items.items }
     {
@@ -114,7 +114,7 @@ impl Model for Words {
 }
 
 impl Words {
-    /// Makes a list of these words.
+    /// Makes a page table of these words, in order.
     pub fn new(items: Vec<u64>) -> Words
         ensures { result ≡ items.items }
     {
@@ -145,7 +145,7 @@ impl Model for Events {
 }
 
 impl Events {
-    /// Makes a list of these events.
+    /// Makes a list of these events, in order.
     pub fn new(items: Vec<Event>) -> Events
         ensures { result ≡ items.items }
     {
@@ -160,7 +160,7 @@ impl Events {
     }
 }
 
-/// Where the events before the finishing rounds come from.
+/// The schedule: where the events before the finishing rounds come from.
 #[derive(Debug, Drop)]
 pub enum Plan {
     /// They are listed.
@@ -195,11 +195,11 @@ pub struct Scenario {
     pub buffers: BufferSpecs,
     /// The place of the first bounce slot, a multiple of 2,048.
     pub slots_at: u32,
-    /// How many bounce slots of 2,048 bytes there are, at most 64.
+    /// The count of bounce slots of 2,048 bytes, at most 64.
     pub slots: u32,
     /// The place of the first page of the coherent pool, a multiple of 4,096.
     pub pool_at: u32,
-    /// How many pages of 4,096 bytes the pool has, at most 64.
+    /// The count of the pool's pages of 4,096 bytes, at most 64.
     pub pages: u32,
     /// The end of what each channel reaches without bouncing.
     pub reach: [u32; 4],
@@ -212,7 +212,7 @@ pub struct Scenario {
 }
 
 impl Scenario {
-    /// Returns the range of the coherent pool, which is empty where it has no pages.
+    /// Returns the range of the coherent pool of an accepted scenario; it is empty where the pool has no pages.
     pub fn pool(&self) -> Span
         requires { IsAccepted self.now }
         ensures { result ≡ pool_of self.now }

@@ -18,7 +18,7 @@ use std::alloc::Global;
 /// How many tokens a schedule lists, how many events it draws, and how many a run tries, at most.
 pub const MOST_EVENTS: u64 = 400_000;
 
-/// The value of the schedule.
+/// Returns the value of the schedule.
 fn schedule_at(alloc: Global, value: &Value) -> Result<&Value, ScenFault>
     ensures { Gives (λ v. view v.now) result (schedule_of (view value.now)) }
 {
@@ -50,7 +50,7 @@ fn token_items(alloc: Global, value: &Value) -> Result<&Vec<Value>, ScenFault>
     }
 }
 
-/// That a value of the schedule is a text.
+/// Tests that value `i` of the schedule is a text.
 fn check_text(alloc: Global, value: &Value, i: usize) -> Result<(), ScenFault>
     ensures { Gives (λ u. u) result (text_at i (view value.now)) }
 {
@@ -69,7 +69,7 @@ fn check_texts(alloc: Global, items: &[Value]) -> Result<(), ScenFault>
     Ok(())
 }
 
-/// That a value is a seeded schedule, or a list of texts.
+/// Tests that a value is a seeded schedule, or a list of texts.
 fn check_plan(alloc: Global, value: &Value) -> Result<(), ScenFault>
     ensures { Gives (λ u. u) result (plan_checked (view value.now)) }
 {
@@ -81,7 +81,7 @@ fn check_plan(alloc: Global, value: &Value) -> Result<(), ScenFault>
     check_texts(alloc, items)
 }
 
-/// The event of the token of this number.
+/// Returns the event of the token at index `i`.
 fn read_token(harts: u8, blocks: u32, value: &Value, i: usize) -> Result<Event, ScenFault>
     requires few { harts ≤ 4 }
     requires fits { i < 2 ^ 32 }
@@ -117,7 +117,7 @@ fn read_tokens(
     Ok(events)
 }
 
-/// The schedule that a value is, in a machine of so many harts and blocks.
+/// Returns the schedule that a value is, in a machine of `harts` harts and `blocks` blocks.
 fn read_plan(alloc: Global, harts: u8, blocks: u32, value: &Value) -> Result<Plan, ScenFault>
     requires { harts ≤ 4 }
     ensures gives { Gives (λ p. p) result (plan_of harts blocks (view value.now)) }
@@ -131,14 +131,22 @@ fn read_plan(alloc: Global, harts: u8, blocks: u32, value: &Value) -> Result<Pla
     Ok(Plan::List(Events::new(events)))
 }
 
-/// Checks that the scenario has a seeded schedule, or a list of texts.
+/// Tests that the scenario has a seeded schedule, or a list of texts as its schedule.
+///
+/// # Errors
+///
+/// `Refused` with the first refusal; `NoMemory` where memory runs out.
 pub fn check_schedule(alloc: Global, value: &Value) -> Result<(), ScenFault>
     ensures { Gives (λ u. u) result (schedule_checked (view value.now)) }
 {
     check_plan(alloc, schedule_at(alloc, value)?)
 }
 
-/// Reads the schedule of the scenario, in a machine of so many harts and blocks.
+/// Returns the schedule of the scenario, in a machine of `harts` harts, at most 4, and `blocks` blocks of RAM.
+///
+/// # Errors
+///
+/// `Refused` with the first refusal, of a shape, a limit or a token; `NoMemory` where memory runs out.
 pub fn read_schedule(
     alloc: Global,
     harts: u8,

@@ -8,7 +8,7 @@ use crate::events::Event;
 use nc_num::{Block, ChanNo, HartNo};
 use nc_values::{digit_below, number_below};
 
-/// `iH`, `tH`, `gH`, `nH`, `rC` or `wC`.
+/// Returns the event of a token `iH`, `tH`, `gH`, `nH`, `rC` or `wC`, or None where it is no such token.
 fn short_token(c: u8, n: u8, harts: u8) -> Option<Event>
     requires { harts ≤ 4 }
     ensures value { result ≡ short_token harts c n }
@@ -25,7 +25,8 @@ fn short_token(c: u8, n: u8, harts: u8) -> Option<Event>
     }
 }
 
-/// `dH.I`, `fH.B` or `eH.B`, with the text behind the point.
+/// Returns the event of a token `dH.I`, `fH.B` or `eH.B`, where `text` is the part after the point, or None where it is
+/// no such token.
 fn long_token(c: u8, n: u8, text: &[u8], harts: u8, blocks: u32) -> Option<Event>
     requires { harts ≤ 4 }
     ensures value { result ≡ long_token harts blocks c n text.now }
@@ -46,7 +47,8 @@ fn long_token(c: u8, n: u8, text: &[u8], harts: u8, blocks: u32) -> Option<Event
     }
 }
 
-/// Parses the token of an event, in a machine of so many harts and blocks.
+/// Returns the event of a token, in a machine of `harts` harts, at most 4, and `blocks` blocks of RAM. Returns None
+/// where the text is no token, or names a hart, channel, queue entry or block that is out of range.
 pub fn token_in(text: &[u8], harts: u8, blocks: u32) -> Option<Event>
     requires { harts ≤ 4 }
     ensures value { result ≡ token_in harts blocks text.now }

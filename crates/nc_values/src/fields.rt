@@ -1,4 +1,4 @@
-//! The values of an object's keys, with the path of what is wrong there.
+//! The values of an object's keys, or what is wrong with them and the path where.
 
 ghost use Rattle.std.specs.Prelude.{◌≡◌, ◌<◌, ◌≤◌, IfOk, MatchResult, Some, length};
 ghost use Rattle.serde_json.specs.View.{view, items_view};
@@ -15,7 +15,11 @@ use nc_env::Mode;
 use serde_json::Value;
 use std::alloc::Global;
 
-/// Returns the value of a required key.
+/// Returns the value of a key that the object must have.
+///
+/// # Errors
+///
+/// `Shape` where the object has no such key, or the value is no object.
 pub fn field<'a>(object: &'a Value, key: &str) -> Result<&'a Value, Wrong>
     ensures { MatchResult result (λ v. shaped (get key.now (view object.now)) ≡ Ok (view v.now)) (λ e. shaped (get key.now (view object.now)) ≡ Err e) }
 {
@@ -25,7 +29,11 @@ pub fn field<'a>(object: &'a Value, key: &str) -> Result<&'a Value, Wrong>
     }
 }
 
-/// Returns a value, or the refusal of what is wrong with it at its path.
+/// Returns a value that was read at a key under `path`, or the refusal of what is wrong with it, at that path.
+///
+/// # Errors
+///
+/// `Refused` with `Shape` or `Limit` and the path of the key; `NoMemory` where memory runs out.
 pub fn placed<T: Drop>(
     alloc: Global,
     read: Result<T, Wrong>,
@@ -46,7 +54,11 @@ fn number_field(object: &Value, key: &str) -> Result<u64, Wrong>
     number(field(object, key)?)
 }
 
-/// Reads the number of a required key.
+/// Returns the number of a key that the object must have.
+///
+/// # Errors
+///
+/// `Refused` with `Shape` and the path of the key, where it is missing or no number; `NoMemory` where memory runs out.
 pub fn number_at(alloc: Global, object: &Value, path: &Path, key: &str) -> Result<u64, ScenFault>
     ensures { Gives (λ n. n) result (number_at path.now key.now (view object.now)) }
 {
@@ -60,7 +72,12 @@ fn number_to_field(object: &Value, key: &str, top: u64) -> Result<u64, Wrong>
     most(number_field(object, key)?, top)
 }
 
-/// Reads the number of a required key, which is at most `top`.
+/// Returns the number of a key that the object must have, at most `top`.
+///
+/// # Errors
+///
+/// `Refused` with the path of the key: `Shape` where it is missing or no number, `Limit` where it is above `top`.
+/// `NoMemory` where memory runs out.
 pub fn number_to_at(
     alloc: Global,
     object: &Value,
@@ -81,7 +98,12 @@ fn below_field(object: &Value, key: &str, bound: u8) -> Result<u8, Wrong>
     below(number_field(object, key)?, bound)
 }
 
-/// Reads the number of a required key, which is below `bound`.
+/// Returns the number of a key that the object must have, below `bound`.
+///
+/// # Errors
+///
+/// `Refused` with the path of the key: `Shape` where it is missing or no number, `Limit` where it is not below `bound`.
+/// `NoMemory` where memory runs out.
 pub fn below_at(
     alloc: Global,
     object: &Value,
@@ -101,7 +123,11 @@ fn mode_field(object: &Value, key: &str) -> Result<Mode, Wrong>
     mode(field(object, key)?)
 }
 
-/// Reads the privilege mode of a required key.
+/// Returns the privilege mode of a key that the object must have (RISC-V Privileged Architecture).
+///
+/// # Errors
+///
+/// `Refused` with `Shape` and the path of the key, where it is missing or no mode; `NoMemory` where memory runs out.
 pub fn mode_at(alloc: Global, object: &Value, path: &Path, key: &str) -> Result<Mode, ScenFault>
     ensures { Gives (λ m. m) result (field mode_of path.now key.now (view object.now)) }
 {
@@ -115,7 +141,12 @@ fn register_field(object: &Value, key: &str) -> Result<u64, Wrong>
     register(field(object, key)?)
 }
 
-/// Reads the environment register of a required key (RISC-V CMO 1.0).
+/// Returns the value of an environment register, of a key that the object must have (RISC-V Privileged Architecture).
+///
+/// # Errors
+///
+/// `Refused` with the path of the key: `Shape` where it is missing or no number, `Limit` where its CBIE is the reserved
+/// 10. `NoMemory` where memory runs out.
 pub fn register_at(alloc: Global, object: &Value, path: &Path, key: &str) -> Result<u64, ScenFault>
     ensures gives { Gives (λ n. n) result (field register_of path.now key.now (view object.now)) }
     ensures known { IfOk result IsEnvcfg }
@@ -123,7 +154,11 @@ pub fn register_at(alloc: Global, object: &Value, path: &Path, key: &str) -> Res
     placed(alloc, register_field(object, key), path, key)
 }
 
-/// Checks that a list has so many values.
+/// Returns the values of a list that has from `least` to `top` of them.
+///
+/// # Errors
+///
+/// `Shape` where the value is no list; `Limit` with the length where that is out of range.
 #[tactic(auto, using(crate::proofs::Items::items_len_view))]
 pub fn sized(value: &Value, least: usize, top: usize) -> Result<&Vec<Value>, Wrong>
     ensures value { MatchResult result (λ v. sized_of least top (view value.now) ≡ Ok (items_view v.now.items)) (λ e. sized_of least top (view value.now) ≡ Err e) }
@@ -138,7 +173,12 @@ pub fn sized(value: &Value, least: usize, top: usize) -> Result<&Vec<Value>, Wro
     }
 }
 
-/// Returns the list of a required key, which has so many values.
+/// Returns the values of a list, of a key that the object must have; the list has from `least` to `top` values.
+///
+/// # Errors
+///
+/// `Refused` with the path of the key: `Shape` where it is missing or no list, `Limit` with the length where that is
+/// out of range. `NoMemory` where memory runs out.
 pub fn list_at<'a>(
     alloc: Global,
     object: &'a Value,

@@ -1,9 +1,10 @@
-//! The values of a scenario's JSON text, one at a time: their shapes, their limits, and where they stand.
+//! The values of a scenario's JSON text, one at a time: their shapes, their limits and their paths.
 //!
-//! The contract for the crates above: each reader answers what its definition gives (`specs/Values.antt`), the value or
-//! what is wrong with it, a shape or a limit with its number; a reader that knows the path answers the refusal with the
-//! path, or that memory ran out (`specs/Outcomes.antt`). All of it is this project's own, but for modes and environment
-//! registers (RISC-V Privileged Architecture), cache-block operations (RISC-V CMO 1.0) and the page table (Svpbmt).
+//! The contract for the crates above: each reader returns what its definition gives (`specs/Values.antt`): the value,
+//! or what is wrong with it, a shape or a limit with its number. A reader that knows the path returns the refusal with
+//! the path, or that memory ran out (`specs/Outcomes.antt`). All of it is this project's own, but for modes and
+//! environment registers (RISC-V Privileged Architecture), cache-block operations (RISC-V CMO 1.0) and the page table
+//! (Svpbmt).
 #![tactic(auto)]
 
 mod fields;

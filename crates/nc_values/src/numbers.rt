@@ -3,7 +3,8 @@
 ghost use Rattle.std.specs.Prelude.{◌≡◌, ◌<◌, ◌≤◌, IfSome};
 ghost use Rattle.nc_values.specs.Numbers.{number_from, number_in, number_below, digit_below};
 
-/// A number of digits, below 2^64.
+/// Returns the number that a text of digits writes, or None where another byte is in it or the number is not below
+/// 2^64.
 fn number_from(text: &[u8]) -> Option<u64>
     ensures { result ≡ number_from 0 text.now }
 {
@@ -17,7 +18,8 @@ fn number_from(text: &[u8]) -> Option<u64>
     Some(n)
 }
 
-/// Parses a decimal number without leading zeros.
+/// Returns the number that a text of digits without leading zeros writes, or None where the text is empty or of another
+/// form, or the number is not below 2^64.
 pub fn number_in(text: &[u8]) -> Option<u64>
     ensures { result ≡ number_in text.now }
 {
@@ -28,7 +30,8 @@ pub fn number_in(text: &[u8]) -> Option<u64>
     }
 }
 
-/// Parses a decimal number without leading zeros, below a bound.
+/// Returns the number that a text of digits without leading zeros writes, or None where it is of another form, or the
+/// number is not below `bound`.
 pub fn number_below(text: &[u8], bound: u64) -> Option<u64>
     ensures value { result ≡ number_below bound text.now }
     ensures below { IfSome result (λ n. n < bound) }
@@ -39,7 +42,7 @@ pub fn number_below(text: &[u8], bound: u64) -> Option<u64>
     }
 }
 
-/// Parses a number of one digit, below a bound of at most ten.
+/// Returns the number of one digit, or None where `c` is no digit below `bound`, which is at most ten.
 pub fn digit_below(c: u8, bound: u8) -> Option<u8>
     requires { bound ≤ 10 }
     ensures value { result ≡ digit_below bound c }

@@ -1,4 +1,4 @@
-//! Why bytes are no scenario.
+//! The refusals of bytes that are no scenario.
 
 ghost use Rattle.std.specs.Prelude.{◌≡◌, IfOk, [], string_bytes};
 ghost use Rattle.nc_values.specs.Paths.{under, at_position, told};
@@ -7,7 +7,8 @@ ghost use Rattle.nc_values.specs.declared.refused.ScenFault.TheVariants.{NoMemor
 use std::alloc::{AllocError, AllocFailed, Global};
 use std::marker::Model;
 
-/// Where in a scenario: keys and positions, joined by points, or one point for the whole. Contracts see its bytes.
+/// A path into a scenario: keys and positions, joined by points. The path of the whole is empty. Contracts see its
+/// bytes.
 #[derive(Debug, Drop)]
 pub struct Path {
     text: String,
@@ -29,7 +30,7 @@ impl Path {
         Path { text }
     }
 
-    /// Makes the path of the whole input, under which a key stands alone.
+    /// Makes the empty path, that of the whole, under which keys stand alone.
     pub fn root(alloc: Global) -> Path
         ensures { result ≡ [] }
     {
@@ -38,7 +39,11 @@ impl Path {
         }
     }
 
-    /// Makes the path of a key of the whole input.
+    /// Makes the path of a key of the whole.
+    ///
+    /// # Errors
+    ///
+    /// `AllocError` where memory runs out.
     pub fn of(alloc: Global, key: &str) -> Result<Path, AllocError>
         ensures { IfOk result (λ p. p ≡ key.now) }
     {
@@ -47,7 +52,11 @@ impl Path {
         })
     }
 
-    /// Makes the path of a key under this path.
+    /// Returns the path of a key under this path.
+    ///
+    /// # Errors
+    ///
+    /// `AllocError` where memory runs out.
     pub fn under(&self, alloc: Global, key: &str) -> Result<Path, AllocError>
         ensures { IfOk result (λ p. p ≡ under self.now key.now) }
     {
@@ -60,7 +69,11 @@ impl Path {
         })
     }
 
-    /// Makes the path of an index, from 0, under this path.
+    /// Returns the path of position `i`, counted from 0, under this path.
+    ///
+    /// # Errors
+    ///
+    /// `AllocError` where memory runs out.
     pub fn position(&self, alloc: Global, i: usize) -> Result<Path, AllocError>
         ensures { IfOk result (λ p. p ≡ at_position self.now i) }
     {
@@ -75,7 +88,11 @@ impl Path {
         })
     }
 
-    /// Returns this path as a refusal shows it: one point for the whole input.
+    /// Returns this path as a refusal prints it: one point for the whole, and else unchanged.
+    ///
+    /// # Errors
+    ///
+    /// `AllocError` where memory runs out.
     pub fn told(&self, alloc: Global) -> Result<Path, AllocError>
         ensures { IfOk result (λ p. p ≡ told self.now) }
     {
@@ -101,19 +118,19 @@ pub enum Refused {
     TooLong,
     /// The bytes have no reading as JSON of at most 127 levels.
     NotJson,
-    /// What stands at the path, or is missing or unknown there, has the wrong shape.
+    /// The value at the path has the wrong shape, is missing, or has an unknown key.
     Shape(Path),
     /// Another version of the format than 1 and 2.
     Version(u64),
     /// The number or the length at the path is out of its limits.
     Limit(Path, u64),
-    /// The two regions share a byte: buffers by their numbers, then the slots, then the pool.
+    /// The two regions share a byte. They are counted from 0: the buffers in order, then the slots, then the pool.
     Overlap(u32, u32),
-    /// The token of this number, from 0, is none, or names what is not there.
+    /// The token of this index, counted from 0, is no token, or names what does not exist.
     Token(u32),
 }
 
-/// Why there is no scenario.
+/// Why bytes give no scenario.
 #[derive(Debug, Drop)]
 pub enum ScenFault {
     /// The bytes are refused.

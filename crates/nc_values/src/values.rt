@@ -12,7 +12,11 @@ use nc_num::{ChanNo, Dir, HartNo, Label};
 use nc_pte::is_pte_word;
 use serde_json::Value;
 
-/// Reads a whole number from 0 to 2^64 - 1.
+/// Returns the whole number that a value is, from 0 to 2^64 - 1.
+///
+/// # Errors
+///
+/// `Shape` where the value is no such number.
 pub fn number(value: &Value) -> Result<u64, Wrong>
     ensures { result ≡ number_of (view value.now) }
 {
@@ -22,7 +26,11 @@ pub fn number(value: &Value) -> Result<u64, Wrong>
     }
 }
 
-/// Reads a text.
+/// Returns the text that a value is.
+///
+/// # Errors
+///
+/// `Shape` where the value is no text.
 pub fn text(value: &Value) -> Result<&str, Wrong>
     ensures { MatchResult result (λ s. text_of (view value.now) ≡ Ok s.now) (λ e. text_of (view value.now) ≡ Err e) }
 {
@@ -32,7 +40,11 @@ pub fn text(value: &Value) -> Result<&str, Wrong>
     }
 }
 
-/// Reads a list.
+/// Returns the values of the list that a value is.
+///
+/// # Errors
+///
+/// `Shape` where the value is no list.
 pub fn list(value: &Value) -> Result<&Vec<Value>, Wrong>
     ensures { MatchResult result (λ v. list_of (view value.now) ≡ Ok (items_view v.now.items)) (λ e. list_of (view value.now) ≡ Err e) }
 {
@@ -42,7 +54,11 @@ pub fn list(value: &Value) -> Result<&Vec<Value>, Wrong>
     }
 }
 
-/// Reads true or false.
+/// Returns the truth value that a value is.
+///
+/// # Errors
+///
+/// `Shape` where the value is neither true nor false.
 pub fn truth(value: &Value) -> Result<bool, Wrong>
     ensures { result ≡ truth_of (view value.now) }
 {
@@ -52,7 +68,11 @@ pub fn truth(value: &Value) -> Result<bool, Wrong>
     }
 }
 
-/// Reads a privilege mode by its name.
+/// Returns the privilege mode that a value names: "M", "S" or "U" (RISC-V Privileged Architecture).
+///
+/// # Errors
+///
+/// `Shape` where the value is no such text.
 pub fn mode(value: &Value) -> Result<Mode, Wrong>
     ensures { result ≡ mode_of (view value.now) }
 {
@@ -64,7 +84,11 @@ pub fn mode(value: &Value) -> Result<Mode, Wrong>
     }
 }
 
-/// Reads the kind of fences by its name: whether they are light.
+/// Returns whether fences are light: the value is "light" or "full".
+///
+/// # Errors
+///
+/// `Shape` where the value is neither text.
 pub fn fences(value: &Value) -> Result<bool, Wrong>
     ensures { result ≡ fences_of (view value.now) }
 {
@@ -75,7 +99,11 @@ pub fn fences(value: &Value) -> Result<bool, Wrong>
     }
 }
 
-/// Reads a cache-block operation by its name (RISC-V CMO 1.0).
+/// Returns the cache-block operation that a value names: "clean", "flush", "inval" or "zero" (RISC-V CMO 1.0).
+///
+/// # Errors
+///
+/// `Shape` where the value is no such text.
 pub fn cbo_kind(value: &Value) -> Result<CboOp, Wrong>
     ensures { result ≡ cbo_of (view value.now) }
 {
@@ -88,7 +116,11 @@ pub fn cbo_kind(value: &Value) -> Result<CboOp, Wrong>
     }
 }
 
-/// Reads a number of at most this.
+/// Tests that `n` is at most `top`, and returns it.
+///
+/// # Errors
+///
+/// `Limit` with `n` where it is above `top`.
 pub fn most(n: u64, top: u64) -> Result<u64, Wrong>
     ensures value { result ≡ most top n }
     ensures most { IfOk result (λ m. m ≤ top) }
@@ -100,7 +132,11 @@ pub fn most(n: u64, top: u64) -> Result<u64, Wrong>
     }
 }
 
-/// Reads a number of at most 2^32 - 1.
+/// Tests that `n` is at most 2^32 - 1, and returns it.
+///
+/// # Errors
+///
+/// `Limit` with `n` where it is above that.
 pub fn wide(n: u64) -> Result<u32, Wrong>
     ensures { result ≡ wide n }
 {
@@ -111,7 +147,11 @@ pub fn wide(n: u64) -> Result<u32, Wrong>
     }
 }
 
-/// Reads a number below this.
+/// Tests that `n` is below `bound`, and returns it.
+///
+/// # Errors
+///
+/// `Limit` with `n` where it is not.
 pub fn below(n: u64, bound: u8) -> Result<u8, Wrong>
     ensures value { result ≡ below bound n }
     ensures below { IfOk result (λ m. m < bound) }
@@ -123,7 +163,11 @@ pub fn below(n: u64, bound: u8) -> Result<u8, Wrong>
     }
 }
 
-/// Reads a label, 0 to 999.
+/// Returns the label `n`, 0 to 999.
+///
+/// # Errors
+///
+/// `Limit` with `n` where it is above 999.
 pub fn label(n: u64) -> Result<Label, Wrong>
     ensures value { result ≡ label_in n }
     ensures fits { IfOk result FitsLabel }
@@ -135,7 +179,11 @@ pub fn label(n: u64) -> Result<Label, Wrong>
     }
 }
 
-/// Reads the index of one of so many harts.
+/// Returns the hart `n`, below `harts`.
+///
+/// # Errors
+///
+/// `Limit` with `n` where no such hart exists.
 pub fn hart(n: u64, harts: u8) -> Result<HartNo, Wrong>
     ensures value { result ≡ hart_in harts n }
     ensures there { IfOk result (λ h. h.0 < harts) }
@@ -147,7 +195,11 @@ pub fn hart(n: u64, harts: u8) -> Result<HartNo, Wrong>
     }
 }
 
-/// Reads the index of a channel, 0 to 3.
+/// Returns the channel `n`, 0 to 3.
+///
+/// # Errors
+///
+/// `Limit` with `n` where it is above 3.
 pub fn chan(n: u64) -> Result<ChanNo, Wrong>
     ensures value { result ≡ chan_in n }
     ensures there { IfOk result (λ c. c.0 < 4) }
@@ -159,7 +211,11 @@ pub fn chan(n: u64) -> Result<ChanNo, Wrong>
     }
 }
 
-/// Reads a direction by its number, 0 to 2 (Linux DMA API).
+/// Returns the direction of number `n`: 0 for both, 1 to the device, 2 from the device (Linux DMA API).
+///
+/// # Errors
+///
+/// `Limit` with `n` where it is above 2.
 pub fn dir(n: u64) -> Result<Dir, Wrong>
     ensures { result ≡ dir_in n }
 {
@@ -174,7 +230,11 @@ pub fn dir(n: u64) -> Result<Dir, Wrong>
 /// The repeat bit of a Config value, bit 2.
 const REPEAT: u64 = 4;
 
-/// Reads a Config value of 32 bits without the repeat bit.
+/// Tests that `cfg` is a Config value of 32 bits without the repeat bit, and returns it.
+///
+/// # Errors
+///
+/// `Limit` with `cfg` where it is not.
 pub fn once(cfg: u64) -> Result<u32, Wrong>
     ensures value { result ≡ once cfg }
     ensures fits { IfOk result HasNoRepeat }
@@ -186,7 +246,11 @@ pub fn once(cfg: u64) -> Result<u32, Wrong>
     }
 }
 
-/// Reads an environment register, whose CBIE is not the reserved 10 (RISC-V CMO 1.0).
+/// Returns the value of an environment register, whose CBIE is not the reserved 10 (RISC-V CMO 1.0).
+///
+/// # Errors
+///
+/// `Shape` where the value is no number; `Limit` with the number where its CBIE is 10.
 pub fn register(value: &Value) -> Result<u64, Wrong>
     ensures value { result ≡ register_of (view value.now) }
     ensures known { IfOk result IsEnvcfg }
@@ -199,7 +263,11 @@ pub fn register(value: &Value) -> Result<u64, Wrong>
     }
 }
 
-/// Reads a leaf PTE word that is valid for a RAM of so many bytes (RISC-V, Svpbmt).
+/// Returns the leaf PTE word that a value is, which is valid for a RAM of `ram` bytes (Svpbmt).
+///
+/// # Errors
+///
+/// `Shape` where the value is no number; `Limit` with the number where it is no such word.
 pub fn word(value: &Value, ram: u32) -> Result<u64, Wrong>
     ensures value { result ≡ word_of ram (view value.now) }
     ensures valid { IfOk result (IsPteWord ram) }
@@ -212,14 +280,14 @@ pub fn word(value: &Value, ram: u32) -> Result<u64, Wrong>
     }
 }
 
-/// Returns whether so many bytes can be a block: 32, 64 or 128.
+/// Returns whether a block can have `n` bytes: 32, 64 or 128.
 pub fn is_size(n: u64) -> bool
     ensures { result ≡ is_size n }
 {
     n == 32 || n == 64 || n == 128
 }
 
-/// Returns whether so many bytes can be RAM: a multiple of 4,096, from 4,096 to 1,048,576.
+/// Returns whether RAM can have `n` bytes: a multiple of 4,096, from 4,096 to 1,048,576.
 pub fn is_ram(n: u64) -> bool
     ensures { result ≡ is_ram n }
 {

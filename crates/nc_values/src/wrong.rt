@@ -1,4 +1,4 @@
-//! What is wrong with a value, wherever it stands.
+//! What is wrong with a value, without its path.
 
 ghost use Rattle.std.specs.Prelude.{◌≡◌};
 ghost use Rattle.nc_values.specs.declared.wrong.OpFault.TheVariants as op_faults;
@@ -11,14 +11,14 @@ use std::alloc::{AllocError, AllocFailed};
 /// What is wrong with a value.
 #[derive(Clone, Copy, Debug, PartialEq, Eq)]
 pub enum Wrong {
-    /// Its shape.
+    /// It has the wrong shape.
     Shape,
-    /// It is out of its limits: this number, or this length.
+    /// It is out of its limits: its number, or its length, is this.
     Limit(u64),
 }
 
 impl Wrong {
-    /// Returns the refusal of the value, which stands at this path.
+    /// Returns the refusal of a value at `path` with which this is wrong.
     pub fn at(self, path: Path) -> ScenFault
         ensures { result ≡ faults.Refused (wrong_at path self) }
     {
@@ -29,10 +29,10 @@ impl Wrong {
     }
 }
 
-/// Why there is no operation.
+/// Why a value gives no operation.
 #[derive(Clone, Copy, Debug, PartialEq, Eq)]
 pub enum OpFault {
-    /// The value is none.
+    /// The value is no operation.
     Wrong(Wrong),
     /// Memory ran out.
     NoMemory,
