@@ -3,7 +3,7 @@
 ghost use Rattle.std.specs.Prelude.{◌≡◌, ◌++◌, [], ◌∷◌, decimal, OnOk, IfOk};
 ghost use Rattle.std.specs.List.{flat_map};
 ghost use Rattle.hex.specs.Hex.{encode_lower};
-ghost use Rattle.nc_rules.specs.Lines.{line, words, place, origin, operation, target};
+ghost use Rattle.nc_rules.specs.Lines.{line, words, hex_digits, place, owner, origin, operation, target};
 ghost use Rattle.nc_rules.specs.declared.records.Record.{Record};
 
 use crate::put;
@@ -37,6 +37,18 @@ fn at_place(text: &mut Vec<u8>, at: Place) -> Result<(), AllocError>
     put::six(text, at.0)
 }
 
+/// Puts a span and its owner, to the end of their line.
+fn owned_span(text: &mut Vec<u8>, span: Span, holder: Owner) -> Result<(), AllocError>
+    ensures { OnOk result (text.new.items ≡ text.old.items
+        ++ 32 ∷ words (hex_digits 6 span.at ∷ decimal span.len ∷ owner holder ∷ [])) }
+{
+    at_place(text, Place(span.at))?;
+    put::number_behind(text, b' ', span.len as u64)?;
+    put::byte(text, b' ')?;
+    put_owner(text, holder)?;
+    put::byte(text, b'\n')
+}
+
 fn touch(text: &mut Vec<u8>, t: Touch) -> Result<(), AllocError>
     ensures { OnOk result (text.new.items ≡ text.old.items ++ line (Record.Touched t)) }
 {
@@ -44,11 +56,7 @@ fn touch(text: &mut Vec<u8>, t: Touch) -> Result<(), AllocError>
     put::word(text, kind_word(t.kind))?;
     put::byte(text, b' ')?;
     put_actor(text, t.who)?;
-    at_place(text, Place(t.span.at))?;
-    put::number_behind(text, b' ', t.span.len as u64)?;
-    put::byte(text, b' ')?;
-    put_owner(text, t.holder)?;
-    put::byte(text, b'\n')
+    owned_span(text, t.span, t.holder)
 }
 
 /// Writes the bytes of a hart or a channel at a place, after this word and the index of the hart or channel.
@@ -173,11 +181,7 @@ fn owned(text: &mut Vec<u8>, span: Span, owner: Owner) -> Result<(), AllocError>
     ensures { OnOk result (text.new.items ≡ text.old.items ++ line (Record.Ow span owner)) }
 {
     put::word(text, "ow")?;
-    at_place(text, Place(span.at))?;
-    put::number_behind(text, b' ', span.len as u64)?;
-    put::byte(text, b' ')?;
-    put_owner(text, owner)?;
-    put::byte(text, b'\n')
+    owned_span(text, span, owner)
 }
 
 fn tried(text: &mut Vec<u8>, hart: HartNo, word: u32, found: TryAnswer) -> Result<(), AllocError>
