@@ -230,7 +230,8 @@ alloc_opens sc f w h o went lot a turn =
             let settles : settling lot.id (c.rest h.0) ≡ true = ap (settling lot.id) rest ∙ k.settles in
             let allocating : AllocatingRow n v (ahead_of c n l) m x =
             subst (λ (es : List QueueEntry). AllocatingRow n v es m x) (sym ahead)
-            (rows_begin.allocate m n v x (coming n lot.id plan) (k.behind n m x size on) (k.flushed n m x size on) (fresh_free sc f w h lot x fresh on) (λ g. fresh_block sc f w h lot x g fresh on) (λ g. fresh_parts sc f w h lot x g fresh on)
+            (rows_begin.allocate m n v x (coming n lot.id plan) (k.behind n m x size on) (k.flushed n m x size on) (fresh_free sc f w h lot x fresh on)
+            (λ g. fresh_block sc f w h lot x g fresh on) (λ g. fresh_parts sc f w h lot x g fresh on)
             (none_named sc f w h lots lot n s.flat s.lt b.kept (λ other there named. its_entry sc f w h lots lot other n b there named (own_entry h lot i e place.entry)) unsent) row) in
             subst (λ (q : Option Loan). LentRow c n q v m x) (sym known)
             (either_true (is_area lot.kind) _ _ area (either_true (settling lot.id (c.rest h.0)) (AllocatingRow n v (ahead_of c n l) m x) (GivingRow n v (ahead_of c n l) m x) settles allocating));
@@ -262,12 +263,14 @@ made_bytes sc f w h label count chan span a =
     let its : is_named label kinds.Area lot ≡ true = and_from (is_labelled label lot) (same_kind kinds.Area lot.kind) (eq-eqb lot.id.label.0 label.0 refl) refl in
     let named : lot_named lots label kinds.Area ≡ Some lot =
     find_only (is_named label kinds.Area) lots lot b.here its (λ other there is. label_one (length w.machine.cache.ram) fx lots other lot label kinds.Area b.there b.names refl there b.here is its) in
-    let so = opened_so d lots o (turns.Lend lot.id) plan (record { turn_is = calloc_opening fx lots label count chan; plan_is = calloc_plan fx lots label count chan ∙ ap (with_lot [] (calloc_steps fx)) named }) in
+    let so =
+    opened_so d lots o (turns.Lend lot.id) plan (record { turn_is = calloc_opening fx lots label count chan; plan_is = calloc_plan fx lots label count chan ∙ ap (with_lot [] (calloc_steps fx)) named }) in
     let none : some_lot_waits lots ≡ false =
     list_any_none lot_waits lots
     (All-append (λ (l : Lot). lot_waits l ≡ false) d.lots (lot ∷ []) (all_to IsSettled (λ (l : Lot). lot_waits l ≡ false) d.lots a.start.settled (λ l is. is.placed)) (All-cons (λ (l : Lot). lot_waits l ≡ false) lot [] refl (All-nil (λ (l : Lot). lot_waits l ≡ false)))) in
     subst (λ (k : Went). BytesStand sc f (gone w h w.machine k)) (sym (cond-false (some_lot_waits lots) (stays (searches (with_lots d lots) 0)) went none))
-    (opens_bytes sc f w h o went lots lot sides.Lending plan (alloc_opens sc f w h o went lot a (record { hand = a.start.hand; lends = a.start.lends; no_copy = a.no_copy; lent = refl; driver = so.driver; transfers = so.transfers })))
+    (opens_bytes sc f w h o went lots lot sides.Lending plan
+    (alloc_opens sc f w h o went lot a (record { hand = a.start.hand; lends = a.start.lends; no_copy = a.no_copy; lent = refl; driver = so.driver; transfers = so.transfers })))
 
 pub calloc_bytes : (sc : Scenario) (f : List ℕ) (w : WorldState) (h : HartNo) (label : Label) (count : ℕ) (chan : ChanNo) (r : Result (List Lot) Refusal) → IsStart sc f w h (ops.Calloc label count chan)
     → begin (driver_of w h.0).fixed (driver_of w h.0).lots w.owners w.pages (ops.Calloc label count chan) ≡ r → BytesStand sc f (gone w h w.machine (begun (driver_of w h.0) (ops.Calloc label count chan) r))

@@ -61,7 +61,8 @@ own_thread w h lot i x v own row = subst (λ (s : Side). Row (book_of w) (owner_
 own_seen : (w : WorldState) (h : HartNo) (lot : Lot) (i x : ℕ) → lot.side ≡ sides.Own → seen_at (book_of w) (owner_of_side (map_id h lot.id i) lot.side) x ≡ x
 own_seen w h lot i x own = ap (λ (s : Side). seen_at (book_of w) (owner_of_side (map_id h lot.id i) s) x) own
 
-pub give_opens : (sc : Scenario) (f : List ℕ) (w : WorldState) (h : HartNo) (o : Op) (went : Went) (lots : List Lot) (lot : Lot) → IsBase sc f w h lots lot → is_area lot.kind ≡ true → lot.side ≡ sides.Own → IsTurn w h o went lots lot sides.Lending (lending_end (driver_of w h.0).fixed lot)
+pub give_opens : (sc : Scenario) (f : List ℕ) (w : WorldState) (h : HartNo) (o : Op) (went : Went) (lots : List Lot) (lot : Lot) → IsBase sc f w h lots lot → is_area lot.kind ≡ true
+    → lot.side ≡ sides.Own → IsTurn w h o went lots lot sides.Lending (lending_end (driver_of w h.0).fixed lot)
     → Opens sc f w h o went lots lot sides.Lending (lending_end (driver_of w h.0).fixed lot)
 give_opens sc f w h o went lots lot b area own turn =
     let m = w.machine in
@@ -112,7 +113,8 @@ taken_row w h lot i e x v (inl device) area known place row =
     rows_begin.take_area w.machine h.0 v x (either_first (is_area lot.kind) (PoolRow v w.machine x) _ area was)
 taken_row w h lot i e x v (inr own) area known place row = own_thread w h lot i x v own row
 
-pub take_opens : (sc : Scenario) (f : List ℕ) (w : WorldState) (h : HartNo) (o : Op) (went : Went) (lots : List Lot) (lot : Lot) (turn : Turn) → IsBase sc f w h lots lot → is_area lot.kind ≡ true → IsTakenSide lot → AreKnown w h lot → IsAreaBack lot.id turn → IsTurn w h o went lots lot sides.Returning (fenced turn)
+pub take_opens : (sc : Scenario) (f : List ℕ) (w : WorldState) (h : HartNo) (o : Op) (went : Went) (lots : List Lot) (lot : Lot) (turn : Turn) → IsBase sc f w h lots lot → is_area lot.kind ≡ true
+    → IsTakenSide lot → AreKnown w h lot → IsAreaBack lot.id turn → IsTurn w h o went lots lot sides.Returning (fenced turn)
     → Opens sc f w h o went lots lot sides.Returning (fenced turn)
 take_opens sc f w h o went lots lot turn b area side before back t =
     let m = w.machine in

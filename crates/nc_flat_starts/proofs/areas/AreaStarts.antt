@@ -41,9 +41,9 @@ use Rattle.nc_flatness.proofs.plans.Copies.{is_copy}
 use Rattle.nc_flatness.proofs.worlds.Outcomes.{gone}
 use Rattle.nc_flat_starts.proofs.areas.AreaRows.{IsTakenSide, give_opens, take_opens}
 use Rattle.nc_flat_starts.proofs.opening.Bases.{base_lot}
-use Rattle.nc_flat_starts.proofs.opening.Calls.{OpensBy, opened_so}
+use Rattle.nc_flat_starts.proofs.opening.Calls.{opened_so}
 use Rattle.nc_flat_starts.proofs.opening.Opens.{opens_bytes, base_owner}
-use Rattle.nc_flat_starts.proofs.opening.Starts.{IsStart, IsThere, Finds, found_bytes, sided_bytes, known_now, stays_bytes}
+use Rattle.nc_flat_starts.proofs.opening.Starts.{IsStart, IsThere, OpensSo, OpenStands, Finds, found_bytes, sided_bytes, known_now, stays_bytes}
 
 -- ---- the area that it finds
 
@@ -60,8 +60,8 @@ taken_lent lot (inr is) = ap is_wanted is
 
 -- ---- the ways in which its operation opens
 
-gives_area : (sc : Scenario) (f : List ℕ) (w : WorldState) (h : HartNo) (o : Op) (lot : Lot) (label : Label) → IsStart sc f w h o → is_copy o ≡ false → IsThere sc f w h lot label kinds.Area → lot.side ≡ sides.Own → OpensBy (driver_of w h.0) (driver_of w h.0).lots o (turns.Lend lot.id) (lending_end (driver_of w h.0).fixed lot)
-    → BytesStand sc f (gone w h w.machine (opened (with_lots (driver_of w h.0) (driver_of w h.0).lots) o))
+gives_area : (sc : Scenario) (f : List ℕ) (w : WorldState) (h : HartNo) (o : Op) (lot : Lot) (label : Label) → IsStart sc f w h o → is_copy o ≡ false → IsThere sc f w h lot label kinds.Area
+    → lot.side ≡ sides.Own → OpensSo w h o (turns.Lend lot.id) (lending_end (driver_of w h.0).fixed lot) → OpenStands sc f w h o
 gives_area sc f w h o lot label s no_copy t own by =
     let d = driver_of w h.0 in
     let went = opened (with_lots d d.lots) o in
@@ -71,7 +71,7 @@ gives_area sc f w h o lot label s no_copy t own by =
     (give_opens sc f w h o went d.lots lot t.base (ap is_area t.its_kind) own (record { hand = s.hand; lends = s.lends; no_copy = no_copy; lent = refl; driver = so.driver; transfers = so.transfers }))
 
 takes_area : (sc : Scenario) (f : List ℕ) (w : WorldState) (h : HartNo) (o : Op) (lot : Lot) (label : Label) (turn : Turn) → IsStart sc f w h o → is_copy o ≡ false → IsThere sc f w h lot label kinds.Area → IsTakenSide lot → IsAreaBack lot.id turn
-    → OpensBy (driver_of w h.0) (driver_of w h.0).lots o (turns.Return lot.id) (fenced turn) → BytesStand sc f (gone w h w.machine (opened (with_lots (driver_of w h.0) (driver_of w h.0).lots) o))
+    → OpensSo w h o (turns.Return lot.id) (fenced turn) → OpenStands sc f w h o
 takes_area sc f w h o lot label turn s no_copy t side back by =
     let d = driver_of w h.0 in
     let went = opened (with_lots d d.lots) o in
@@ -89,7 +89,8 @@ unfolding begin opening plan_of meaning areas.give_area
 give_bytes sc f w h label r s e =
     let o = ops.Cgive label in
     let fx = (driver_of w h.0).fixed in
-    sided_bytes sc f w h o label kinds.Area sides.Own is_own (λ lot. turns.Stay) (λ lot. turns.Lend lot.id) (λ lot. []) (lending_end fx) r s refl refl refl refl e (λ lot t. area_still fx lot t.its_kind t.unsent t.still) (record { turn_is = refl; plan_is = refl })
+    sided_bytes sc f w h o label kinds.Area sides.Own is_own (λ lot. turns.Stay) (λ lot. turns.Lend lot.id) (λ lot. []) (lending_end fx) r s refl refl refl refl e
+    (λ lot t. area_still fx lot t.its_kind t.unsent t.still) (record { turn_is = refl; plan_is = refl })
     (λ lot t its by. stays_bytes sc f w h o s by)
     (λ lot t its by. gives_area sc f w h o lot label s refl t its by)
 
@@ -99,7 +100,8 @@ unfolding begin opening plan_of meaning areas.take_area
 take_bytes sc f w h label r s e =
     let o = ops.Ctake label in
     let fx = (driver_of w h.0).fixed in
-    sided_bytes sc f w h o label kinds.Area sides.Own is_own (λ lot. turns.Return lot.id) (λ lot. turns.Stay) (λ lot. fenced (turns.Settle lot.id)) (λ lot. []) r s refl refl refl refl e (λ lot t. area_still fx lot t.its_kind t.unsent t.still) (record { turn_is = refl; plan_is = refl })
+    sided_bytes sc f w h o label kinds.Area sides.Own is_own (λ lot. turns.Return lot.id) (λ lot. turns.Stay) (λ lot. fenced (turns.Settle lot.id)) (λ lot. []) r s refl refl refl refl e
+    (λ lot t. area_still fx lot t.its_kind t.unsent t.still) (record { turn_is = refl; plan_is = refl })
     (λ lot t its by. takes_area sc f w h o lot label (turns.Settle lot.id) s refl t (inl its) (inl refl) by)
     (λ lot t its by. stays_bytes sc f w h o s by)
 
@@ -111,7 +113,8 @@ no_fault os (Some x) e = absurd cc
 range_owned : (me : HartNo) (os : List Owner) (range : Span) (x : ℕ) → owned me os range ≡ Ok tt → covers range x ≡ true → is_thread me (owner_in os x) ≡ true
 range_owned me os range x e on = passes (λ y. is_thread me (owner_in os y)) range x (no_fault os (first_fault (λ y. is_thread me (owner_in os y)) range) e) on
 
-free_begins : (f : DriverConfig) (lots new : List Lot) (label : Label) (os : List Owner) → cfree_begin f lots label os ≡ Ok new → Finds lots new label kinds.Area (λ lot. owned f.me os (only_entry lot).span ≡ Ok tt)
+free_begins : (f : DriverConfig) (lots new : List Lot) (label : Label) (os : List Owner) → cfree_begin f lots label os ≡ Ok new
+    → Finds lots new label kinds.Area (λ lot. owned f.me os (only_entry lot).span ≡ Ok tt)
 free_begins f lots new label os e =
     let p = passed (named lots label kinds.Area) (λ lot. owned f.me os (only_entry lot).span >>= λ _. Ok []) new e in
     let q = passed (owned f.me os (only_entry p.value).span) (λ _. Ok []) new p.rest in
@@ -137,7 +140,8 @@ unfolding begin opening plan_of meaning areas.free_area
 free_bytes sc f w h label r s e =
     let d = driver_of w h.0 in
     let o = ops.Cfree label in
-    found_bytes sc f w h o label kinds.Area (λ lot. owned d.fixed.me w.owners (only_entry lot).span ≡ Ok tt) free_turn free_steps r s refl refl (λ new is. free_begins d.fixed d.lots new label w.owners (e ∙ is)) (record { turn_is = refl; plan_is = refl })
+    found_bytes sc f w h o label kinds.Area (λ lot. owned d.fixed.me w.owners (only_entry lot).span ≡ Ok tt) free_turn free_steps r s refl refl
+    (λ new is. free_begins d.fixed d.lots new label w.owners (e ∙ is)) (record { turn_is = refl; plan_is = refl })
     (λ lot t so by.
     let own = owned_side sc f w h lot label t so (area_still d.fixed lot t.its_kind t.unsent t.still) in
     takes_area sc f w h o lot label (turns.End lot.id) s refl t (inr own) (inr refl) by)

@@ -181,7 +181,8 @@ pub record IsOpened (d : DriverState) (lots : List Lot) (turn : Turn) (plan : Li
 pub opened_so : (d : DriverState) (lots : List Lot) (o : Op) (turn : Turn) (plan : List Step) → OpensBy d lots o turn plan → IsOpened d lots turn plan (opened (with_lots d lots) o)
 unfolding turned_by
 opened_so d lots o turn plan by = record {
-  driver = ap (λ (t : Turn). went_to (with_lots d lots) (lots_after t lots) d.saw (plan_of d.fixed lots o)) by.turn_is ∙ ap (λ (ss : List Step). went_to (with_lots d lots) (lots_after turn lots) d.saw ss) by.plan_is;
+  driver = ap (λ (t : Turn). went_to (with_lots d lots) (lots_after t lots) d.saw (plan_of d.fixed lots o)) by.turn_is
+      ∙ ap (λ (ss : List Step). went_to (with_lots d lots) (lots_after turn lots) d.saw ss) by.plan_is;
   transfers = append-nil (transfers_of d.fixed.me lots (opening d.fixed lots o)) ∙ ap (λ (t : Turn). transfers_of d.fixed.me lots t) by.turn_is;
 }
 
@@ -249,7 +250,8 @@ made_lot sc f w h o lots id c made names =
     )
 
 -- the operation opens: its lot is lent
-new_opens : (sc : Scenario) (f : List ℕ) (w : WorldState) (h : HartNo) (o : Op) (lots : List Lot) (lot : Lot) → IsCall sc f w h o lots → IsNew (driver_of w h.0).fixed o lots lot → is_copy o ≡ false → is_area lot.kind ≡ false → some_lot_waits lots ≡ false → OpensBy (driver_of w h.0) lots o (turns.Lend lot.id) (lend_steps (driver_of w h.0).fixed lot)
+new_opens : (sc : Scenario) (f : List ℕ) (w : WorldState) (h : HartNo) (o : Op) (lots : List Lot) (lot : Lot) → IsCall sc f w h o lots → IsNew (driver_of w h.0).fixed o lots lot → is_copy o ≡ false
+    → is_area lot.kind ≡ false → some_lot_waits lots ≡ false → OpensBy (driver_of w h.0) lots o (turns.Lend lot.id) (lend_steps (driver_of w h.0).fixed lot)
     → BytesStand sc f (gone w h w.machine (opened (with_lots (driver_of w h.0) lots) o))
 new_opens sc f w h o lots lot c new no_copy plain none by =
     let d = driver_of w h.0 in
@@ -466,7 +468,8 @@ placed_bytes sc f w h o lots makes c made = by_waits (some_lot_waits lots) refl
         let named = new_named label kinds.Single r.0 r.2 kind in
         new_opens sc f w h o lots r.0 c r.1 (ap is_copy is) (single_plain r.0.kind kind) none (record {
           turn_is = ap (opening (driver_of w h.0).fixed lots) is ∙ map_opening (driver_of w h.0).fixed lots label buf off len dir chan ∙ ap turns.Lend (sym r.2);
-          plan_is = ap (plan_of (driver_of w h.0).fixed lots) is ∙ map_plan (driver_of w h.0).fixed lots label buf off len dir chan ∙ ap (with_lot [] (lend_steps (driver_of w h.0).fixed)) (call_named sc f w h o lots r.0 label kinds.Single c refl r.1.here named);
+          plan_is = ap (plan_of (driver_of w h.0).fixed lots) is ∙ map_plan (driver_of w h.0).fixed lots label buf off len dir chan
+              ∙ ap (with_lot [] (lend_steps (driver_of w h.0).fixed)) (call_named sc f w h o lots r.0 label kinds.Single c refl r.1.here named);
         })
     new_goes (ListMap label es dir chan is) none =
         let r = made_lot sc f w h o lots (lot_id label 0) c made (ap made_names is) in
@@ -474,7 +477,8 @@ placed_bytes sc f w h o lots makes c made = by_waits (some_lot_waits lots) refl
         let named = new_named label kinds.List r.0 r.2 kind in
         new_opens sc f w h o lots r.0 c r.1 (ap is_copy is) (list_plain r.0.kind kind) none (record {
           turn_is = ap (opening (driver_of w h.0).fixed lots) is ∙ list_opening (driver_of w h.0).fixed lots label es dir chan ∙ ap turns.Lend (sym r.2);
-          plan_is = ap (plan_of (driver_of w h.0).fixed lots) is ∙ list_plan (driver_of w h.0).fixed lots label es dir chan ∙ ap (with_lot [] (lend_steps (driver_of w h.0).fixed)) (call_named sc f w h o lots r.0 label kinds.List c refl r.1.here named);
+          plan_is = ap (plan_of (driver_of w h.0).fixed lots) is ∙ list_plan (driver_of w h.0).fixed lots label es dir chan
+              ∙ ap (with_lot [] (lend_steps (driver_of w h.0).fixed)) (call_named sc f w h o lots r.0 label kinds.List c refl r.1.here named);
         })
     new_goes (TwoEnds k is) none =
         subst (λ (p : Op). BytesStand sc f (gone w h w.machine (opened (with_lots (driver_of w h.0) lots) p))) (sym is)

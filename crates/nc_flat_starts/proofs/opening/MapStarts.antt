@@ -56,7 +56,8 @@ unfolding begin opening plan_of meaning mappings.sync_for_device
 dev_bytes sc f w h label r s e =
     let o = ops.ToDev label in
     let fx = (driver_of w h.0).fixed in
-    sided_bytes sc f w h o label kinds.Single sides.Synced is_synced (λ lot. turns.Stay) (λ lot. turns.Lend lot.id) (λ lot. []) (lend_steps fx) r s refl refl refl refl e (λ lot t. mapping_still fx lot (ap is_area t.its_kind) t.unsent t.still) (record { turn_is = refl; plan_is = refl })
+    sided_bytes sc f w h o label kinds.Single sides.Synced is_synced (λ lot. turns.Stay) (λ lot. turns.Lend lot.id) (λ lot. []) (lend_steps fx) r s refl refl refl refl e
+    (λ lot t. mapping_still fx lot (ap is_area t.its_kind) t.unsent t.still) (record { turn_is = refl; plan_is = refl })
     (λ lot t its by. stays_bytes sc f w h o s by)
     (λ lot t its by. lends_bytes sc f w h o lot label kinds.Single s refl t refl its by)
 
@@ -66,7 +67,9 @@ unfolding begin opening plan_of meaning mappings.sync_for_cpu
 cpu_bytes sc f w h label r s e =
     let o = ops.ToCpu label in
     let fx = (driver_of w h.0).fixed in
-    sided_bytes sc f w h o label kinds.Single sides.Synced is_synced (λ lot. turns.Return lot.id) (λ lot. turns.Stay) (λ lot. ending (turns.Sync lot.id) (return_steps fx lot)) (λ lot. []) r s refl refl refl refl e (λ lot t. mapping_still fx lot (ap is_area t.its_kind) t.unsent t.still) (record { turn_is = refl; plan_is = refl })
+    sided_bytes sc f w h o label kinds.Single sides.Synced is_synced (λ lot. turns.Return lot.id) (λ lot. turns.Stay)
+    (λ lot. ending (turns.Sync lot.id) (return_steps fx lot)) (λ lot. []) r s refl refl refl refl e
+    (λ lot t. mapping_still fx lot (ap is_area t.its_kind) t.unsent t.still) (record { turn_is = refl; plan_is = refl })
     (λ lot t its by. returns_bytes sc f w h o lot label kinds.Single (turns.Sync lot.id) s refl t refl its (inl refl) (λ sync. refl) by)
     (λ lot t its by. stays_bytes sc f w h o s by)
 
@@ -76,7 +79,9 @@ unfolding begin opening plan_of meaning mappings.unmap_single
 unmap_bytes sc f w h label r s e =
     let o = ops.Unmap label in
     let fx = (driver_of w h.0).fixed in
-    sided_bytes sc f w h o label kinds.Single sides.Synced is_synced (λ lot. turns.Return lot.id) (λ lot. turns.End lot.id) (λ lot. ending (turns.End lot.id) (return_steps fx lot)) (λ lot. []) r s refl refl refl refl e (λ lot t. mapping_still fx lot (ap is_area t.its_kind) t.unsent t.still) (record { turn_is = refl; plan_is = refl })
+    sided_bytes sc f w h o label kinds.Single sides.Synced is_synced (λ lot. turns.Return lot.id) (λ lot. turns.End lot.id)
+    (λ lot. ending (turns.End lot.id) (return_steps fx lot)) (λ lot. []) r s refl refl refl refl e
+    (λ lot t. mapping_still fx lot (ap is_area t.its_kind) t.unsent t.still) (record { turn_is = refl; plan_is = refl })
     (λ lot t its by. returns_bytes sc f w h o lot label kinds.Single (turns.End lot.id) s refl t refl its (inr refl) (λ sync. refl) by)
     (λ lot t its by. ends_bytes sc f w h o lot label kinds.Single s t refl its by)
 
@@ -86,7 +91,8 @@ unfolding begin opening plan_of meaning lists.unmap_sg
 list_bytes sc f w h label count r s e =
     let d = driver_of w h.0 in
     let o = ops.UnmapSg label count in
-    found_bytes sc f w h o label kinds.List (λ lot. Unit {0}) unmap_sg_turn (unmap_sg_steps d.fixed) r s refl refl (λ new is. list_begins d.lots new label count (e ∙ is)) (record { turn_is = refl; plan_is = refl })
+    found_bytes sc f w h o label kinds.List (λ lot. Unit {0}) unmap_sg_turn (unmap_sg_steps d.fixed) r s refl refl
+    (λ new is. list_begins d.lots new label count (e ∙ is)) (record { turn_is = refl; plan_is = refl })
     (λ lot t so by. elim (mapping_still d.fixed lot (ap is_area t.its_kind) t.unsent t.still) [
       | inl device ↦ returns_bytes sc f w h o lot label kinds.List (turns.End lot.id) s refl t refl device (inr refl) (λ sync. absurd cc) by
       | inr synced ↦ absurd (list_unsynced d.fixed lot t.its_kind t.still synced)

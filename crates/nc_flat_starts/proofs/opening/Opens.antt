@@ -283,7 +283,8 @@ side_mine h lot i k is = ap (λ (n : MapId). n.hart.0) (sym (side_mapping (map_i
 -- ---- the places of a lot that the hart has
 
 -- no byte of an area is a slot's
-pub area_unslotted : (sc : Scenario) (f : List ℕ) (w : WorldState) (h : HartNo) (lot : Lot) (i : ℕ) (e : Entry) (x : ℕ) → Flatness sc f w → h.0 < length sc.harts → IsLotIn (length w.machine.cache.ram) (driver_of w h.0).fixed lot → is_area lot.kind ≡ true → IsPlace lot i e x
+pub area_unslotted : (sc : Scenario) (f : List ℕ) (w : WorldState) (h : HartNo) (lot : Lot) (i : ℕ) (e : Entry) (x : ℕ) → Flatness sc f w → h.0 < length sc.harts
+    → IsLotIn (length w.machine.cache.ram) (driver_of w h.0).fixed lot → is_area lot.kind ≡ true → IsPlace lot i e x
     → covers (slots_of sc) x ≡ false
 area_unslotted sc f w h lot i e x flat lt is area place =
     let fx = (driver_of w h.0).fixed in
@@ -292,21 +293,24 @@ area_unslotted sc f w h lot i e x flat lt is area place =
     false_from_ne_true (covers (slots_of sc) x)
     (λ over. (flat.world.holds.each h.0 here).regions.slots_off_pool x (subst (λ (s : Span). covers s x ≡ true) (sym slots) over) (area_covers (length w.machine.cache.ram) fx lot i e x is area place.entry place.on))
 
-base_unslotted : (sc : Scenario) (f : List ℕ) (w : WorldState) (h : HartNo) (lots : List Lot) (lot : Lot) (i : ℕ) (e : Entry) (x : ℕ) → IsBase sc f w h lots lot → IsPlace lot i e x → covers (slots_of sc) x ≡ false
+base_unslotted : (sc : Scenario) (f : List ℕ) (w : WorldState) (h : HartNo) (lots : List Lot) (lot : Lot) (i : ℕ) (e : Entry) (x : ℕ) → IsBase sc f w h lots lot → IsPlace lot i e x
+    → covers (slots_of sc) x ≡ false
 base_unslotted sc f w h lots lot i e x b place = elim (cases_Bool (is_area lot.kind)) [
   | inl area ↦ area_unslotted sc f w h lot i e x b.flat b.lt (base_lot sc f w h lots lot b) area place
   | inr plain ↦ (base_beside sc f w h lots lot i e x b plain place.entry place.on).1
 ]
 
 -- those of the pool are an area's
-base_pooled : (sc : Scenario) (f : List ℕ) (w : WorldState) (h : HartNo) (lots : List Lot) (lot : Lot) (i : ℕ) (e : Entry) (x : ℕ) → IsBase sc f w h lots lot → IsPlace lot i e x → covers (pool_of sc) x ≡ true → is_area lot.kind ≡ true
+base_pooled : (sc : Scenario) (f : List ℕ) (w : WorldState) (h : HartNo) (lots : List Lot) (lot : Lot) (i : ℕ) (e : Entry) (x : ℕ) → IsBase sc f w h lots lot → IsPlace lot i e x
+    → covers (pool_of sc) x ≡ true → is_area lot.kind ≡ true
 base_pooled sc f w h lots lot i e x b place over = elim (cases_Bool (is_area lot.kind)) [
   | inl area ↦ area
   | inr plain ↦ absurd (both_ways (covers (pool_of sc) x) (base_beside sc f w h lots lot i e x b plain place.entry place.on).0 over)
 ]
 
 -- it opens so where the hart has the lot
-pub base_opens : (sc : Scenario) (f : List ℕ) (w : WorldState) (h : HartNo) (o : Op) (went : Went) (lots : List Lot) (lot : Lot) (side : Side) (plan : List Step) → IsBase sc f w h lots lot → IsTurn w h o went lots lot side plan
+pub base_opens : (sc : Scenario) (f : List ℕ) (w : WorldState) (h : HartNo) (o : Op) (went : Went) (lots : List Lot) (lot : Lot) (side : Side) (plan : List Step) → IsBase sc f w h lots lot
+    → IsTurn w h o went lots lot side plan
     → TurnStands sc w h lots lot side plan (λ i. owner_of_side (map_id h lot.id i) lot.side) → Opens sc f w h o went lots lot side plan
 base_opens sc f w h o went lots lot side plan b turn its = record {
   before = base_before sc f w h lots lot b;

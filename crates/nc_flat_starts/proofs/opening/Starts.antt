@@ -159,8 +159,16 @@ known_now sc f w h lot b lent i e there = entry_loan sc f w h.0 lot i e b.flat (
 pub none_waits : (sc : Scenario) (f : List ℕ) (w : WorldState) (h : HartNo) (o : Op) → IsStart sc f w h o → some_lot_waits (driver_of w h.0).lots ≡ false
 none_waits sc f w h o s = list_any_none lot_waits (driver_of w h.0).lots (all_to IsSettled (λ (lot : Lot). lot_waits lot ≡ false) (driver_of w h.0).lots s.settled (λ lot is. is.placed))
 
+-- how it opens over the lots that the hart has, and that the bytes stand behind that
+abbrev pub OpensSo : WorldState → HartNo → Op → Turn → List Step → Type 0
+OpensSo w h o turn plan = OpensBy (driver_of w h.0) (driver_of w h.0).lots o turn plan
+
+abbrev pub OpenStands : Scenario → List ℕ → WorldState → HartNo → Op → Type 0
+OpenStands sc f w h o = BytesStand sc f (gone w h w.machine (opened (with_lots (driver_of w h.0) (driver_of w h.0).lots) o))
+
 -- no lot is made
-pub as_made : (sc : Scenario) (f : List ℕ) (w : WorldState) (h : HartNo) (o : Op) (new : List Lot) → IsStart sc f w h o → [] ≡ new → BytesStand sc f (gone w h w.machine (opened (with_lots (driver_of w h.0) (driver_of w h.0).lots) o)) → BytesStand sc f (gone w h w.machine (placed (with_lots (driver_of w h.0) ((driver_of w h.0).lots ++ new)) o))
+pub as_made : (sc : Scenario) (f : List ℕ) (w : WorldState) (h : HartNo) (o : Op) (new : List Lot) → IsStart sc f w h o → [] ≡ new → OpenStands sc f w h o
+    → BytesStand sc f (gone w h w.machine (placed (with_lots (driver_of w h.0) ((driver_of w h.0).lots ++ new)) o))
 as_made sc f w h o new s none bytes =
     let d = driver_of w h.0 in
     subst (λ (ls : List Lot). BytesStand sc f (gone w h w.machine (placed (with_lots d ls) o))) (sym (append-nil d.lots) ∙ ap (λ (ls : List Lot). d.lots ++ ls) none)
@@ -186,10 +194,11 @@ needs_its_lot lots new label kind e =
     record { lot = p.value; is = some_is refusals.NoLabel (lot_named lots label kind) p.value p.first; none = behind_test (named lots label kind) new e; so = tt }
 
 -- the bytes stand behind it where they do as it opens with the lot that it finds
-pub found_bytes : (sc : Scenario) (f : List ℕ) (w : WorldState) (h : HartNo) (o : Op) (label : Label) (kind : Kind) (Of : Lot → Type 0) (turn : Lot → Turn) (plan : Lot → List Step) (r : Result (List Lot) Refusal) → IsStart sc f w h o → is_copy o ≡ false → waited_label o ≡ Some label
+pub found_bytes : (sc : Scenario) (f : List ℕ) (w : WorldState) (h : HartNo) (o : Op) (label : Label) (kind : Kind)
+    (Of : Lot → Type 0) (turn : Lot → Turn) (plan : Lot → List Step) (r : Result (List Lot) Refusal) → IsStart sc f w h o → is_copy o ≡ false → waited_label o ≡ Some label
     → ((new : List Lot) → r ≡ Ok new → Finds (driver_of w h.0).lots new label kind Of)
-    → OpensBy (driver_of w h.0) (driver_of w h.0).lots o (with_lot turns.Stay turn (lot_named (driver_of w h.0).lots label kind)) (with_lot [] plan (lot_named (driver_of w h.0).lots label kind))
-    → ((lot : Lot) → IsThere sc f w h lot label kind → Of lot → OpensBy (driver_of w h.0) (driver_of w h.0).lots o (turn lot) (plan lot) → BytesStand sc f (gone w h w.machine (opened (with_lots (driver_of w h.0) (driver_of w h.0).lots) o)))
+    → OpensSo w h o (with_lot turns.Stay turn (lot_named (driver_of w h.0).lots label kind)) (with_lot [] plan (lot_named (driver_of w h.0).lots label kind))
+    → ((lot : Lot) → IsThere sc f w h lot label kind → Of lot → OpensSo w h o (turn lot) (plan lot) → OpenStands sc f w h o)
     → BytesStand sc f (gone w h w.machine (begun (driver_of w h.0) o r))
 found_bytes sc f w h o label kind Of turn plan (Err r) s no_copy waits finds by opens = refused_bytes sc f w h o r s
 found_bytes sc f w h o label kind Of turn plan (Ok new) s no_copy waits finds by opens =
@@ -202,26 +211,35 @@ abbrev pub by_side : {A : Type 0} → (Side → Bool) → (Lot → A) → (Lot �
 by_side test of_channel of_hart lot = if test lot.side then of_hart lot else of_channel lot
 
 -- it needs that lot alone, and opens by whether its channel has it, or its hart on this side
-pub sided_bytes : (sc : Scenario) (f : List ℕ) (w : WorldState) (h : HartNo) (o : Op) (label : Label) (kind : Kind) (own : Side) (test : Side → Bool) (its_turn my_turn : Lot → Turn) (its_plan my_plan : Lot → List Step) (r : Result (List Lot) Refusal)
-    → IsStart sc f w h o → is_copy o ≡ false → waited_label o ≡ Some label → test sides.Device ≡ false → test own ≡ true → needs_lot (named (driver_of w h.0).lots label kind) ≡ r → ((lot : Lot) → IsThere sc f w h lot label kind → (lot.side ≡ sides.Device) ⊎ (lot.side ≡ own))
-    → OpensBy (driver_of w h.0) (driver_of w h.0).lots o (with_lot turns.Stay (by_side test its_turn my_turn) (lot_named (driver_of w h.0).lots label kind)) (with_lot [] (by_side test its_plan my_plan) (lot_named (driver_of w h.0).lots label kind))
-    → ((lot : Lot) → IsThere sc f w h lot label kind → lot.side ≡ sides.Device → OpensBy (driver_of w h.0) (driver_of w h.0).lots o (its_turn lot) (its_plan lot) → BytesStand sc f (gone w h w.machine (opened (with_lots (driver_of w h.0) (driver_of w h.0).lots) o)))
-    → ((lot : Lot) → IsThere sc f w h lot label kind → lot.side ≡ own → OpensBy (driver_of w h.0) (driver_of w h.0).lots o (my_turn lot) (my_plan lot) → BytesStand sc f (gone w h w.machine (opened (with_lots (driver_of w h.0) (driver_of w h.0).lots) o)))
+pub sided_bytes : (sc : Scenario) (f : List ℕ) (w : WorldState) (h : HartNo) (o : Op) (label : Label) (kind : Kind)
+    (own : Side) (test : Side → Bool) (its_turn my_turn : Lot → Turn) (its_plan my_plan : Lot → List Step) (r : Result (List Lot) Refusal)
+    → IsStart sc f w h o → is_copy o ≡ false → waited_label o ≡ Some label → test sides.Device ≡ false → test own ≡ true → needs_lot (named (driver_of w h.0).lots label kind) ≡ r
+    → ((lot : Lot) → IsThere sc f w h lot label kind → (lot.side ≡ sides.Device) ⊎ (lot.side ≡ own))
+    → OpensSo w h o (with_lot turns.Stay (by_side test its_turn my_turn) (lot_named (driver_of w h.0).lots label kind))
+    (with_lot [] (by_side test its_plan my_plan) (lot_named (driver_of w h.0).lots label kind))
+    → ((lot : Lot) → IsThere sc f w h lot label kind → lot.side ≡ sides.Device → OpensSo w h o (its_turn lot) (its_plan lot) → OpenStands sc f w h o)
+    → ((lot : Lot) → IsThere sc f w h lot label kind → lot.side ≡ own → OpensSo w h o (my_turn lot) (my_plan lot) → OpenStands sc f w h o)
     → BytesStand sc f (gone w h w.machine (begun (driver_of w h.0) o r))
 sided_bytes sc f w h o label kind own test its_turn my_turn its_plan my_plan r s no_copy waits off on e sides_so by its mine =
-    found_bytes sc f w h o label kind (λ lot. Unit {0}) (by_side test its_turn my_turn) (by_side test its_plan my_plan) r s no_copy waits (λ new is. needs_its_lot (driver_of w h.0).lots new label kind (e ∙ is)) by
+    found_bytes sc f w h o label kind (λ lot. Unit {0}) (by_side test its_turn my_turn) (by_side test its_plan my_plan) r s no_copy waits
+    (λ new is. needs_its_lot (driver_of w h.0).lots new label kind (e ∙ is)) by
     (λ lot t so opens. elim (sides_so lot t) [
       | inl device ↦
           let t_off = ap test device ∙ off in
-          its lot t device (record { turn_is = opens.turn_is ∙ cond-false (test lot.side) (my_turn lot) (its_turn lot) t_off; plan_is = opens.plan_is ∙ cond-false (test lot.side) (my_plan lot) (its_plan lot) t_off })
+          its lot t device (record {
+            turn_is = opens.turn_is ∙ cond-false (test lot.side) (my_turn lot) (its_turn lot) t_off;
+            plan_is = opens.plan_is ∙ cond-false (test lot.side) (my_plan lot) (its_plan lot) t_off;
+          })
       | inr here ↦
           let t_on = ap test here ∙ on in
-          mine lot t here (record { turn_is = opens.turn_is ∙ cond-true (test lot.side) (my_turn lot) (its_turn lot) t_on; plan_is = opens.plan_is ∙ cond-true (test lot.side) (my_plan lot) (its_plan lot) t_on })
+          mine lot t here (record {
+            turn_is = opens.turn_is ∙ cond-true (test lot.side) (my_turn lot) (its_turn lot) t_on;
+            plan_is = opens.plan_is ∙ cond-true (test lot.side) (my_plan lot) (its_plan lot) t_on;
+          })
     ])
 
 -- the ways in which a lot's operation opens
-pub stays_bytes : (sc : Scenario) (f : List ℕ) (w : WorldState) (h : HartNo) (o : Op) → IsStart sc f w h o → OpensBy (driver_of w h.0) (driver_of w h.0).lots o turns.Stay []
-    → BytesStand sc f (gone w h w.machine (opened (with_lots (driver_of w h.0) (driver_of w h.0).lots) o))
+pub stays_bytes : (sc : Scenario) (f : List ℕ) (w : WorldState) (h : HartNo) (o : Op) → IsStart sc f w h o → OpensSo w h o turns.Stay [] → OpenStands sc f w h o
 stays_bytes sc f w h o s by =
     let d = driver_of w h.0 in
     let went = opened (with_lots d d.lots) o in
@@ -242,8 +260,9 @@ stays_bytes sc f w h o s by =
       copying = idle_copy sc f w h w.machine went 0 (driven sc f w h s.flat s.lt) (ap (λ (k : DriverState). k.phase) so.driver);
     })
 
-pub lends_bytes : (sc : Scenario) (f : List ℕ) (w : WorldState) (h : HartNo) (o : Op) (lot : Lot) (label : Label) (kind : Kind) → IsStart sc f w h o → is_copy o ≡ false → IsThere sc f w h lot label kind → is_area kind ≡ false → lot.side ≡ sides.Synced
-    → OpensBy (driver_of w h.0) (driver_of w h.0).lots o (turns.Lend lot.id) (lend_steps (driver_of w h.0).fixed lot) → BytesStand sc f (gone w h w.machine (opened (with_lots (driver_of w h.0) (driver_of w h.0).lots) o))
+pub lends_bytes : (sc : Scenario) (f : List ℕ) (w : WorldState) (h : HartNo) (o : Op) (lot : Lot) (label : Label) (kind : Kind) → IsStart sc f w h o → is_copy o ≡ false
+    → IsThere sc f w h lot label kind → is_area kind ≡ false → lot.side ≡ sides.Synced
+    → OpensSo w h o (turns.Lend lot.id) (lend_steps (driver_of w h.0).fixed lot) → OpenStands sc f w h o
 lends_bytes sc f w h o lot label kind s no_copy t plain synced by =
     let d = driver_of w h.0 in
     let went = opened (with_lots d d.lots) o in
@@ -252,7 +271,7 @@ lends_bytes sc f w h o lot label kind s no_copy t plain synced by =
     (record { hand = s.hand; lends = s.lends; no_copy = no_copy; lent = refl; driver = so.driver; transfers = so.transfers }))
 
 pub returns_bytes : (sc : Scenario) (f : List ℕ) (w : WorldState) (h : HartNo) (o : Op) (lot : Lot) (label : Label) (kind : Kind) (turn : Turn) → IsStart sc f w h o → is_copy o ≡ false → IsThere sc f w h lot label kind → is_area kind ≡ false → lot.side ≡ sides.Device → IsBack lot.id turn → (turn ≡ turns.Sync lot.id → kind ≡ kinds.Single)
-    → OpensBy (driver_of w h.0) (driver_of w h.0).lots o (turns.Return lot.id) (ending turn (return_steps (driver_of w h.0).fixed lot)) → BytesStand sc f (gone w h w.machine (opened (with_lots (driver_of w h.0) (driver_of w h.0).lots) o))
+    → OpensSo w h o (turns.Return lot.id) (ending turn (return_steps (driver_of w h.0).fixed lot)) → OpenStands sc f w h o
 returns_bytes sc f w h o lot label kind turn s no_copy t plain device back single by =
     let d = driver_of w h.0 in
     let went = opened (with_lots d d.lots) o in
@@ -262,8 +281,8 @@ returns_bytes sc f w h o lot label kind turn s no_copy t plain device back singl
     (return_opens sc f w h o went d.lots lot turn t.base (ap is_area t.its_kind ∙ plain) device (known_now sc f w h lot t.base (ap is_wanted device)) back (λ sync. t.its_kind ∙ single sync)
     (record { hand = s.hand; lends = s.lends; no_copy = no_copy; lent = refl; driver = so.driver; transfers = so.transfers }))
 
-pub ends_bytes : (sc : Scenario) (f : List ℕ) (w : WorldState) (h : HartNo) (o : Op) (lot : Lot) (label : Label) (kind : Kind) → IsStart sc f w h o → IsThere sc f w h lot label kind → is_area kind ≡ false → lot.side ≡ sides.Synced → OpensBy (driver_of w h.0) (driver_of w h.0).lots o (turns.End lot.id) []
-    → BytesStand sc f (gone w h w.machine (opened (with_lots (driver_of w h.0) (driver_of w h.0).lots) o))
+pub ends_bytes : (sc : Scenario) (f : List ℕ) (w : WorldState) (h : HartNo) (o : Op) (lot : Lot) (label : Label) (kind : Kind) → IsStart sc f w h o → IsThere sc f w h lot label kind
+    → is_area kind ≡ false → lot.side ≡ sides.Synced → OpensSo w h o (turns.End lot.id) [] → OpenStands sc f w h o
 ends_bytes sc f w h o lot label kind s t plain synced by =
     let d = driver_of w h.0 in
     let went = opened (with_lots d d.lots) o in

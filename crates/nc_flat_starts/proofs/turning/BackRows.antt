@@ -60,8 +60,10 @@ dir_map ToDev p q r s first second row = first refl row
 dir_map Both p q r s first second row = second refl row
 dir_map FromDev p q r s first second row = second refl row
 
-pub return_opens : (sc : Scenario) (f : List ℕ) (w : WorldState) (h : HartNo) (o : Op) (went : Went) (lots : List Lot) (lot : Lot) (turn : Turn) → IsBase sc f w h lots lot → is_area lot.kind ≡ false → lot.side ≡ sides.Device → AreKnown w h lot → IsBack lot.id turn → (turn ≡ turns.Sync lot.id → lot.kind ≡ Single)
-    → IsTurn w h o went lots lot sides.Returning (ending turn (return_steps (driver_of w h.0).fixed lot)) → Opens sc f w h o went lots lot sides.Returning (ending turn (return_steps (driver_of w h.0).fixed lot))
+pub return_opens : (sc : Scenario) (f : List ℕ) (w : WorldState) (h : HartNo) (o : Op) (went : Went) (lots : List Lot) (lot : Lot) (turn : Turn) → IsBase sc f w h lots lot → is_area lot.kind ≡ false
+    → lot.side ≡ sides.Device → AreKnown w h lot → IsBack lot.id turn → (turn ≡ turns.Sync lot.id → lot.kind ≡ Single)
+    → IsTurn w h o went lots lot sides.Returning (ending turn (return_steps (driver_of w h.0).fixed lot))
+    → Opens sc f w h o went lots lot sides.Returning (ending turn (return_steps (driver_of w h.0).fixed lot))
 return_opens sc f w h o went lots lot turn b plain device before is_back single t =
     let m = w.machine in
     let d = driver_of w h.0 in

@@ -208,7 +208,8 @@ pub either_second : (t : Bool) (p q : Type 0) → t ≡ false → Either t p q �
 either_second true p q is x = absurd cc
 either_second false p q is x = x
 
-pub lend_opens : (sc : Scenario) (f : List ℕ) (w : WorldState) (h : HartNo) (o : Op) (went : Went) (lots : List Lot) (lot : Lot) → IsBase sc f w h lots lot → is_area lot.kind ≡ false → IsReadySide lot → IsTurn w h o went lots lot sides.Lending (lend_steps (driver_of w h.0).fixed lot)
+pub lend_opens : (sc : Scenario) (f : List ℕ) (w : WorldState) (h : HartNo) (o : Op) (went : Went) (lots : List Lot) (lot : Lot) → IsBase sc f w h lots lot → is_area lot.kind ≡ false → IsReadySide lot
+    → IsTurn w h o went lots lot sides.Lending (lend_steps (driver_of w h.0).fixed lot)
     → Opens sc f w h o went lots lot sides.Lending (lend_steps (driver_of w h.0).fixed lot)
 lend_opens sc f w h o went lots lot b plain side turn =
     let m = w.machine in
