@@ -91,10 +91,12 @@ on_start d ws pages o e start =
     ∙ ap (λ (t : Bool). if t then begun d o (begin d.fixed d.lots ws pages o) else refused_step d o (step_at d.fixed d.lots o (steps_done d.phase))) start
 
 -- what the tests of its start made of these lots is what it begins with
-pub begins_by : (d : DriverState) (lots : List Lot) (ws : List Owner) (pages : PageMap) (o : Op) (made r : Result (Vec Lot Global) Refusal) → lots ≡ d.lots → made ≡ r → ok_as made (λ v. v.items) ≡ begin d.fixed lots ws pages o → begin d.fixed d.lots ws pages o ≡ ok_as r (λ v. v.items)
+pub begins_by : (d : DriverState) (lots : List Lot) (ws : List Owner) (pages : PageMap) (o : Op) (made r : Result (Vec Lot Global) Refusal) → lots ≡ d.lots → made ≡ r
+    → ok_as made (λ v. v.items) ≡ begin d.fixed lots ws pages o → begin d.fixed d.lots ws pages o ≡ ok_as r (λ v. v.items)
 begins_by d lots ws pages o made r same by is = sym (ap (λ (ls : List Lot). begin d.fixed ls ws pages o) same) ∙ sym is ∙ ap (λ (q : Result (Vec Lot Global) Refusal). ok_as q (λ v. v.items)) by
 
-pub started_by : (d : DriverState) (lots : List Lot) (ws : List Owner) (pages : PageMap) (o : Op) (made r : Result (Vec Lot Global) Refusal) → in_hand d ≡ Some o → has_start o ≡ true → lots ≡ d.lots → made ≡ r → ok_as made (λ v. v.items) ≡ begin d.fixed lots ws pages o
+pub started_by : (d : DriverState) (lots : List Lot) (ws : List Owner) (pages : PageMap) (o : Op) (made r : Result (Vec Lot Global) Refusal) → in_hand d ≡ Some o → has_start o ≡ true → lots ≡ d.lots
+    → made ≡ r → ok_as made (λ v. v.items) ≡ begin d.fixed lots ws pages o
     → started d ws pages ≡ begun d o (ok_as r (λ v. v.items))
 started_by d lots ws pages o made r e start same by is = on_start d ws pages o e start ∙ ap (begun d o) (begins_by d lots ws pages o made r same by is)
 
@@ -139,7 +141,8 @@ due_start d o due k e start at =
     ap (λ (p : Phase). step_due d.fixed d.lots d.op (steps_done p)) s.1 ∙ sym (due_at d s.0 due s.1 at)
 
 -- without a start step of its own it is refused by the step that is due, or stays
-pub started_due : (d : DriverState) (ws : List Owner) (pages : PageMap) (o : Op) (due r : Result (Option Step) Refusal) → DriverInvariant d → in_hand d ≡ Some o → next_of d ≡ nexts.Start → IsDue d due → has_start o ≡ false → due ≡ r → started d ws pages ≡ refused_step d o r
+pub started_due : (d : DriverState) (ws : List Owner) (pages : PageMap) (o : Op) (due r : Result (Option Step) Refusal) → DriverInvariant d → in_hand d ≡ Some o → next_of d ≡ nexts.Start → IsDue d due
+    → has_start o ≡ false → due ≡ r → started d ws pages ≡ refused_step d o r
 started_due d ws pages o due r k e start at none is = no_start d ws pages o e none ∙ ap (refused_step d o) (due_start d o due k e start at ∙ is)
 
 -- ---- a search, or the opening

@@ -51,7 +51,8 @@ pub started_sound : (d : DriverState) (ws : List Owner) (pages : PageMap) → Dr
 started_sound d ws pages k start of = sound_of k.ram k.harts d (λ n. n) (started d ws pages) (started_is k.ram k.harts d ws pages k.driver start of)
 
 -- it is the start of the operation in hand
-pub started_as : (d : DriverState) (ws : List Owner) (pages : PageMap) (o p : Op) (of : Op → Went) → DriverInvariant d → next_of d ≡ nexts.Start → ArePagesOf d.fixed pages → in_hand d ≡ Some o → in_hand d ≡ Some p → started d ws pages ≡ of p → IsSound (of o)
+pub started_as : (d : DriverState) (ws : List Owner) (pages : PageMap) (o p : Op) (of : Op → Went) → DriverInvariant d → next_of d ≡ nexts.Start → ArePagesOf d.fixed pages → in_hand d ≡ Some o
+    → in_hand d ≡ Some p → started d ws pages ≡ of p → IsSound (of o)
 started_as d ws pages o p of k start at e hand is = subst (λ (q : Op). IsSound (of q)) (same_op d p o hand e) (subst (λ (w : Went). IsSound w) is (started_sound d ws pages k start at))
 
 pub told_sound : (d : DriverState) (got : Bool) → DriverInvariant d → IsSound (told d got)
@@ -121,7 +122,8 @@ lots_named ram f lots all = all_to (IsLotIn ram f) (λ (lot : Lot). lot.id.first
 pub given_named : (d : DriverState) (n : ℕ) → DriverInvariant d → n < d.fixed.slots → AreNamed (slot_given n d.lots)
 given_named d n k lt = lots_named k.ram d.fixed (slot_given n d.lots) (lots_given k.ram d.fixed n d.lots lt k.driver.lots)
 
-pub begun_named : (d : DriverState) (o : Op) (ws : List Owner) (pages : PageMap) (new : List Lot) → DriverInvariant d → in_hand d ≡ Some o → next_of d ≡ nexts.Start → ArePagesOf d.fixed pages → begin d.fixed d.lots ws pages o ≡ Ok new → AreNamed (d.lots ++ new)
+pub begun_named : (d : DriverState) (o : Op) (ws : List Owner) (pages : PageMap) (new : List Lot) → DriverInvariant d → in_hand d ≡ Some o → next_of d ≡ nexts.Start → ArePagesOf d.fixed pages
+    → begin d.fixed d.lots ws pages o ≡ Ok new → AreNamed (d.lots ++ new)
 begun_named d o ws pages new k e start of is =
     let at = start_at d o k e start in
     let made = new_is k.ram k.harts d.fixed d.lots new ws pages o k.driver.fixed (steps_settled d at.0 k at.1) k.driver.apart of (in_hand_is k.ram k.harts d o k.driver.fixed e).fits is in

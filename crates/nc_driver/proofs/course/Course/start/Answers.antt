@@ -17,14 +17,16 @@ returns-in-Ok-clause-driver c =
     let d = state c.args.self.now in
     let p = c.in-Some.op.now in
     let hand = c.in-Some.ensures.op in
-    sym (ap (λ (w : Went). w.driver) (started_due d c.args.book.now.owners c.args.pages.now p _ _ c.requires.ready.kept hand c.requires.next c.requires.ready.due (sym c.has_start.ensures ∙ c.if-has_start.false) c.in-Ok.is))
+    let is = started_due d c.args.book.now.owners c.args.pages.now p _ _ c.requires.ready.kept hand c.requires.next c.requires.ready.due (sym c.has_start.ensures ∙ c.if-has_start.false) c.in-Ok.is in
+    sym (ap (λ (w : Went). w.driver) is)
 
 pub returns-in-Ok-clause-moves : goal.returns-in-Ok-clause-moves
 returns-in-Ok-clause-moves c =
     let d = state c.args.self.now in
     let p = c.in-Some.op.now in
     let hand = c.in-Some.ensures.op in
-    c.answer-in-Ok.ensures ∙ sym (ap (λ (w : Went). w.moves) (started_due d c.args.book.now.owners c.args.pages.now p _ _ c.requires.ready.kept hand c.requires.next c.requires.ready.due (sym c.has_start.ensures ∙ c.if-has_start.false) c.in-Ok.is))
+    let is = started_due d c.args.book.now.owners c.args.pages.now p _ _ c.requires.ready.kept hand c.requires.next c.requires.ready.due (sym c.has_start.ensures ∙ c.if-has_start.false) c.in-Ok.is in
+    c.answer-in-Ok.ensures ∙ sym (ap (λ (w : Went). w.moves) is)
 
 pub give_up-requires-clause-sound : goal.give_up-requires-clause-sound
 give_up-requires-clause-sound c = λ o e.
