@@ -1,5 +1,5 @@
 -- What nc_rules says of a driver's calls, case by case.
-use Rattle.std.proofs.Common.{arith, ◌≡◌, ℕ, zero, suc, ◌<◌, ◌+◌, true, false, List, [], ◌∷◌, ◌++◌, length, refl, sym, ap, subst, ◌∙◌, Option, Some, None, Ok, Err, Result}
+use Rattle.std.proofs.Common.{arith, ◌≡◌, ℕ, zero, suc, ◌<◌, ◌+◌, true, false, List, [], ◌∷◌, length, refl, sym, ap, subst, ◌∙◌, Option, Some, None, Ok, Err, Result, Vec, Global}
 use Rattle.std.specs.Prelude.{drop, if◌then◌else◌, Bool, slice_index_or, slice_get, nat_lt}
 use Rattle.std.proofs.lemmas.Option.{slice_get_within}
 use Rattle.nc_model.specs.declared.owners.Owner.{Owner}
@@ -17,8 +17,7 @@ use Rattle.nc_rules.specs.declared.steps.Seen.{Seen}
 use Rattle.nc_rules.specs.declared.steps.Step.{Step}
 use Rattle.nc_rules.specs.declared.answers.Answer.{Answer}
 use Rattle.nc_rules.specs.declared.steps.Turn.{Turn}
-use Rattle.nc_rules.specs.declared.steps.Turn.TheVariants as turns
-use Rattle.nc_rules.specs.Lots.{DriverConfig, some_lot_waits, slot_given}
+use Rattle.nc_rules.specs.Lots.{DriverConfig, slot_given}
 use Rattle.nc_rules.specs.Turns.{lots_after, lots_after_both, turned}
 use Rattle.nc_rules.specs.Operations.{has_start, begin, step_at, opening, plan_of}
 use Rattle.nc_rules.specs.Driver.{DriverState, Went, in_hand, next_of, next_of_op, next_in, next_rest, next_act, over, stands, stays, searches, kept, give_up, went_to, answered, opened, placed, with_lots, begun, refused_step, steps_done, started, started_of, told, told_of, told_in, missed, busy, stepped_to, step_answer, stepped, worked, done, done_of, done_unless, done_in}
@@ -26,7 +25,7 @@ use Rattle.nc_scripts.specs.Scripts.{is_act}
 use Rattle.nc_scripts.specs.Drivers.{AreThere, IsAtWork, IsPhase}
 use Rattle.nc_scripts.proofs.DriverLaws.{next_step_is, both_stay, stepped_to_fixed, went_fixed}
 use Rattle.nc_scripts.proofs.EveryDriver.{in_hand_is, step_of as step_of_script}
-use Rattle.nc_checks.specs.Due.{step_of, step_due}
+use Rattle.nc_checks.specs.Due.{step_of, step_due, ok_as}
 use Rattle.nc_driver.specs.Kept.{DriverInvariant, IsDue, IsDueIn, IsSound, due_of}
 use Rattle.nc_driver.specs.Rests.{is_more, made_first, made_last}
 
@@ -91,11 +90,15 @@ on_start d ws pages o e start =
     ap (λ (x : Option Op). started_of d ws pages x) e
     ∙ ap (λ (t : Bool). if t then begun d o (begin d.fixed d.lots ws pages o) else refused_step d o (step_at d.fixed d.lots o (steps_done d.phase))) start
 
-pub begun_refused : (d : DriverState) (ws : List Owner) (pages : PageMap) (o : Op) (r : Refusal) → in_hand d ≡ Some o → has_start o ≡ true → begin d.fixed d.lots ws pages o ≡ Err r → started d ws pages ≡ give_up d o r
-begun_refused d ws pages o r e start is = on_start d ws pages o e start ∙ ap (begun d o) is
+-- what the tests of its start made of these lots is what it begins with
+pub begins_by : (d : DriverState) (lots : List Lot) (ws : List Owner) (pages : PageMap) (o : Op) (made r : Result (Vec Lot Global) Refusal) → lots ≡ d.lots → made ≡ r
+    → ok_as made (λ v. v.items) ≡ begin d.fixed lots ws pages o → begin d.fixed d.lots ws pages o ≡ ok_as r (λ v. v.items)
+begins_by d lots ws pages o made r same by is = sym (ap (λ (ls : List Lot). begin d.fixed ls ws pages o) same) ∙ sym is ∙ ap (λ (q : Result (Vec Lot Global) Refusal). ok_as q (λ v. v.items)) by
 
-pub begun_placed : (d : DriverState) (ws : List Owner) (pages : PageMap) (o : Op) (new : List Lot) → in_hand d ≡ Some o → has_start o ≡ true → begin d.fixed d.lots ws pages o ≡ Ok new → started d ws pages ≡ placed (with_lots d (d.lots ++ new)) o
-begun_placed d ws pages o new e start is = on_start d ws pages o e start ∙ ap (begun d o) is
+pub started_by : (d : DriverState) (lots : List Lot) (ws : List Owner) (pages : PageMap) (o : Op) (made r : Result (Vec Lot Global) Refusal) → in_hand d ≡ Some o → has_start o ≡ true → lots ≡ d.lots
+    → made ≡ r → ok_as made (λ v. v.items) ≡ begin d.fixed lots ws pages o
+    → started d ws pages ≡ begun d o (ok_as r (λ v. v.items))
+started_by d lots ws pages o made r e start same by is = on_start d ws pages o e start ∙ ap (begun d o) (begins_by d lots ws pages o made r same by is)
 
 no_start : (d : DriverState) (ws : List Owner) (pages : PageMap) (o : Op) → in_hand d ≡ Some o → has_start o ≡ false → started d ws pages ≡ refused_step d o (due_of d)
 unfolding started
@@ -132,16 +135,15 @@ due_in d n Work due e at = absurd (cc)
 pub due_at : (d : DriverState) (n : ℕ) (due : Result (Option Step) Refusal) → d.phase ≡ Steps n → IsDue d due → due ≡ step_due d.fixed d.lots d.op n
 due_at d n due e at = due_in d n d.phase due e at
 
-pub due_start : (d : DriverState) (o : Op) (due : Result (Option Step) Refusal) → DriverInvariant d → in_hand d ≡ Some o → next_of d ≡ nexts.Start → IsDue d due → due_of d ≡ due
+due_start : (d : DriverState) (o : Op) (due : Result (Option Step) Refusal) → DriverInvariant d → in_hand d ≡ Some o → next_of d ≡ nexts.Start → IsDue d due → due_of d ≡ due
 due_start d o due k e start at =
     let s = start_at d o k e start in
     ap (λ (p : Phase). step_due d.fixed d.lots d.op (steps_done p)) s.1 ∙ sym (due_at d s.0 due s.1 at)
 
-pub start_refused : (d : DriverState) (ws : List Owner) (pages : PageMap) (o : Op) (r : Refusal) → in_hand d ≡ Some o → has_start o ≡ false → due_of d ≡ Err r → started d ws pages ≡ give_up d o r
-start_refused d ws pages o r e start is = no_start d ws pages o e start ∙ ap (refused_step d o) is
-
-pub start_stays : (d : DriverState) (ws : List Owner) (pages : PageMap) (o : Op) (s : Option Step) → in_hand d ≡ Some o → has_start o ≡ false → due_of d ≡ Ok s → started d ws pages ≡ stays d
-start_stays d ws pages o s e start is = no_start d ws pages o e start ∙ ap (refused_step d o) is
+-- without a start step of its own it is refused by the step that is due, or stays
+pub started_due : (d : DriverState) (ws : List Owner) (pages : PageMap) (o : Op) (due r : Result (Option Step) Refusal) → DriverInvariant d → in_hand d ≡ Some o → next_of d ≡ nexts.Start → IsDue d due
+    → has_start o ≡ false → due ≡ r → started d ws pages ≡ refused_step d o r
+started_due d ws pages o due r k e start at none is = no_start d ws pages o e none ∙ ap (refused_step d o) (due_start d o due k e start at ∙ is)
 
 -- ---- a search, or the opening
 
@@ -182,9 +184,10 @@ pub done_busy : (d : DriverState) (saw : Seen) (o : Op) (r : Refusal) → in_han
 unfolding done
 done_busy d saw o r e b = ap (λ (x : Option Op). done_of d saw x) e ∙ ap (λ (x : Option Refusal). done_unless d o saw x) b
 
-pub done_made : (d : DriverState) (saw : Seen) (o : Op) (p : Phase) → in_hand d ≡ Some o → busy saw ≡ None → d.phase ≡ p → done d saw ≡ done_in d o (kept d.saw saw) p
+pub done_made : (d : DriverState) (saw now : Seen) (o : Op) (p : Phase) → in_hand d ≡ Some o → busy saw ≡ None → d.phase ≡ p → now ≡ kept d.saw saw → done d saw ≡ done_in d o now p
 unfolding done
-done_made d saw o p e b at = ap (λ (x : Option Op). done_of d saw x) e ∙ ap (λ (x : Option Refusal). done_unless d o saw x) b ∙ ap (λ (q : Phase). done_in d o (kept d.saw saw) q) at
+done_made d saw now o p e b at is =
+    ap (λ (x : Option Op). done_of d saw x) e ∙ ap (λ (x : Option Refusal). done_unless d o saw x) b ∙ ap (λ (q : Phase). done_in d o (kept d.saw saw) q) at ∙ sym (ap (λ (s : Seen). done_in d o s p) is)
 
 -- the step that is due is one of the operation in hand
 due_is : (d : DriverState) (o : Op) (n : ℕ) → in_hand d ≡ Some o → step_due d.fixed d.lots d.op n ≡ step_at d.fixed d.lots o n

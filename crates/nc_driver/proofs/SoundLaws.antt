@@ -34,6 +34,7 @@ use Rattle.nc_scripts.proofs.SlotLaws.{lots_given}
 use Rattle.nc_scripts.proofs.EveryDriver.{in_hand_is, first_drivers, started_is, told_is, done_is, lent_is}
 use Rattle.nc_driver.specs.Kept.{DriverInvariant, IsSound, IsDue, IsReady, IsFit, ArePlaced, AreNamed}
 use Rattle.nc_driver.proofs.FitLaws.{fit_of}
+use Rattle.nc_driver.proofs.KeptLaws.{same_op, start_at}
 
 pub first_kept : (sc : Scenario) (me : HartNo) → IsAccepted sc → me.0 < length sc.harts → DriverInvariant (first_driver sc me)
 first_kept sc me a lt = record { ram = sc.ram; harts = length sc.harts; driver = first_drivers sc me a lt }
@@ -48,6 +49,11 @@ sound_of ram harts d g w k = record { ram = ram; harts = harts; driver = k.drive
 
 pub started_sound : (d : DriverState) (ws : List Owner) (pages : PageMap) → DriverInvariant d → next_of d ≡ nexts.Start → ArePagesOf d.fixed pages → IsSound (started d ws pages)
 started_sound d ws pages k start of = sound_of k.ram k.harts d (λ n. n) (started d ws pages) (started_is k.ram k.harts d ws pages k.driver start of)
+
+-- it is the start of the operation in hand
+pub started_as : (d : DriverState) (ws : List Owner) (pages : PageMap) (o p : Op) (of : Op → Went) → DriverInvariant d → next_of d ≡ nexts.Start → ArePagesOf d.fixed pages → in_hand d ≡ Some o
+    → in_hand d ≡ Some p → started d ws pages ≡ of p → IsSound (of o)
+started_as d ws pages o p of k start at e hand is = subst (λ (q : Op). IsSound (of q)) (same_op d p o hand e) (subst (λ (w : Went). IsSound w) is (started_sound d ws pages k start at))
 
 pub told_sound : (d : DriverState) (got : Bool) → DriverInvariant d → IsSound (told d got)
 told_sound d got k = sound_of k.ram k.harts d (λ n. n) (told d got) (told_is k.ram k.harts d got k.driver)
@@ -112,9 +118,11 @@ lots_named ram f lots all = all_to (IsLotIn ram f) (λ (lot : Lot). lot.id.first
 pub given_named : (d : DriverState) (n : ℕ) → DriverInvariant d → n < d.fixed.slots → AreNamed (slot_given n d.lots)
 given_named d n k lt = lots_named k.ram d.fixed (slot_given n d.lots) (lots_given k.ram d.fixed n d.lots lt k.driver.lots)
 
-pub begun_named : (d : DriverState) (n : ℕ) (o : Op) (ws : List Owner) (pages : PageMap) (new : List Lot) → DriverInvariant d → d.phase ≡ Steps n → in_hand d ≡ Some o → ArePagesOf d.fixed pages → begin d.fixed d.lots ws pages o ≡ Ok new → AreNamed (d.lots ++ new)
-begun_named d n o ws pages new k p e of is =
-    let made = new_is k.ram k.harts d.fixed d.lots new ws pages o k.driver.fixed (steps_settled d n k p) k.driver.apart of (in_hand_is k.ram k.harts d o k.driver.fixed e).fits is in
+pub begun_named : (d : DriverState) (o : Op) (ws : List Owner) (pages : PageMap) (new : List Lot) → DriverInvariant d → in_hand d ≡ Some o → next_of d ≡ nexts.Start → ArePagesOf d.fixed pages
+    → begin d.fixed d.lots ws pages o ≡ Ok new → AreNamed (d.lots ++ new)
+begun_named d o ws pages new k e start of is =
+    let at = start_at d o k e start in
+    let made = new_is k.ram k.harts d.fixed d.lots new ws pages o k.driver.fixed (steps_settled d at.0 k at.1) k.driver.apart of (in_hand_is k.ram k.harts d o k.driver.fixed e).fits is in
     lots_named k.ram d.fixed (d.lots ++ new) (All-append (IsLotIn k.ram d.fixed) d.lots new k.driver.lots made.each)
 
 -- ---- what a call leaves is ready

@@ -31,14 +31,14 @@ use Rattle.nc_rules.specs.declared.lots.Side.TheVariants as sides
 use Rattle.nc_rules.specs.declared.steps.Step.{Step}
 use Rattle.nc_rules.specs.declared.steps.Turn.TheVariants as turns
 use Rattle.nc_rules.specs.Areas as areas
-use Rattle.nc_rules.specs.Areas.{calloc_begin, calloc_steps}
+use Rattle.nc_rules.specs.Areas.{calloc_steps}
 use Rattle.nc_rules.specs.Lots.{DriverConfig, lot_id, lot_named, area_lot, only_entry, is_lot, is_named, is_labelled, is_wanted, same_kind, map_id, lot_waits, some_lot_waits}
 use Rattle.nc_rules.specs.Mappings.{with_lot}
 use Rattle.nc_rules.specs.Operations.{meaning, begin, opening, plan_of}
 use Rattle.nc_rules.specs.Refusals.{◌>>=◌, wanted, some_or, unused, planned}
 use Rattle.nc_rules.specs.Start.{hart_spec}
-use Rattle.nc_rules.specs.Turns.{is_area, with_side, set_side, of_those, to_side}
-use Rattle.nc_rules.specs.Driver.{Went, stays, searches, with_lots, went_to, opened, placed, begun}
+use Rattle.nc_rules.specs.Turns.{is_area, with_side, set_side}
+use Rattle.nc_rules.specs.Driver.{Went, stays, searches, with_lots, opened, placed, begun}
 use Rattle.nc_rules.specs.World.{WorldState, driver_of}
 use Rattle.nc_scripts.specs.Drivers.{IsSettled}
 use Rattle.nc_scripts.proofs.DriverSteps.{passed}
@@ -65,19 +65,18 @@ use Rattle.nc_flatness.specs.Tokens.{is_lending_side}
 use Rattle.nc_flatness.proofs.plans.Copies.{is_copy}
 use Rattle.nc_flatness.proofs.worlds.Outcomes.{gone}
 use Rattle.nc_flat_starts.proofs.areas.AreaPlans.{IsZeroing, Allocates, allocate_so}
-use Rattle.nc_flat_starts.proofs.areas.AreaRows.{area_unslotted}
 use Rattle.nc_flat_starts.proofs.opening.Bases.{label_one, me_of, fixed_is}
 use Rattle.nc_flat_starts.proofs.opening.Befores.{IsBefore, its_entry}
-use Rattle.nc_flat_starts.proofs.opening.Calls.{wanted_side, gives_bytes, opened_so}
+use Rattle.nc_flat_starts.proofs.opening.Calls.{wanted_side, opened_so}
 use Rattle.nc_flat_starts.proofs.going.Effects.{zeroing}
 use Rattle.nc_flat_starts.proofs.turning.Frames.{IsPlace}
 use Rattle.nc_flat_starts.proofs.areas.FreshAreas.{IsFresh, area_block, fresh_pool, fresh_free, fresh_block, fresh_parts}
 use Rattle.nc_flat_starts.proofs.turning.Lots.{find_only, own_entry, loan_for, more_wanted}
-use Rattle.nc_flat_starts.proofs.turning.OpenRows.{sizes, went_work}
+use Rattle.nc_flat_starts.proofs.turning.OpenRows.{sizes}
 use Rattle.nc_flat_starts.proofs.turning.BackRows.{either_true}
-use Rattle.nc_flat_starts.proofs.opening.Opens.{Opens, opens_bytes}
+use Rattle.nc_flat_starts.proofs.opening.Opens.{IsTurn, Opens, opens_bytes, area_unslotted}
 use Rattle.nc_flat_starts.proofs.turning.Sides.{NamesArea, turned_lot, hand_set, set_others, set_its}
-use Rattle.nc_flat_starts.proofs.opening.Starts.{IsStart, short, holds_here, as_wanted}
+use Rattle.nc_flat_starts.proofs.opening.Starts.{IsStart, short, holds_here, refused_bytes}
 use Rattle.nc_flat_starts.proofs.opening.MakeStarts.{new_lent}
 use Rattle.nc_flat_starts.proofs.opening.Tokens.{none_named, lots_stand}
 
@@ -187,10 +186,9 @@ added_names sc f w h lots lot b kind other there named =
 -- ---- it opens
 
 alloc_opens : (sc : Scenario) (f : List ℕ) (w : WorldState) (h : HartNo) (o : Op) (went : Went) (lot : Lot) → IsAdded sc f w h o lot
-    → went.driver ≡ went_to (with_lots (driver_of w h.0) ((driver_of w h.0).lots ++ lot ∷ [])) (set_side sides.Lending lot.id ((driver_of w h.0).lots ++ lot ∷ [])) (driver_of w h.0).saw (calloc_steps (driver_of w h.0).fixed lot)
-    → went.moves.transfers ≡ of_those (to_side (driver_of w h.0).fixed.me sides.Lending) lot.id ((driver_of w h.0).lots ++ lot ∷ [])
+    → IsTurn w h o went ((driver_of w h.0).lots ++ lot ∷ []) lot sides.Lending (calloc_steps (driver_of w h.0).fixed lot)
     → Opens sc f w h o went ((driver_of w h.0).lots ++ lot ∷ []) lot sides.Lending (calloc_steps (driver_of w h.0).fixed lot)
-alloc_opens sc f w h o went lot a driver transfers =
+alloc_opens sc f w h o went lot a turn =
     let m = w.machine in
     let d = driver_of w h.0 in
     let fx = d.fixed in
@@ -212,35 +210,33 @@ alloc_opens sc f w h o went lot a driver transfers =
     let on_area : (i : ℕ) (e : Entry) (x : ℕ) → IsPlace lot i e x → covers (only_entry lot).span x ≡ true = λ i e x place. subst (λ (c : Entry). covers c.span x ≡ true) (sym (area_only ram fx lot i e new.is area place.entry).1) place.on in
     record {
       before = b;
-      hand = s.hand;
-      lends = s.lends;
-      no_copy = a.no_copy;
-      driver = driver ∙ went_work (with_lots d lots) now d.saw lot.id plan k.plan.ended;
-      transfers = transfers;
-      lent = refl;
-      of_plan = k.plan;
-      ends_it = λ lent. settling_lends lot.id plan k.settles;
-      unsent = unsent;
-      goes = k.goes;
+      turn = turn;
       was = λ i. Pool;
       owned = λ i e x place. fresh_pool sc f w h lot x fresh (on_area i e x place);
       mine = λ i n is. absurd cc;
       threads = λ i k is. absurd cc;
       unslotted = λ i e x place. area_unslotted sc f w h lot i e x s.flat s.lt new.is area place;
       area = λ i e x place over. area;
-      row = λ i e x v there place c known rest row.
-          let n = map_id h lot.id i in
-          let l = loan_for fx h lot i e in
-          let on = on_area i e x place in
-          let ahead : ahead_of c n l ≡ coming n lot.id plan = ap (λ (ss : List Step). coming n lot.id ss) rest in
-          let settles : settling lot.id (c.rest h.0) ≡ true = ap (settling lot.id) rest ∙ k.settles in
-          let allocating : AllocatingRow n v (ahead_of c n l) m x =
-          subst (λ (es : List QueueEntry). AllocatingRow n v es m x) (sym ahead)
-          (rows_begin.allocate m n v x (coming n lot.id plan) (k.behind n m x size on) (k.flushed n m x size on) (fresh_free sc f w h lot x fresh on) (λ g. fresh_block sc f w h lot x g fresh on) (λ g. fresh_parts sc f w h lot x g fresh on)
-          (none_named sc f w h lots lot n s.flat s.lt b.kept (λ other there named. its_entry sc f w h lots lot other n b there named (own_entry h lot i e place.entry)) unsent) row) in
-          subst (λ (q : Option Loan). LentRow c n q v m x) (sym known)
-          (either_true (is_area lot.kind) _ _ area (either_true (settling lot.id (c.rest h.0)) (AllocatingRow n v (ahead_of c n l) m x) (GivingRow n v (ahead_of c n l) m x) settles allocating));
-      shown = λ i e x place c known. inl refl;
+      its = record {
+        of_plan = k.plan;
+        ends_it = λ lent. settling_lends lot.id plan k.settles;
+        goes = k.goes;
+        unsent = unsent;
+        row = λ i e x v there place c known rest row.
+            let n = map_id h lot.id i in
+            let l = loan_for fx h lot i e in
+            let on = on_area i e x place in
+            let ahead : ahead_of c n l ≡ coming n lot.id plan = ap (λ (ss : List Step). coming n lot.id ss) rest in
+            let settles : settling lot.id (c.rest h.0) ≡ true = ap (settling lot.id) rest ∙ k.settles in
+            let allocating : AllocatingRow n v (ahead_of c n l) m x =
+            subst (λ (es : List QueueEntry). AllocatingRow n v es m x) (sym ahead)
+            (rows_begin.allocate m n v x (coming n lot.id plan) (k.behind n m x size on) (k.flushed n m x size on) (fresh_free sc f w h lot x fresh on)
+            (λ g. fresh_block sc f w h lot x g fresh on) (λ g. fresh_parts sc f w h lot x g fresh on)
+            (none_named sc f w h lots lot n s.flat s.lt b.kept (λ other there named. its_entry sc f w h lots lot other n b there named (own_entry h lot i e place.entry)) unsent) row) in
+            subst (λ (q : Option Loan). LentRow c n q v m x) (sym known)
+            (either_true (is_area lot.kind) _ _ area (either_true (settling lot.id (c.rest h.0)) (AllocatingRow n v (ahead_of c n l) m x) (GivingRow n v (ahead_of c n l) m x) settles allocating));
+        shown = λ i e x place c known. inl refl;
+      };
     }
 
 -- ---- the start
@@ -267,16 +263,18 @@ made_bytes sc f w h label count chan span a =
     let its : is_named label kinds.Area lot ≡ true = and_from (is_labelled label lot) (same_kind kinds.Area lot.kind) (eq-eqb lot.id.label.0 label.0 refl) refl in
     let named : lot_named lots label kinds.Area ≡ Some lot =
     find_only (is_named label kinds.Area) lots lot b.here its (λ other there is. label_one (length w.machine.cache.ram) fx lots other lot label kinds.Area b.there b.names refl there b.here is its) in
-    let so = opened_so d o lots (turns.Lend lot.id) plan (calloc_opening fx lots label count chan) (calloc_plan fx lots label count chan ∙ ap (with_lot [] (calloc_steps fx)) named) in
+    let so =
+    opened_so d lots o (turns.Lend lot.id) plan (record { turn_is = calloc_opening fx lots label count chan; plan_is = calloc_plan fx lots label count chan ∙ ap (with_lot [] (calloc_steps fx)) named }) in
     let none : some_lot_waits lots ≡ false =
     list_any_none lot_waits lots
     (All-append (λ (l : Lot). lot_waits l ≡ false) d.lots (lot ∷ []) (all_to IsSettled (λ (l : Lot). lot_waits l ≡ false) d.lots a.start.settled (λ l is. is.placed)) (All-cons (λ (l : Lot). lot_waits l ≡ false) lot [] refl (All-nil (λ (l : Lot). lot_waits l ≡ false)))) in
     subst (λ (k : Went). BytesStand sc f (gone w h w.machine k)) (sym (cond-false (some_lot_waits lots) (stays (searches (with_lots d lots) 0)) went none))
-    (opens_bytes sc f w h o went lots lot sides.Lending plan (alloc_opens sc f w h o went lot a so.driver so.transfers))
+    (opens_bytes sc f w h o went lots lot sides.Lending plan
+    (alloc_opens sc f w h o went lot a (record { hand = a.start.hand; lends = a.start.lends; no_copy = a.no_copy; lent = refl; driver = so.driver; transfers = so.transfers })))
 
 pub calloc_bytes : (sc : Scenario) (f : List ℕ) (w : WorldState) (h : HartNo) (label : Label) (count : ℕ) (chan : ChanNo) (r : Result (List Lot) Refusal) → IsStart sc f w h (ops.Calloc label count chan)
     → begin (driver_of w h.0).fixed (driver_of w h.0).lots w.owners w.pages (ops.Calloc label count chan) ≡ r → BytesStand sc f (gone w h w.machine (begun (driver_of w h.0) (ops.Calloc label count chan) r))
-calloc_bytes sc f w h label count chan (Err r) s e = gives_bytes sc f w h (ops.Calloc label count chan) r s.flat s.lt s.idle (as_wanted (driver_of w h.0).fixed (driver_of w h.0).lots s.still)
+calloc_bytes sc f w h label count chan (Err r) s e = refused_bytes sc f w h (ops.Calloc label count chan) r s
 calloc_bytes sc f w h label count chan (Ok new) s e =
     let d = driver_of w h.0 in
     let o = ops.Calloc label count chan in

@@ -1,14 +1,10 @@
 -- The rows of an area at its opening turn: it is given to its channel, or taken back from it.
 use Rattle.std.specs.Prelude.{Option, Some, Bool, true, false}
-use Rattle.std.proofs.Common.{◌≡◌, ◌⊎◌, ℕ, ◌<◌, List, length, refl, sym, ap, ◌∙◌, inl, inr, subst}
-use Rattle.std.proofs.lemmas.Bool.{false_from_ne_true}
-use Rattle.nc_num.specs.Places.{covers}
+use Rattle.std.proofs.Common.{◌≡◌, ◌⊎◌, ℕ, List, refl, sym, ap, ◌∙◌, inl, inr, subst}
 use Rattle.nc_num.specs.declared.names.HartNo.{HartNo}
-use Rattle.nc_num.specs.declared.places.Span.{Span}
 use Rattle.nc_queue.specs.Entries.{is_wo}
 use Rattle.nc_queue.specs.declared.entry.Entry.{Entry as QueueEntry}
 use Rattle.nc_queue.proofs.FenceLaws.{covered-none}
-use Rattle.nc_scen.specs.Regions.{slots_of}
 use Rattle.nc_scen.specs.declared.scenario.Scenario.{Scenario}
 use Rattle.nc_sg.specs.declared.list.Entry.{Entry}
 use Rattle.nc_ops.specs.declared.ops.Op.{Op}
@@ -20,34 +16,27 @@ use Rattle.nc_rules.specs.declared.lots.Side.TheVariants as sides
 use Rattle.nc_rules.specs.declared.steps.Step.{Step}
 use Rattle.nc_rules.specs.declared.steps.Turn.{Turn}
 use Rattle.nc_rules.specs.Areas.{fenced}
-use Rattle.nc_rules.specs.Lots.{DriverConfig, map_id, owner_of_side}
+use Rattle.nc_rules.specs.Lots.{map_id, owner_of_side}
 use Rattle.nc_rules.specs.Plans.{lending_end}
-use Rattle.nc_rules.specs.Turns.{is_area, set_side, of_those, to_side}
-use Rattle.nc_rules.specs.Driver.{Went, in_hand, with_lots, went_to}
+use Rattle.nc_rules.specs.Turns.{is_area, set_side}
+use Rattle.nc_rules.specs.Driver.{Went}
 use Rattle.nc_rules.specs.World.{WorldState, driver_of}
-use Rattle.nc_scripts.specs.Drivers.{IsLotIn}
-use Rattle.nc_holds.specs.Held.{slots_span}
-use Rattle.nc_holds.proofs.owners.Lots.{area_covers}
 use Rattle.nc_rows.specs.Ahead.{names, settling, coming}
 use Rattle.nc_rows.specs.Laws.{seen_at, place_of}
 use Rattle.nc_rows.specs.Places.{ThreadRow, PoolRow}
 use Rattle.nc_rows.specs.Rows.{Loan, Book, gives_here, ahead_of, Either, AllocatingRow, GivingRow, LentRow, DeviceRow, BackRow, Row}
 use Rattle.nc_row_plans.proofs.PlanBegins.{rows_begin}
 use Rattle.nc_flatness.specs.Books.{book_of}
-use Rattle.nc_flatness.specs.Lending.{is_lending}
-use Rattle.nc_flatness.proofs.plans.Copies.{is_copy}
-use Rattle.nc_flatness.specs.Flatness.{Flatness}
 use Rattle.nc_flatness.specs.Plans.{IsStill, IsAreaBack}
 use Rattle.nc_flatness.specs.Tokens.{is_lending_side}
 use Rattle.nc_flat_starts.proofs.areas.AreaPlans.{TakesAway, take_so}
-use Rattle.nc_flat_starts.proofs.opening.Bases.{IsBase, fixed_is, base_lot, base_entry}
-use Rattle.nc_flat_starts.proofs.opening.Befores.{base_before}
+use Rattle.nc_flat_starts.proofs.opening.Bases.{IsBase, base_entry}
 use Rattle.nc_flat_starts.proofs.turning.Frames.{IsPlace}
 use Rattle.nc_flat_starts.proofs.turning.Lots.{loan_for, own_entry}
-use Rattle.nc_flat_starts.proofs.turning.OpenRows.{either_false, went_work}
+use Rattle.nc_flat_starts.proofs.turning.OpenRows.{either_false}
 use Rattle.nc_flat_starts.proofs.going.PlanEnds.{LendingEnd, lending_end_so}
 use Rattle.nc_flat_starts.proofs.turning.BackRows.{AreKnown, either_true}
-use Rattle.nc_flat_starts.proofs.opening.Opens.{Opens, base_owner, side_thread, side_mine}
+use Rattle.nc_flat_starts.proofs.opening.Opens.{IsTurn, Opens, base_opens}
 use Rattle.nc_flat_starts.proofs.turning.Sides.{NamesArea, turned_lot, hand_set, set_others, set_its, set_named}
 use Rattle.nc_flat_starts.proofs.opening.Tokens.{none_named}
 
@@ -58,16 +47,6 @@ area_kind kinds.Area is = refl
 area_kind kinds.Single is = absurd cc
 area_kind kinds.List is = absurd cc
 area_kind kinds.Copy is = absurd cc
-
--- no byte of it is a slot's
-pub area_unslotted : (sc : Scenario) (f : List ℕ) (w : WorldState) (h : HartNo) (lot : Lot) (i : ℕ) (e : Entry) (x : ℕ) → Flatness sc f w → h.0 < length sc.harts → IsLotIn (length w.machine.cache.ram) (driver_of w h.0).fixed lot → is_area lot.kind ≡ true → IsPlace lot i e x
-    → covers (slots_of sc) x ≡ false
-area_unslotted sc f w h lot i e x flat lt is area place =
-    let fx = (driver_of w h.0).fixed in
-    let here = subst (λ (n : ℕ). h.0 < n) (sym flat.world.of_scenario.harts) lt in
-    let slots : slots_span fx ≡ slots_of sc = ap (λ (k : DriverConfig). slots_span k) (fixed_is sc f w h flat lt) in
-    false_from_ne_true (covers (slots_of sc) x)
-    (λ over. (flat.world.holds.each h.0 here).regions.slots_off_pool x (subst (λ (s : Span). covers s x ≡ true) (sym slots) over) (area_covers (length w.machine.cache.ram) fx lot i e x is area place.entry place.on))
 
 -- the lots of its name are it
 names_set : (sc : Scenario) (f : List ℕ) (w : WorldState) (h : HartNo) (lots : List Lot) (lot : Lot) (side : Side) → IsBase sc f w h lots lot → is_area lot.kind ≡ true → NamesArea lot.id (set_side side lot.id lots)
@@ -82,35 +61,21 @@ own_thread w h lot i x v own row = subst (λ (s : Side). Row (book_of w) (owner_
 own_seen : (w : WorldState) (h : HartNo) (lot : Lot) (i x : ℕ) → lot.side ≡ sides.Own → seen_at (book_of w) (owner_of_side (map_id h lot.id i) lot.side) x ≡ x
 own_seen w h lot i x own = ap (λ (s : Side). seen_at (book_of w) (owner_of_side (map_id h lot.id i) s) x) own
 
-pub give_opens : (sc : Scenario) (f : List ℕ) (w : WorldState) (h : HartNo) (o : Op) (went : Went) (lots : List Lot) (lot : Lot) → IsBase sc f w h lots lot → is_area lot.kind ≡ true → in_hand (driver_of w h.0) ≡ Some o → is_lending o ≡ true → is_copy o ≡ false → lot.side ≡ sides.Own
-    → went.driver ≡ went_to (with_lots (driver_of w h.0) lots) (set_side sides.Lending lot.id lots) (driver_of w h.0).saw (lending_end (driver_of w h.0).fixed lot) → went.moves.transfers ≡ of_those (to_side (driver_of w h.0).fixed.me sides.Lending) lot.id lots
+pub give_opens : (sc : Scenario) (f : List ℕ) (w : WorldState) (h : HartNo) (o : Op) (went : Went) (lots : List Lot) (lot : Lot) → IsBase sc f w h lots lot → is_area lot.kind ≡ true
+    → lot.side ≡ sides.Own → IsTurn w h o went lots lot sides.Lending (lending_end (driver_of w h.0).fixed lot)
     → Opens sc f w h o went lots lot sides.Lending (lending_end (driver_of w h.0).fixed lot)
-give_opens sc f w h o went lots lot b area hand lends no_copy own driver transfers =
+give_opens sc f w h o went lots lot b area own turn =
     let m = w.machine in
     let d = driver_of w h.0 in
     let fx = d.fixed in
     let now = set_side sides.Lending lot.id lots in
     let plan = lending_end fx lot in
-    let is = base_lot sc f w h lots lot b in
     let k : LendingEnd fx now (turned_lot sides.Lending lot) plan = lending_end_so fx now (turned_lot sides.Lending lot) true (hand_set fx sides.Lending true lots lot b.here area b.others) (set_others (IsStill fx) sides.Lending lot.id lots b.others) (set_named sides.Lending lot.id lots) in
-    record {
-      before = base_before sc f w h lots lot b;
-      hand = hand;
-      lends = lends;
-      no_copy = no_copy;
-      driver = driver ∙ went_work (with_lots d lots) now d.saw lot.id plan k.plan.ended;
-      transfers = transfers;
-      lent = refl;
+    base_opens sc f w h o went lots lot sides.Lending plan b turn (record {
       of_plan = k.plan;
       ends_it = λ lent. k.lends;
-      unsent = ap is_lending_side own;
       goes = k.goes;
-      was = λ i. owner_of_side (map_id h lot.id i) lot.side;
-      owned = λ i e x place. base_owner sc f w h lots lot i e x b place;
-      mine = λ i n same. side_mine h lot i n same;
-      threads = λ i k is. side_thread h lot i k is;
-      unslotted = λ i e x place. area_unslotted sc f w h lot i e x b.flat b.lt is area place;
-      area = λ i e x place over. area;
+      unsent = ap is_lending_side own;
       row = λ i e x v there place c known rest row.
           let n = map_id h lot.id i in
           let l = loan_for fx h lot i e in
@@ -123,7 +88,7 @@ give_opens sc f w h o went lots lot b area hand lends no_copy own driver transfe
           subst (λ (q : Option Loan). LentRow c n q v m x) (sym known)
           (either_true (is_area lot.kind) _ _ area (either_false (settling lot.id (c.rest h.0)) (AllocatingRow n v (ahead_of c n l) m x) (GivingRow n v (ahead_of c n l) m x) settles giving));
       shown = λ i e x place c known. inl (own_seen w h lot i x own);
-    }
+    })
 
 -- ---- it is taken back
 
@@ -148,40 +113,26 @@ taken_row w h lot i e x v (inl device) area known place row =
     rows_begin.take_area w.machine h.0 v x (either_first (is_area lot.kind) (PoolRow v w.machine x) _ area was)
 taken_row w h lot i e x v (inr own) area known place row = own_thread w h lot i x v own row
 
-pub take_opens : (sc : Scenario) (f : List ℕ) (w : WorldState) (h : HartNo) (o : Op) (went : Went) (lots : List Lot) (lot : Lot) (turn : Turn) → IsBase sc f w h lots lot → is_area lot.kind ≡ true → in_hand (driver_of w h.0) ≡ Some o → is_lending o ≡ true → is_copy o ≡ false → IsTakenSide lot → AreKnown w h lot → IsAreaBack lot.id turn
-    → went.driver ≡ went_to (with_lots (driver_of w h.0) lots) (set_side sides.Returning lot.id lots) (driver_of w h.0).saw (fenced turn) → went.moves.transfers ≡ of_those (to_side (driver_of w h.0).fixed.me sides.Returning) lot.id lots
+pub take_opens : (sc : Scenario) (f : List ℕ) (w : WorldState) (h : HartNo) (o : Op) (went : Went) (lots : List Lot) (lot : Lot) (turn : Turn) → IsBase sc f w h lots lot → is_area lot.kind ≡ true
+    → IsTakenSide lot → AreKnown w h lot → IsAreaBack lot.id turn → IsTurn w h o went lots lot sides.Returning (fenced turn)
     → Opens sc f w h o went lots lot sides.Returning (fenced turn)
-take_opens sc f w h o went lots lot turn b area hand lends no_copy side before back driver transfers =
+take_opens sc f w h o went lots lot turn b area side before back t =
     let m = w.machine in
     let d = driver_of w h.0 in
     let fx = d.fixed in
     let now = set_side sides.Returning lot.id lots in
     let plan = fenced turn in
-    let is = base_lot sc f w h lots lot b in
     let k : TakesAway fx now (turned_lot sides.Returning lot) plan = take_so fx now (turned_lot sides.Returning lot) turn (hand_set fx sides.Returning true lots lot b.here area b.others) (set_others (IsStill fx) sides.Returning lot.id lots b.others) back (names_set sc f w h lots lot sides.Returning b area) in
-    record {
-      before = base_before sc f w h lots lot b;
-      hand = hand;
-      lends = lends;
-      no_copy = no_copy;
-      driver = driver ∙ went_work (with_lots d lots) now d.saw lot.id plan k.plan.ended;
-      transfers = transfers;
-      lent = refl;
+    base_opens sc f w h o went lots lot sides.Returning plan b t (record {
       of_plan = k.plan;
       ends_it = λ lent. absurd cc;
-      unsent = taken_unsent lot side;
       goes = k.goes;
-      was = λ i. owner_of_side (map_id h lot.id i) lot.side;
-      owned = λ i e x place. base_owner sc f w h lots lot i e x b place;
-      mine = λ i n same. side_mine h lot i n same;
-      threads = λ i k is. side_thread h lot i k is;
-      unslotted = λ i e x place. area_unslotted sc f w h lot i e x b.flat b.lt is area place;
-      area = λ i e x place over. area;
+      unsent = taken_unsent lot side;
       row = λ i e x v there place c known rest row.
           let n = map_id h lot.id i in
           subst (λ (q : Option Loan). BackRow c n q v m x) (sym known) (either_true (is_area lot.kind) _ _ area (taken_row w h lot i e x v side area before place row));
       shown = λ i e x place c known. shown_by i e x place c known side;
-    }
+    })
   where
     shown_by : (i : ℕ) (e : Entry) (x : ℕ) → IsPlace lot i e x → (c : Book) → c.loan (map_id h lot.id i) ≡ Some (loan_for (driver_of w h.0).fixed h lot i e) → IsTakenSide lot
         → (seen_at (book_of w) (owner_of_side (map_id h lot.id i) lot.side) x ≡ x) ⊎ (place_of (c.loan (map_id h lot.id i)) x ≡ seen_at (book_of w) (owner_of_side (map_id h lot.id i) lot.side) x)

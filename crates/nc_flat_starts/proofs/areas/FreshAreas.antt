@@ -45,7 +45,7 @@ use Rattle.nc_flatness.proofs.books.Loans.{loan_is}
 use Rattle.nc_flatness.proofs.books.Owned.{mapped, owned_ram}
 use Rattle.nc_flatness.proofs.books.Seen.{place_ways, slot_block}
 use Rattle.nc_flatness.proofs.books.WholeBlocks.{in_whole, whole_slots}
-use Rattle.nc_flat_starts.proofs.areas.AreaRows.{area_unslotted}
+use Rattle.nc_flat_starts.proofs.opening.Opens.{area_unslotted}
 use Rattle.nc_flat_starts.proofs.opening.Bases.{fixed_is}
 use Rattle.nc_flat_starts.proofs.turning.Blocks.{none_in_block}
 use Rattle.nc_flat_starts.proofs.turning.Frames.{IsPlace}

@@ -169,15 +169,21 @@ search_bytes sc f w h o lots k c =
 
 -- ---- an opening
 
+-- an operation opens with this turn and goes on with this plan
+pub record OpensBy (d : DriverState) (lots : List Lot) (o : Op) (turn : Turn) (plan : List Step) : Type 0 where
+  pub turn_is : opening d.fixed lots o ≡ turn
+  pub plan_is : plan_of d.fixed lots o ≡ plan
+
 pub record IsOpened (d : DriverState) (lots : List Lot) (turn : Turn) (plan : List Step) (went : Went) : Type 0 where
   pub driver : went.driver ≡ went_to (with_lots d lots) (lots_after turn lots) d.saw plan
   pub transfers : went.moves.transfers ≡ transfers_of d.fixed.me lots turn
 
-pub opened_so : (d : DriverState) (o : Op) (lots : List Lot) (turn : Turn) (plan : List Step) → opening d.fixed lots o ≡ turn → plan_of d.fixed lots o ≡ plan → IsOpened d lots turn plan (opened (with_lots d lots) o)
+pub opened_so : (d : DriverState) (lots : List Lot) (o : Op) (turn : Turn) (plan : List Step) → OpensBy d lots o turn plan → IsOpened d lots turn plan (opened (with_lots d lots) o)
 unfolding turned_by
-opened_so d o lots turn plan first steps = record {
-  driver = ap (λ (t : Turn). went_to (with_lots d lots) (lots_after t lots) d.saw (plan_of d.fixed lots o)) first ∙ ap (λ (ss : List Step). went_to (with_lots d lots) (lots_after turn lots) d.saw ss) steps;
-  transfers = append-nil (transfers_of d.fixed.me lots (opening d.fixed lots o)) ∙ ap (λ (t : Turn). transfers_of d.fixed.me lots t) first;
+opened_so d lots o turn plan by = record {
+  driver = ap (λ (t : Turn). went_to (with_lots d lots) (lots_after t lots) d.saw (plan_of d.fixed lots o)) by.turn_is
+      ∙ ap (λ (ss : List Step). went_to (with_lots d lots) (lots_after turn lots) d.saw ss) by.plan_is;
+  transfers = append-nil (transfers_of d.fixed.me lots (opening d.fixed lots o)) ∙ ap (λ (t : Turn). transfers_of d.fixed.me lots t) by.turn_is;
 }
 
 -- ---- what map makes
@@ -244,15 +250,17 @@ made_lot sc f w h o lots id c made names =
     )
 
 -- the operation opens: its lot is lent
-new_opens : (sc : Scenario) (f : List ℕ) (w : WorldState) (h : HartNo) (o : Op) (lots : List Lot) (lot : Lot) → IsCall sc f w h o lots → IsNew (driver_of w h.0).fixed o lots lot → is_copy o ≡ false → is_area lot.kind ≡ false → some_lot_waits lots ≡ false → opening (driver_of w h.0).fixed lots o ≡ turns.Lend lot.id → plan_of (driver_of w h.0).fixed lots o ≡ lend_steps (driver_of w h.0).fixed lot
+new_opens : (sc : Scenario) (f : List ℕ) (w : WorldState) (h : HartNo) (o : Op) (lots : List Lot) (lot : Lot) → IsCall sc f w h o lots → IsNew (driver_of w h.0).fixed o lots lot → is_copy o ≡ false
+    → is_area lot.kind ≡ false → some_lot_waits lots ≡ false → OpensBy (driver_of w h.0) lots o (turns.Lend lot.id) (lend_steps (driver_of w h.0).fixed lot)
     → BytesStand sc f (gone w h w.machine (opened (with_lots (driver_of w h.0) lots) o))
-new_opens sc f w h o lots lot c new no_copy plain none first steps =
+new_opens sc f w h o lots lot c new no_copy plain none by =
     let d = driver_of w h.0 in
     let fx = d.fixed in
     let went = opened (with_lots d lots) o in
-    let so = opened_so d o lots (turns.Lend lot.id) (lend_steps fx lot) first steps in
+    let so = opened_so d lots o (turns.Lend lot.id) (lend_steps fx lot) by in
     let placed_so = all_at (λ (l : Lot). lot_waits l ≡ false) lots lot (none_any lot_waits lots none) new.here in
-    opens_bytes sc f w h o went lots lot sides.Lending (lend_steps fx lot) (lend_opens sc f w h o went lots lot (call_base sc f w h o lots lot c new.here placed_so new.others) plain c.hand c.lends no_copy (inl new.wanted) so.driver so.transfers)
+    opens_bytes sc f w h o went lots lot sides.Lending (lend_steps fx lot) (lend_opens sc f w h o went lots lot (call_base sc f w h o lots lot c new.here placed_so new.others) plain (inl new.wanted)
+    (record { hand = c.hand; lends = c.lends; no_copy = no_copy; lent = refl; driver = so.driver; transfers = so.transfers }))
 
 map_opening : (f : DriverConfig) (lots : List Lot) (label : Label) (buf off len : ℕ) (dir : Dir) (chan : ChanNo) → opening f lots (ops.Map label buf off len dir chan) ≡ turns.Lend (lot_id label 0)
 unfolding opening meaning mappings.map_single
@@ -377,7 +385,7 @@ copy_opens sc f w h k lots c made none =
     let found_t : find (is_lot target) lots ≡ Some dst = find_only (is_lot target) lots dst e.target_in its_name_t (λ other there is. same_named lots target other dst names there e.target_in is its_name_t) in
     let plan = copy_steps fx k.chan k.config src dst in
     let steps : plan_of fx lots o ≡ plan = copy_plan fx lots k ∙ ap (λ (q : Option Lot). copy_steps_of fx k.chan k.config q (find (is_lot target) lots)) found_s ∙ ap (copy_steps_of fx k.chan k.config (Some src)) found_t in
-    let so = opened_so d o lots turns.Stay plan (copy_opening fx lots k) steps in
+    let so = opened_so d lots o turns.Stay plan (record { turn_is = copy_opening fx lots k; plan_is = steps }) in
     let went = opened (with_lots d lots) o in
     let behind = stands (with_lots d lots) Work plan lots d.saw in
     let its_driver : went.driver ≡ behind = so.driver in
@@ -458,14 +466,20 @@ placed_bytes sc f w h o lots makes c made = by_waits (some_lot_waits lots) refl
         let r = made_lot sc f w h o lots (lot_id label 0) c made (ap made_names is) in
         let kind : same_kind kinds.Single r.0.kind ≡ true = subst (λ (p : Op). makes_kind p r.0.kind ≡ true) is r.3 in
         let named = new_named label kinds.Single r.0 r.2 kind in
-        new_opens sc f w h o lots r.0 c r.1 (ap is_copy is) (single_plain r.0.kind kind) none (ap (opening (driver_of w h.0).fixed lots) is ∙ map_opening (driver_of w h.0).fixed lots label buf off len dir chan ∙ ap turns.Lend (sym r.2))
-        (ap (plan_of (driver_of w h.0).fixed lots) is ∙ map_plan (driver_of w h.0).fixed lots label buf off len dir chan ∙ ap (with_lot [] (lend_steps (driver_of w h.0).fixed)) (call_named sc f w h o lots r.0 label kinds.Single c refl r.1.here named))
+        new_opens sc f w h o lots r.0 c r.1 (ap is_copy is) (single_plain r.0.kind kind) none (record {
+          turn_is = ap (opening (driver_of w h.0).fixed lots) is ∙ map_opening (driver_of w h.0).fixed lots label buf off len dir chan ∙ ap turns.Lend (sym r.2);
+          plan_is = ap (plan_of (driver_of w h.0).fixed lots) is ∙ map_plan (driver_of w h.0).fixed lots label buf off len dir chan
+              ∙ ap (with_lot [] (lend_steps (driver_of w h.0).fixed)) (call_named sc f w h o lots r.0 label kinds.Single c refl r.1.here named);
+        })
     new_goes (ListMap label es dir chan is) none =
         let r = made_lot sc f w h o lots (lot_id label 0) c made (ap made_names is) in
         let kind : same_kind kinds.List r.0.kind ≡ true = subst (λ (p : Op). makes_kind p r.0.kind ≡ true) is r.3 in
         let named = new_named label kinds.List r.0 r.2 kind in
-        new_opens sc f w h o lots r.0 c r.1 (ap is_copy is) (list_plain r.0.kind kind) none (ap (opening (driver_of w h.0).fixed lots) is ∙ list_opening (driver_of w h.0).fixed lots label es dir chan ∙ ap turns.Lend (sym r.2))
-        (ap (plan_of (driver_of w h.0).fixed lots) is ∙ list_plan (driver_of w h.0).fixed lots label es dir chan ∙ ap (with_lot [] (lend_steps (driver_of w h.0).fixed)) (call_named sc f w h o lots r.0 label kinds.List c refl r.1.here named))
+        new_opens sc f w h o lots r.0 c r.1 (ap is_copy is) (list_plain r.0.kind kind) none (record {
+          turn_is = ap (opening (driver_of w h.0).fixed lots) is ∙ list_opening (driver_of w h.0).fixed lots label es dir chan ∙ ap turns.Lend (sym r.2);
+          plan_is = ap (plan_of (driver_of w h.0).fixed lots) is ∙ list_plan (driver_of w h.0).fixed lots label es dir chan
+              ∙ ap (with_lot [] (lend_steps (driver_of w h.0).fixed)) (call_named sc f w h o lots r.0 label kinds.List c refl r.1.here named);
+        })
     new_goes (TwoEnds k is) none =
         subst (λ (p : Op). BytesStand sc f (gone w h w.machine (opened (with_lots (driver_of w h.0) lots) p))) (sym is)
         (copy_opens sc f w h k lots (subst (λ (p : Op). IsCall sc f w h p lots) is c) (subst (λ (p : Op). AreMade p lots) is made) none)

@@ -24,9 +24,8 @@ use Rattle.nc_rules.specs.Lots.{DriverConfig, lot_id, is_wanted, slots_held, ran
 use Rattle.nc_rules.specs.Refusals.{◌>>=◌, all_some, ranges_of, unused, owned_from, lendable, placeable}
 use Rattle.nc_rules.specs.Copies.{source, target}
 use Rattle.nc_rules.specs.Mappings as mappings
-use Rattle.nc_rules.specs.Mappings.{with_lot, needs_lot, unmap_turn, unmap_steps, to_cpu_turn, to_cpu_steps, to_dev_turn, to_dev_steps}
 use Rattle.nc_rules.specs.ScatterLists as lists
-use Rattle.nc_rules.specs.ScatterLists.{some_entries, unmap_sg_begin, unmap_sg_turn, unmap_sg_steps}
+use Rattle.nc_rules.specs.ScatterLists.{some_entries}
 use Rattle.nc_rules.specs.Operations.{meaning, begin}
 use Rattle.nc_rules.specs.Driver.{begun}
 use Rattle.nc_rules.specs.World.{WorldState, driver_of}
@@ -49,11 +48,11 @@ use Rattle.nc_flatness.specs.Flatness.{is_mapping, IsMapping, makes_kind, IsStil
 use Rattle.nc_flatness.specs.Plans.{IsStill}
 use Rattle.nc_flatness.specs.Tokens.{is_lending_side}
 use Rattle.nc_flatness.proofs.worlds.Outcomes.{gone}
-use Rattle.nc_flat_starts.proofs.opening.Calls.{wanted_side, IsCall, gives_bytes, Makes, OneMap, ListMap, TwoEnds, placed_bytes}
+use Rattle.nc_flat_starts.proofs.opening.Calls.{wanted_side, IsCall, Makes, OneMap, ListMap, TwoEnds, placed_bytes}
 use Rattle.nc_flat_starts.proofs.going.CopyRanges.{copy_begun, ranged_begun}
 use Rattle.nc_flat_starts.proofs.turning.Lots.{more_wanted}
 use Rattle.nc_flat_starts.proofs.opening.Tokens.{WereLent}
-use Rattle.nc_flat_starts.proofs.opening.Starts.{IsStart, short, holds_here, as_wanted}
+use Rattle.nc_flat_starts.proofs.opening.Starts.{IsStart, short, holds_here, as_wanted, refused_bytes}
 
 -- ---- the lots that it makes
 
@@ -159,5 +158,5 @@ made_call sc f w h o new s makes e =
     )
 
 pub map_bytes : (sc : Scenario) (f : List ℕ) (w : WorldState) (h : HartNo) (o : Op) (r : Result (List Lot) Refusal) → IsStart sc f w h o → Makes o → begin (driver_of w h.0).fixed (driver_of w h.0).lots w.owners w.pages o ≡ r → BytesStand sc f (gone w h w.machine (begun (driver_of w h.0) o r))
-map_bytes sc f w h o (Err r) s makes e = gives_bytes sc f w h o r s.flat s.lt s.idle (as_wanted (driver_of w h.0).fixed (driver_of w h.0).lots s.still)
+map_bytes sc f w h o (Err r) s makes e = refused_bytes sc f w h o r s
 map_bytes sc f w h o (Ok new) s makes e = let c = made_call sc f w h o new s makes e in placed_bytes sc f w h o ((driver_of w h.0).lots ++ new) makes c.0 c.1

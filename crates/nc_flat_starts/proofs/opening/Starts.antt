@@ -1,8 +1,8 @@
 -- The start of an operation that lends or takes back, and the ways in which it opens for a lot that the hart has.
-use Rattle.std.specs.Prelude.{Some, All, true, false}
+use Rattle.std.specs.Prelude.{Some, All, Result, Ok, Err, Bool, true, false, if◌then◌else◌}
 use Rattle.std.specs.List.{list_any}
-use Rattle.std.proofs.Common.{◌≡◌, ℕ, ◌<◌, List, [], ◌++◌, length, refl, sym, ap, ◌∙◌, inl, inr, subst, arith}
-use Rattle.std.proofs.lemmas.Bool.{both_ways, cond-false, and_parts}
+use Rattle.std.proofs.Common.{◌≡◌, ◌⊎◌, ℕ, ◌<◌, List, [], ◌++◌, length, refl, sym, ap, ◌∙◌, inl, inr, subst, arith}
+use Rattle.std.proofs.lemmas.Bool.{both_ways, cond-true, cond-false, and_parts}
 use Rattle.std.proofs.lemmas.List.{append-nil}
 use Rattle.std.proofs.lemmas.List.Folds.{list_any_none}
 use Rattle.nc_num.specs.declared.names.HartNo.{HartNo}
@@ -12,9 +12,12 @@ use Rattle.nc_queue.specs.Rules.{lends}
 use Rattle.nc_plan.specs.Plans.{In}
 use Rattle.nc_ops.specs.declared.ops.Op.{Op}
 use Rattle.nc_scen.specs.declared.scenario.Scenario.{Scenario}
+use Rattle.nc_rules.specs.declared.answers.Refusal.{Refusal}
+use Rattle.nc_rules.specs.declared.answers.Refusal.TheVariants as refusals
 use Rattle.nc_rules.specs.declared.lots.Kind.{Kind}
 use Rattle.nc_rules.specs.declared.lots.Kind.TheVariants as kinds
 use Rattle.nc_rules.specs.declared.lots.Lot.{Lot}
+use Rattle.nc_rules.specs.declared.lots.Side.{Side}
 use Rattle.nc_rules.specs.declared.lots.Side.TheVariants as sides
 use Rattle.nc_rules.specs.declared.steps.Phase.{Phase}
 use Rattle.nc_rules.specs.declared.steps.Phase.TheVariants.{Steps}
@@ -23,14 +26,18 @@ use Rattle.nc_rules.specs.declared.steps.Turn.{Turn}
 use Rattle.nc_rules.specs.declared.steps.Turn.TheVariants as turns
 use Rattle.nc_rules.specs.Lots.{DriverConfig, lot_named, is_lot, is_named, is_labelled, is_wanted, same_kind, lot_waits, some_lot_waits}
 use Rattle.nc_rules.specs.Turns.{is_area}
+use Rattle.nc_rules.specs.Refusals.{named}
+use Rattle.nc_rules.specs.Mappings.{with_lot, needs_lot}
 use Rattle.nc_rules.specs.Plans.{lend_steps, return_steps, ending}
 use Rattle.nc_rules.specs.Machine.{queue_of}
-use Rattle.nc_rules.specs.Operations.{opening, plan_of, waited_label}
-use Rattle.nc_rules.specs.Driver.{DriverState, Went, in_hand, stays, searches, with_lots, opened, placed}
+use Rattle.nc_rules.specs.Operations.{waited_label}
+use Rattle.nc_rules.specs.Driver.{DriverState, Went, in_hand, stays, searches, with_lots, opened, placed, give_up, begun}
 use Rattle.nc_rules.specs.EventTouches.{owner_of}
 use Rattle.nc_rules.specs.World.{WorldState, driver_of}
 use Rattle.nc_scripts.specs.Drivers.{IsSettled, IsPhase}
+use Rattle.nc_scripts.proofs.DriverSteps.{passed}
 use Rattle.nc_scripts.proofs.Lists.{all_in, all_to, found}
+use Rattle.nc_scripts.proofs.NewLots.{behind_test, some_is}
 use Rattle.nc_holds.specs.Holds.{DriverHolds}
 use Rattle.nc_holds.specs.Rests.{RestAt}
 use Rattle.nc_holds.proofs.events.From.{everyone_from}
@@ -49,7 +56,7 @@ use Rattle.nc_flatness.proofs.plans.Rests.{lend_light}
 use Rattle.nc_flatness.proofs.tokens.Tokens.{lent_sent, sent_queued}
 use Rattle.nc_flat_starts.proofs.opening.Bases.{IsBase, kind_is}
 use Rattle.nc_flat_starts.proofs.opening.Befores.{driven}
-use Rattle.nc_flat_starts.proofs.opening.Calls.{IsCall, call_base, opened_so}
+use Rattle.nc_flat_starts.proofs.opening.Calls.{IsCall, call_base, gives_bytes, OpensBy, opened_so}
 use Rattle.nc_flat_starts.proofs.turning.OpenRows.{lend_opens}
 use Rattle.nc_flat_starts.proofs.turning.BackRows.{AreKnown, return_opens}
 use Rattle.nc_flat_starts.proofs.opening.Opens.{opens_bytes}
@@ -152,20 +159,91 @@ known_now sc f w h lot b lent i e there = entry_loan sc f w h.0 lot i e b.flat (
 pub none_waits : (sc : Scenario) (f : List ℕ) (w : WorldState) (h : HartNo) (o : Op) → IsStart sc f w h o → some_lot_waits (driver_of w h.0).lots ≡ false
 none_waits sc f w h o s = list_any_none lot_waits (driver_of w h.0).lots (all_to IsSettled (λ (lot : Lot). lot_waits lot ≡ false) (driver_of w h.0).lots s.settled (λ lot is. is.placed))
 
+-- how it opens over the lots that the hart has, and that the bytes stand behind that
+abbrev pub OpensSo : WorldState → HartNo → Op → Turn → List Step → Type 0
+OpensSo w h o turn plan = OpensBy (driver_of w h.0) (driver_of w h.0).lots o turn plan
+
+abbrev pub OpenStands : Scenario → List ℕ → WorldState → HartNo → Op → Type 0
+OpenStands sc f w h o = BytesStand sc f (gone w h w.machine (opened (with_lots (driver_of w h.0) (driver_of w h.0).lots) o))
+
 -- no lot is made
-pub as_made : (sc : Scenario) (f : List ℕ) (w : WorldState) (h : HartNo) (o : Op) (new : List Lot) → IsStart sc f w h o → [] ≡ new → BytesStand sc f (gone w h w.machine (opened (with_lots (driver_of w h.0) (driver_of w h.0).lots) o)) → BytesStand sc f (gone w h w.machine (placed (with_lots (driver_of w h.0) ((driver_of w h.0).lots ++ new)) o))
+pub as_made : (sc : Scenario) (f : List ℕ) (w : WorldState) (h : HartNo) (o : Op) (new : List Lot) → IsStart sc f w h o → [] ≡ new → OpenStands sc f w h o
+    → BytesStand sc f (gone w h w.machine (placed (with_lots (driver_of w h.0) ((driver_of w h.0).lots ++ new)) o))
 as_made sc f w h o new s none bytes =
     let d = driver_of w h.0 in
     subst (λ (ls : List Lot). BytesStand sc f (gone w h w.machine (placed (with_lots d ls) o))) (sym (append-nil d.lots) ∙ ap (λ (ls : List Lot). d.lots ++ ls) none)
     (subst (λ (went : Went). BytesStand sc f (gone w h w.machine went)) (sym (cond-false (some_lot_waits d.lots) (stays (searches (with_lots d d.lots) 0)) (opened (with_lots d d.lots) o) (none_waits sc f w h o s))) bytes)
 
+-- ---- an operation on the lot of a label
+
+-- it is refused
+pub refused_bytes : (sc : Scenario) (f : List ℕ) (w : WorldState) (h : HartNo) (o : Op) (r : Refusal) → IsStart sc f w h o → BytesStand sc f (gone w h w.machine (give_up (driver_of w h.0) o r))
+refused_bytes sc f w h o r s = gives_bytes sc f w h o r s.flat s.lt s.idle (as_wanted (driver_of w h.0).fixed (driver_of w h.0).lots s.still)
+
+-- it has found its lot, of which this holds, and makes none
+pub record Finds (lots new : List Lot) (label : Label) (kind : Kind) (Of : Lot → Type 0) : Type 0 where
+  pub lot : Lot
+  pub is : lot_named lots label kind ≡ Some lot
+  pub none : [] ≡ new
+  pub so : Of lot
+
+-- it needs that lot alone
+pub needs_its_lot : (lots new : List Lot) (label : Label) (kind : Kind) → needs_lot (named lots label kind) ≡ Ok new → Finds lots new label kind (λ lot. Unit {0})
+needs_its_lot lots new label kind e =
+    let p = passed (named lots label kind) (λ lot. Ok []) new e in
+    record { lot = p.value; is = some_is refusals.NoLabel (lot_named lots label kind) p.value p.first; none = behind_test (named lots label kind) new e; so = tt }
+
+-- the bytes stand behind it where they do as it opens with the lot that it finds
+pub found_bytes : (sc : Scenario) (f : List ℕ) (w : WorldState) (h : HartNo) (o : Op) (label : Label) (kind : Kind)
+    (Of : Lot → Type 0) (turn : Lot → Turn) (plan : Lot → List Step) (r : Result (List Lot) Refusal) → IsStart sc f w h o → is_copy o ≡ false → waited_label o ≡ Some label
+    → ((new : List Lot) → r ≡ Ok new → Finds (driver_of w h.0).lots new label kind Of)
+    → OpensSo w h o (with_lot turns.Stay turn (lot_named (driver_of w h.0).lots label kind)) (with_lot [] plan (lot_named (driver_of w h.0).lots label kind))
+    → ((lot : Lot) → IsThere sc f w h lot label kind → Of lot → OpensSo w h o (turn lot) (plan lot) → OpenStands sc f w h o)
+    → BytesStand sc f (gone w h w.machine (begun (driver_of w h.0) o r))
+found_bytes sc f w h o label kind Of turn plan (Err r) s no_copy waits finds by opens = refused_bytes sc f w h o r s
+found_bytes sc f w h o label kind Of turn plan (Ok new) s no_copy waits finds by opens =
+    let b = finds new refl in
+    let t = there_so sc f w h o b.lot label kind s no_copy waits b.is in
+    as_made sc f w h o new s b.none (opens b.lot t b.so (record { turn_is = by.turn_is ∙ ap (with_lot turns.Stay turn) b.is; plan_is = by.plan_is ∙ ap (with_lot [] plan) b.is }))
+
+-- a choice between what is done with a lot that its channel has, and with one that is on this side
+abbrev pub by_side : {A : Type 0} → (Side → Bool) → (Lot → A) → (Lot → A) → Lot → A
+by_side test of_channel of_hart lot = if test lot.side then of_hart lot else of_channel lot
+
+-- it needs that lot alone, and opens by whether its channel has it, or its hart on this side
+pub sided_bytes : (sc : Scenario) (f : List ℕ) (w : WorldState) (h : HartNo) (o : Op) (label : Label) (kind : Kind)
+    (own : Side) (test : Side → Bool) (its_turn my_turn : Lot → Turn) (its_plan my_plan : Lot → List Step) (r : Result (List Lot) Refusal)
+    → IsStart sc f w h o → is_copy o ≡ false → waited_label o ≡ Some label → test sides.Device ≡ false → test own ≡ true → needs_lot (named (driver_of w h.0).lots label kind) ≡ r
+    → ((lot : Lot) → IsThere sc f w h lot label kind → (lot.side ≡ sides.Device) ⊎ (lot.side ≡ own))
+    → OpensSo w h o (with_lot turns.Stay (by_side test its_turn my_turn) (lot_named (driver_of w h.0).lots label kind))
+    (with_lot [] (by_side test its_plan my_plan) (lot_named (driver_of w h.0).lots label kind))
+    → ((lot : Lot) → IsThere sc f w h lot label kind → lot.side ≡ sides.Device → OpensSo w h o (its_turn lot) (its_plan lot) → OpenStands sc f w h o)
+    → ((lot : Lot) → IsThere sc f w h lot label kind → lot.side ≡ own → OpensSo w h o (my_turn lot) (my_plan lot) → OpenStands sc f w h o)
+    → BytesStand sc f (gone w h w.machine (begun (driver_of w h.0) o r))
+sided_bytes sc f w h o label kind own test its_turn my_turn its_plan my_plan r s no_copy waits off on e sides_so by its mine =
+    found_bytes sc f w h o label kind (λ lot. Unit {0}) (by_side test its_turn my_turn) (by_side test its_plan my_plan) r s no_copy waits
+    (λ new is. needs_its_lot (driver_of w h.0).lots new label kind (e ∙ is)) by
+    (λ lot t so opens. elim (sides_so lot t) [
+      | inl device ↦
+          let t_off = ap test device ∙ off in
+          its lot t device (record {
+            turn_is = opens.turn_is ∙ cond-false (test lot.side) (my_turn lot) (its_turn lot) t_off;
+            plan_is = opens.plan_is ∙ cond-false (test lot.side) (my_plan lot) (its_plan lot) t_off;
+          })
+      | inr here ↦
+          let t_on = ap test here ∙ on in
+          mine lot t here (record {
+            turn_is = opens.turn_is ∙ cond-true (test lot.side) (my_turn lot) (its_turn lot) t_on;
+            plan_is = opens.plan_is ∙ cond-true (test lot.side) (my_plan lot) (its_plan lot) t_on;
+          })
+    ])
+
 -- the ways in which a lot's operation opens
-pub stays_bytes : (sc : Scenario) (f : List ℕ) (w : WorldState) (h : HartNo) (o : Op) → IsStart sc f w h o → opening (driver_of w h.0).fixed (driver_of w h.0).lots o ≡ turns.Stay → plan_of (driver_of w h.0).fixed (driver_of w h.0).lots o ≡ []
-    → BytesStand sc f (gone w h w.machine (opened (with_lots (driver_of w h.0) (driver_of w h.0).lots) o))
-stays_bytes sc f w h o s first steps =
+pub stays_bytes : (sc : Scenario) (f : List ℕ) (w : WorldState) (h : HartNo) (o : Op) → IsStart sc f w h o → OpensSo w h o turns.Stay [] → OpenStands sc f w h o
+stays_bytes sc f w h o s by =
     let d = driver_of w h.0 in
     let went = opened (with_lots d d.lots) o in
-    let so = opened_so d o d.lots turns.Stay [] first steps in
+    let so = opened_so d d.lots o turns.Stay [] by in
     quiet_bytes sc f w h went (record {
       flat = s.flat;
       lt = s.lt;
@@ -182,29 +260,31 @@ stays_bytes sc f w h o s first steps =
       copying = idle_copy sc f w h w.machine went 0 (driven sc f w h s.flat s.lt) (ap (λ (k : DriverState). k.phase) so.driver);
     })
 
-pub lends_bytes : (sc : Scenario) (f : List ℕ) (w : WorldState) (h : HartNo) (o : Op) (lot : Lot) (label : Label) (kind : Kind) → IsStart sc f w h o → is_copy o ≡ false → IsThere sc f w h lot label kind → is_area kind ≡ false → lot.side ≡ sides.Synced → opening (driver_of w h.0).fixed (driver_of w h.0).lots o ≡ turns.Lend lot.id
-    → plan_of (driver_of w h.0).fixed (driver_of w h.0).lots o ≡ lend_steps (driver_of w h.0).fixed lot → BytesStand sc f (gone w h w.machine (opened (with_lots (driver_of w h.0) (driver_of w h.0).lots) o))
-lends_bytes sc f w h o lot label kind s no_copy t plain synced first steps =
+pub lends_bytes : (sc : Scenario) (f : List ℕ) (w : WorldState) (h : HartNo) (o : Op) (lot : Lot) (label : Label) (kind : Kind) → IsStart sc f w h o → is_copy o ≡ false
+    → IsThere sc f w h lot label kind → is_area kind ≡ false → lot.side ≡ sides.Synced
+    → OpensSo w h o (turns.Lend lot.id) (lend_steps (driver_of w h.0).fixed lot) → OpenStands sc f w h o
+lends_bytes sc f w h o lot label kind s no_copy t plain synced by =
     let d = driver_of w h.0 in
     let went = opened (with_lots d d.lots) o in
-    let so = opened_so d o d.lots (turns.Lend lot.id) (lend_steps d.fixed lot) first steps in
-    opens_bytes sc f w h o went d.lots lot sides.Lending (lend_steps d.fixed lot) (lend_opens sc f w h o went d.lots lot t.base (ap is_area t.its_kind ∙ plain) s.hand s.lends no_copy (inr synced) so.driver so.transfers)
+    let so = opened_so d d.lots o (turns.Lend lot.id) (lend_steps d.fixed lot) by in
+    opens_bytes sc f w h o went d.lots lot sides.Lending (lend_steps d.fixed lot) (lend_opens sc f w h o went d.lots lot t.base (ap is_area t.its_kind ∙ plain) (inr synced)
+    (record { hand = s.hand; lends = s.lends; no_copy = no_copy; lent = refl; driver = so.driver; transfers = so.transfers }))
 
 pub returns_bytes : (sc : Scenario) (f : List ℕ) (w : WorldState) (h : HartNo) (o : Op) (lot : Lot) (label : Label) (kind : Kind) (turn : Turn) → IsStart sc f w h o → is_copy o ≡ false → IsThere sc f w h lot label kind → is_area kind ≡ false → lot.side ≡ sides.Device → IsBack lot.id turn → (turn ≡ turns.Sync lot.id → kind ≡ kinds.Single)
-    → opening (driver_of w h.0).fixed (driver_of w h.0).lots o ≡ turns.Return lot.id → plan_of (driver_of w h.0).fixed (driver_of w h.0).lots o ≡ ending turn (return_steps (driver_of w h.0).fixed lot)
-    → BytesStand sc f (gone w h w.machine (opened (with_lots (driver_of w h.0) (driver_of w h.0).lots) o))
-returns_bytes sc f w h o lot label kind turn s no_copy t plain device back single first steps =
+    → OpensSo w h o (turns.Return lot.id) (ending turn (return_steps (driver_of w h.0).fixed lot)) → OpenStands sc f w h o
+returns_bytes sc f w h o lot label kind turn s no_copy t plain device back single by =
     let d = driver_of w h.0 in
     let went = opened (with_lots d d.lots) o in
     let plan = ending turn (return_steps d.fixed lot) in
-    let so = opened_so d o d.lots (turns.Return lot.id) plan first steps in
+    let so = opened_so d d.lots o (turns.Return lot.id) plan by in
     opens_bytes sc f w h o went d.lots lot sides.Returning plan
-    (return_opens sc f w h o went d.lots lot turn t.base (ap is_area t.its_kind ∙ plain) s.hand s.lends no_copy device (known_now sc f w h lot t.base (ap is_wanted device)) back (λ sync. t.its_kind ∙ single sync) so.driver so.transfers)
+    (return_opens sc f w h o went d.lots lot turn t.base (ap is_area t.its_kind ∙ plain) device (known_now sc f w h lot t.base (ap is_wanted device)) back (λ sync. t.its_kind ∙ single sync)
+    (record { hand = s.hand; lends = s.lends; no_copy = no_copy; lent = refl; driver = so.driver; transfers = so.transfers }))
 
-pub ends_bytes : (sc : Scenario) (f : List ℕ) (w : WorldState) (h : HartNo) (o : Op) (lot : Lot) (label : Label) (kind : Kind) → IsStart sc f w h o → IsThere sc f w h lot label kind → is_area kind ≡ false → lot.side ≡ sides.Synced → opening (driver_of w h.0).fixed (driver_of w h.0).lots o ≡ turns.End lot.id
-    → plan_of (driver_of w h.0).fixed (driver_of w h.0).lots o ≡ [] → BytesStand sc f (gone w h w.machine (opened (with_lots (driver_of w h.0) (driver_of w h.0).lots) o))
-ends_bytes sc f w h o lot label kind s t plain synced first steps =
+pub ends_bytes : (sc : Scenario) (f : List ℕ) (w : WorldState) (h : HartNo) (o : Op) (lot : Lot) (label : Label) (kind : Kind) → IsStart sc f w h o → IsThere sc f w h lot label kind
+    → is_area kind ≡ false → lot.side ≡ sides.Synced → OpensSo w h o (turns.End lot.id) [] → OpenStands sc f w h o
+ends_bytes sc f w h o lot label kind s t plain synced by =
     let d = driver_of w h.0 in
     let went = opened (with_lots d d.lots) o in
-    let so = opened_so d o d.lots (turns.End lot.id) [] first steps in
+    let so = opened_so d d.lots o (turns.End lot.id) [] by in
     end_bytes sc f w h went d.lots lot (record { base = t.base; synced = synced; plain = ap is_area t.its_kind ∙ plain; driver = so.driver; transfers = so.transfers })

@@ -22,8 +22,8 @@ use Rattle.nc_rules.specs.declared.steps.Turn.{Turn}
 use Rattle.nc_rules.specs.declared.steps.Turn.TheVariants as turns
 use Rattle.nc_rules.specs.Lots.{map_id, owner_of_side}
 use Rattle.nc_rules.specs.Plans.{return_steps, ending}
-use Rattle.nc_rules.specs.Turns.{is_area, set_side, of_those, to_side}
-use Rattle.nc_rules.specs.Driver.{Went, in_hand, with_lots, went_to}
+use Rattle.nc_rules.specs.Turns.{is_area, set_side}
+use Rattle.nc_rules.specs.Driver.{Went}
 use Rattle.nc_rules.specs.World.{WorldState, driver_of}
 use Rattle.nc_rows.specs.Ahead.{is_full, coming}
 use Rattle.nc_rows.specs.Laws.{seen_at, place_of}
@@ -33,17 +33,14 @@ use Rattle.nc_row_plans.proofs.LendingPlans.{some_append}
 use Rattle.nc_row_plans.proofs.PlanBegins.{rows_begin}
 use Rattle.nc_row_plans.proofs.ReturningPlans.{plans_return}
 use Rattle.nc_flatness.specs.Books.{book_of}
-use Rattle.nc_flatness.specs.Lending.{is_lending}
-use Rattle.nc_flatness.proofs.plans.Copies.{is_copy}
 use Rattle.nc_flatness.specs.Plans.{IsStill, IsBack}
 use Rattle.nc_flatness.specs.Tokens.{is_lending_side}
-use Rattle.nc_flat_starts.proofs.opening.Bases.{IsBase, base_beside, base_planned}
-use Rattle.nc_flat_starts.proofs.opening.Befores.{base_before}
+use Rattle.nc_flat_starts.proofs.opening.Bases.{IsBase, base_planned}
 use Rattle.nc_flat_starts.proofs.turning.Lots.{loan_for}
-use Rattle.nc_flat_starts.proofs.opening.Opens.{Opens, base_owner, side_thread, side_mine}
+use Rattle.nc_flat_starts.proofs.opening.Opens.{IsTurn, Opens, base_opens}
 use Rattle.nc_flat_starts.proofs.going.ReturnsGo.{Returns, return_so, back_turns}
 use Rattle.nc_flat_starts.proofs.turning.Sides.{hand_set, set_others, set_its, turned_lot}
-use Rattle.nc_flat_starts.proofs.turning.OpenRows.{dropping, sizes, place_at, place_is, went_work, either_false, either_second, unpooled}
+use Rattle.nc_flat_starts.proofs.turning.OpenRows.{dropping, sizes, place_at, place_is, either_false, either_second}
 
 -- ---- a lot that is taken back
 
@@ -63,10 +60,11 @@ dir_map ToDev p q r s first second row = first refl row
 dir_map Both p q r s first second row = second refl row
 dir_map FromDev p q r s first second row = second refl row
 
-pub return_opens : (sc : Scenario) (f : List ℕ) (w : WorldState) (h : HartNo) (o : Op) (went : Went) (lots : List Lot) (lot : Lot) (turn : Turn) → IsBase sc f w h lots lot → is_area lot.kind ≡ false → in_hand (driver_of w h.0) ≡ Some o → is_lending o ≡ true → is_copy o ≡ false → lot.side ≡ sides.Device → AreKnown w h lot → IsBack lot.id turn → (turn ≡ turns.Sync lot.id → lot.kind ≡ Single)
-    → went.driver ≡ went_to (with_lots (driver_of w h.0) lots) (set_side sides.Returning lot.id lots) (driver_of w h.0).saw (ending turn (return_steps (driver_of w h.0).fixed lot)) → went.moves.transfers ≡ of_those (to_side (driver_of w h.0).fixed.me sides.Returning) lot.id lots
+pub return_opens : (sc : Scenario) (f : List ℕ) (w : WorldState) (h : HartNo) (o : Op) (went : Went) (lots : List Lot) (lot : Lot) (turn : Turn) → IsBase sc f w h lots lot → is_area lot.kind ≡ false
+    → lot.side ≡ sides.Device → AreKnown w h lot → IsBack lot.id turn → (turn ≡ turns.Sync lot.id → lot.kind ≡ Single)
+    → IsTurn w h o went lots lot sides.Returning (ending turn (return_steps (driver_of w h.0).fixed lot))
     → Opens sc f w h o went lots lot sides.Returning (ending turn (return_steps (driver_of w h.0).fixed lot))
-return_opens sc f w h o went lots lot turn b plain hand lends no_copy device before is_back single driver transfers =
+return_opens sc f w h o went lots lot turn b plain device before is_back single t =
     let m = w.machine in
     let d = driver_of w h.0 in
     let fx = d.fixed in
@@ -79,24 +77,11 @@ return_opens sc f w h o went lots lot turn b plain hand lends no_copy device bef
     let k : Returns fx now (turned_lot sides.Returning lot) plan =
     return_so fx now (turned_lot sides.Returning lot) turn (hand_set fx sides.Returning false lots lot b.here plain b.others) (set_others (IsStill fx) sides.Returning lot.id lots b.others) (record { size = planned.size; some = planned.some; off = planned.off; slots = planned.slots; buffers = planned.buffers }) drops_so is_back
     (λ sync other there named. ap (λ (l : Lot). l.kind) (set_its sides.Returning lots lot other b.each.knows.names b.here there named) ∙ single sync) in
-    record {
-      before = base_before sc f w h lots lot b;
-      hand = hand;
-      lends = lends;
-      no_copy = no_copy;
-      driver = driver ∙ went_work (with_lots d lots) now d.saw lot.id plan k.plan.ended;
-      transfers = transfers;
-      lent = refl;
+    base_opens sc f w h o went lots lot sides.Returning plan b t (record {
       of_plan = k.plan;
       ends_it = λ lent. absurd cc;
-      unsent = ap is_lending_side device;
       goes = k.goes;
-      was = λ i. owner_of_side (map_id h lot.id i) lot.side;
-      owned = λ i e x place. base_owner sc f w h lots lot i e x b place;
-      mine = λ i n is. side_mine h lot i n is;
-      threads = λ i k is. side_thread h lot i k is;
-      unslotted = λ i e x place. (base_beside sc f w h lots lot i e x b plain place.entry place.on).1;
-      area = λ i e x place over. unpooled sc f w h lots lot i e x b plain place over;
+      unsent = ap is_lending_side device;
       row = λ i e x v there place c known rest row.
           let n = map_id h lot.id i in
           let l = loan_for fx h lot i e in
@@ -117,4 +102,4 @@ return_opens sc f w h o went lots lot turn b plain hand lends no_copy device bef
           let n = map_id h lot.id i in
           let before_seen : seen_at (book_of w) (owner_of_side n lot.side) x ≡ place_of ((book_of w).loan n) x = ap (λ (s : Side). seen_at (book_of w) (owner_of_side n s) x) device in
           inr (ap (λ (q : Option Loan). place_of q x) (known ∙ sym (before i e place.entry)) ∙ sym before_seen);
-    }
+    })

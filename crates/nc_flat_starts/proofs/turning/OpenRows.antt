@@ -1,8 +1,8 @@
 -- The rows of a lot that is lent, at its opening turn.
 use Rattle.std.specs.Prelude.{Option, Some, None, ◌+◌, ◌-◌, ◌/◌, Bool, true, false, slice_get}
 use Rattle.std.specs.List.{list_any}
-use Rattle.std.proofs.Common.{◌≡◌, ◌⊎◌, ℕ, ◌<◌, ◌≤◌, List, [], ◌∷◌, length, refl, sym, ap, ◌∙◌, inl, inr, subst, arith}
-use Rattle.std.proofs.lemmas.Bool.{cases_lt, both_ways, cond-false}
+use Rattle.std.proofs.Common.{◌≡◌, ◌⊎◌, ℕ, ◌<◌, ◌≤◌, List, [], length, refl, sym, ap, inl, inr, subst, arith}
+use Rattle.std.proofs.lemmas.Bool.{cases_lt, cond-false}
 use Rattle.std.proofs.lemmas.List.{get_or_past}
 use Rattle.std.proofs.lemmas.Option.{slice_get_within}
 use Rattle.nc_num.specs.Memory.{byte}
@@ -20,29 +20,26 @@ use Rattle.nc_hart.specs.HartState.{HartState}
 use Rattle.nc_lines.specs.Lines.{gives_at}
 use Rattle.nc_plan.specs.Parts.{comes_back}
 use Rattle.nc_plan.proofs.PlanLaws.{in_map}
-use Rattle.nc_scen.specs.Regions.{pool_of, slots_of}
+use Rattle.nc_scen.specs.Regions.{slots_of}
 use Rattle.nc_scen.specs.declared.scenario.Scenario.{Scenario}
 use Rattle.nc_sg.specs.Lists as sg
 use Rattle.nc_sg.specs.declared.list.Entry.{Entry}
 use Rattle.nc_ops.specs.declared.ops.Op.{Op}
 use Rattle.nc_rules.specs.declared.lots.Lot.{Lot}
-use Rattle.nc_rules.specs.declared.lots.LotId.{LotId}
 use Rattle.nc_rules.specs.declared.lots.Side.{Side}
 use Rattle.nc_rules.specs.declared.lots.Side.TheVariants as sides
-use Rattle.nc_rules.specs.declared.steps.Phase.TheVariants.{Work}
-use Rattle.nc_rules.specs.declared.steps.Seen.{Seen}
 use Rattle.nc_rules.specs.declared.steps.Step.{Step}
 use Rattle.nc_rules.specs.Lots.{DriverConfig, map_id, owner_of_side}
 use Rattle.nc_rules.specs.Machine.{MachineState, no_hart, queue_of}
 use Rattle.nc_rules.specs.Plans.{lend_steps}
 use Rattle.nc_rules.specs.Start.{hart_spec}
-use Rattle.nc_rules.specs.Turns.{is_area, set_side, of_those, to_side}
-use Rattle.nc_rules.specs.Driver.{DriverState, Went, in_hand, stands, with_lots, went_to}
+use Rattle.nc_rules.specs.Turns.{is_area, set_side}
+use Rattle.nc_rules.specs.Driver.{Went}
 use Rattle.nc_rules.specs.World.{WorldState, driver_of}
 use Rattle.nc_scripts.specs.Drivers.{BouncesSo}
 use Rattle.nc_holds.proofs.lists.Members.{all_at, at_get}
 use Rattle.nc_holds.proofs.owners.Lots.{entry_in}
-use Rattle.nc_rows.specs.Ahead.{ends, coming}
+use Rattle.nc_rows.specs.Ahead.{coming}
 use Rattle.nc_rows.specs.Laws.{seen_at}
 use Rattle.nc_rows.specs.Places.{ThreadRow, CalmRow, Alone}
 use Rattle.nc_rows.specs.Rows.{Loan, back, gives_here, gives_block, ahead_of, Either, ByDir, LendingTo, LendingFrom, LentRow, SyncedRow, Row}
@@ -51,20 +48,17 @@ use Rattle.nc_row_plans.specs.Plans.{WritesBack, DropsBlocks, IsPlaceOf, IsEntry
 use Rattle.nc_row_plans.proofs.LendingPlans.{plans_lend}
 use Rattle.nc_row_plans.proofs.PlanBegins.{rows_begin}
 use Rattle.nc_flatness.specs.Books.{book_of}
-use Rattle.nc_flatness.specs.Lending.{is_lending}
-use Rattle.nc_flatness.proofs.plans.Copies.{is_copy}
 use Rattle.nc_flatness.specs.Flatness.{Flatness}
 use Rattle.nc_flatness.specs.Plans.{IsStill, device_of}
 use Rattle.nc_flatness.proofs.plans.Rests.{lend_lends}
 use Rattle.nc_flatness.specs.Tokens.{is_lending_side}
 use Rattle.nc_flatness.proofs.books.Seen.{slot_at, slot_slots, slot_whole}
-use Rattle.nc_flat_starts.proofs.opening.Bases.{IsBase, fixed_is, IsMember, member_of, member_lot, member_owner, base_beside, member_beside, base_entry, base_planned, member_unseen, waits_not, slot_in, in_slot_so}
-use Rattle.nc_flat_starts.proofs.opening.Befores.{base_before}
+use Rattle.nc_flat_starts.proofs.opening.Bases.{IsBase, fixed_is, IsMember, member_of, member_lot, member_owner, member_beside, base_entry, base_planned, member_unseen, waits_not, slot_in, in_slot_so}
 use Rattle.nc_flat_starts.proofs.turning.Blocks.{none_in_block, whole_range}
 use Rattle.nc_flat_starts.proofs.going.Effects.{writes, drops}
 use Rattle.nc_flat_starts.proofs.turning.Frames.{IsPlace}
 use Rattle.nc_flat_starts.proofs.turning.Lots.{loan_for, own_entry}
-use Rattle.nc_flat_starts.proofs.opening.Opens.{Opens, base_owner, side_thread, side_mine}
+use Rattle.nc_flat_starts.proofs.opening.Opens.{IsTurn, Opens, base_opens}
 use Rattle.nc_flat_starts.proofs.going.PlansGo.{Lends, lend_so}
 use Rattle.nc_flat_starts.proofs.turning.Sides.{hand_set, set_others, set_named, turned_lot}
 use Rattle.nc_flat_starts.proofs.opening.Tokens.{AreKept, none_named}
@@ -205,10 +199,6 @@ ready_so sc f w h lots lot i e x ahead b kept place side stores true bounced =
     inr (slot_calm sc f w h lots lot i e s.k y b kept place.entry side bounced s.slot s.on s.over, stores y bounced over)
 ready_so sc f w h lots lot i e x ahead b kept place side stores false direct = inl (sym (direct_same (driver_of w h.0).fixed e x direct place.on))
 
-pub went_work : (d : DriverState) (lots : List Lot) (saw : Seen) (id : LotId) (plan : List Step) → list_any (ends id) plan ≡ true → went_to d lots saw plan ≡ stands d Work plan lots saw
-went_work d lots saw id [] some = absurd cc
-went_work d lots saw id (s ∷ rest) some = refl
-
 -- the second of two where the first does not hold
 pub either_false : (t : Bool) (p q : Type 0) → t ≡ false → q → Either t p q
 either_false true p q is x = absurd cc
@@ -218,14 +208,10 @@ pub either_second : (t : Bool) (p q : Type 0) → t ≡ false → Either t p q �
 either_second true p q is x = absurd cc
 either_second false p q is x = x
 
--- no place of a mapping is the pool's
-pub unpooled : (sc : Scenario) (f : List ℕ) (w : WorldState) (h : HartNo) (lots : List Lot) (lot : Lot) (i : ℕ) (e : Entry) (x : ℕ) → IsBase sc f w h lots lot → is_area lot.kind ≡ false → IsPlace lot i e x → covers (pool_of sc) x ≡ true → is_area lot.kind ≡ true
-unpooled sc f w h lots lot i e x b plain place over = absurd (both_ways (covers (pool_of sc) x) (base_beside sc f w h lots lot i e x b plain place.entry place.on).0 over)
-
-pub lend_opens : (sc : Scenario) (f : List ℕ) (w : WorldState) (h : HartNo) (o : Op) (went : Went) (lots : List Lot) (lot : Lot) → IsBase sc f w h lots lot → is_area lot.kind ≡ false → in_hand (driver_of w h.0) ≡ Some o → is_lending o ≡ true → is_copy o ≡ false → IsReadySide lot
-    → went.driver ≡ went_to (with_lots (driver_of w h.0) lots) (set_side sides.Lending lot.id lots) (driver_of w h.0).saw (lend_steps (driver_of w h.0).fixed lot) → went.moves.transfers ≡ of_those (to_side (driver_of w h.0).fixed.me sides.Lending) lot.id lots
+pub lend_opens : (sc : Scenario) (f : List ℕ) (w : WorldState) (h : HartNo) (o : Op) (went : Went) (lots : List Lot) (lot : Lot) → IsBase sc f w h lots lot → is_area lot.kind ≡ false → IsReadySide lot
+    → IsTurn w h o went lots lot sides.Lending (lend_steps (driver_of w h.0).fixed lot)
     → Opens sc f w h o went lots lot sides.Lending (lend_steps (driver_of w h.0).fixed lot)
-lend_opens sc f w h o went lots lot b plain hand lends no_copy side driver transfers =
+lend_opens sc f w h o went lots lot b plain side turn =
     let m = w.machine in
     let d = driver_of w h.0 in
     let fx = d.fixed in
@@ -237,24 +223,11 @@ lend_opens sc f w h o went lots lot b plain hand lends no_copy side driver trans
     let z = b.flat.world.machine.block_size in
     let k : Lends fx now (turned_lot sides.Lending lot) plan =
     lend_so fx now (turned_lot sides.Lending lot) (hand_set fx sides.Lending false lots lot b.here plain b.others) (set_others (IsStill fx) sides.Lending lot.id lots b.others) (set_named sides.Lending lot.id lots) (record { size = planned.size; some = planned.some; off = planned.off; slots = planned.slots; buffers = planned.buffers }) writes_so in
-    record {
-      before = base_before sc f w h lots lot b;
-      hand = hand;
-      lends = lends;
-      no_copy = no_copy;
-      driver = driver ∙ went_work (with_lots d lots) now d.saw lot.id plan k.plan.ended;
-      transfers = transfers;
-      lent = refl;
+    base_opens sc f w h o went lots lot sides.Lending plan b turn (record {
       of_plan = k.plan;
       ends_it = λ lent. lend_lends fx lot;
-      unsent = ready_unsent lot side;
       goes = k.goes;
-      was = λ i. owner_of_side (map_id h lot.id i) lot.side;
-      owned = λ i e x place. base_owner sc f w h lots lot i e x b place;
-      mine = λ i n is. side_mine h lot i n is;
-      threads = λ i k is. side_thread h lot i k is;
-      unslotted = λ i e x place. (base_beside sc f w h lots lot i e x b plain place.entry place.on).1;
-      area = λ i e x place over. unpooled sc f w h lots lot i e x b plain place over;
+      unsent = ready_unsent lot side;
       row = λ i e x v there place c known rest row.
           let n = map_id h lot.id i in
           let l = loan_for fx h lot i e in
@@ -278,4 +251,4 @@ lend_opens sc f w h o went lots lot b plain hand lends no_copy side driver trans
         | inl wanted ↦ ap (λ (s : Side). seen_at (book_of w) (owner_of_side (map_id h lot.id i) s) x) wanted
         | inr synced ↦ ap (λ (s : Side). seen_at (book_of w) (owner_of_side (map_id h lot.id i) s) x) synced
       ]);
-    }
+    })
