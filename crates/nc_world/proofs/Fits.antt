@@ -15,8 +15,7 @@ use Rattle.nc_rules.specs.World.{WorldState, driver_of}
 use Rattle.nc_scripts.specs.Drivers.{NextIsThere, NextFitsLast, IsSeenAt, EachStaysDriver}
 use Rattle.nc_scripts.specs.Scripts.{IsDriven}
 use Rattle.nc_holds.specs.Holds.{Holds, DriverHolds}
-use Rattle.nc_driver.specs.Kept.{IsOver}
-use Rattle.nc_world.specs.Steps.{NextFits, IsBeside, step_seen}
+use Rattle.nc_world.specs.Steps.{NextFits, step_seen}
 
 -- ---- what a driver does next is there
 
@@ -77,15 +76,3 @@ seen_at m h (nexts.Op op) = seen_issued (nexts.Op op) (issue_answer m h.0 op)
 seen_at m h (nexts.Claim chan) = seen_claim chan.0 (grantee_of m chan.0)
 seen_at m h (nexts.Poll chan) = tt
 seen_at m h (nexts.Take buf) = tt
-
--- the owners and the pages are those of each driver's scenario
-over : (w : WorldState) (h : ℕ) → Holds w → h < length w.machine.harts → IsOver w.owners (driver_of w h)
-over w h is lt =
-    let of = is.each h lt in
-    record {
-      buffers = λ k d below. omega (arith, is.owners, (of.driver.fixed.buffers k d below).ends);
-      lots = λ k d below j e under. omega (arith, is.owners, ((of.driver.lots k d below).entries j e under).range.ends);
-    }
-
-pub beside : (w : WorldState) (h : ℕ) → Holds w → h < length w.machine.harts → IsBeside (driver_of w h) w.owners w.pages
-beside w h is lt = record { over = over w h is lt; pages_of = (is.each h lt).setting.pages }
