@@ -41,7 +41,8 @@ next_fits w h law is lt =
     fits_of ram harts d.fixed w.machine h (next_of d) (driven_of w h of) stays.next_there (stays.next_fits (length (hart_of w.machine h).last) of.loads)
 
 -- the slot word that a driver tries next is there
-word_by : (w : WorldState) (h : ℕ) (n : Next) (k : ℕ) → NextIsThere (length w.machine.cache.ram) (length w.machine.harts) (driver_of w h).fixed n → searched n ≡ Some k → k < (driver_of w h).fixed.slots
+word_by : (w : WorldState) (h : ℕ) (n : Next) (k : ℕ) → NextIsThere (length w.machine.cache.ram) (length w.machine.harts) (driver_of w h).fixed n → searched n ≡ Some k
+    → k < (driver_of w h).fixed.slots
 word_by w h (nexts.Search j) k there e = subst (λ (x : ℕ). x < (driver_of w h).fixed.slots) (cc) there
 word_by w h nexts.End k there e = absurd (cc)
 word_by w h nexts.Start k there e = absurd (cc)

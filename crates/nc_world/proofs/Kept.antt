@@ -36,14 +36,16 @@ use Rattle.nc_world.proofs.Shapes.{next_shape}
 
 -- ---- what an event moves
 
-moved_by : {w : WorldState} {e : Event} {h : HartNo} {machine : MachineState} {went : Went} {slots : List (Option HartNo)} {touch : Option Touch} {recorded : List Record} → Goes w e h machine went slots touch recorded
-    → MayMove w h (outcome w e).slots (outcome w e).moves → MayMove w h slots went.moves
+moved_by : {w : WorldState} {e : Event} {h : HartNo} {machine : MachineState} {went : Went} {slots : List (Option HartNo)} {touch : Option Touch} {recorded : List Record}
+    → Goes w e h machine went slots touch recorded → MayMove w h (outcome w e).slots (outcome w e).moves → MayMove w h slots went.moves
 moved_by {w = w} {h = h} by may = subst (λ (o : Outcome). MayMove w h o.slots o.moves) by.is may
 
 -- what hart h's driver moves may be moved in a world with these owners, grants, slot words and pages
-pub may_carry : (p : Parts) {b : WorldState} {e : Event} {h : HartNo} {machine : MachineState} {went : Went} {slots words : List (Option HartNo)} {touch : Option Touch} {recorded : List Record} {m : Moved}
-    → MovesMayBeMade → IsMachine p.machine.machine → IsSound p → IsThere (length p.machine.machine.harts) p.machine.machine.size (length p.machine.machine.cache.ram) e → mover e ≡ Some h
-    → Goes (state_of p) e h machine went slots touch recorded → m ≡ went.moves → b.owners ≡ p.book.owners → b.grants ≡ p.book.grants → words ≡ slots → b.pages ≡ p.pages → MayMove b h words m
+pub may_carry : (p : Parts) {b : WorldState} {e : Event} {h : HartNo} {machine : MachineState} {went : Went} {slots words : List (Option HartNo)} {touch : Option Touch}
+    {recorded : List Record} {m : Moved} → MovesMayBeMade → IsMachine p.machine.machine → IsSound p
+    → IsThere (length p.machine.machine.harts) p.machine.machine.size (length p.machine.machine.cache.ram) e
+    → mover e ≡ Some h → Goes (state_of p) e h machine went slots touch recorded → m ≡ went.moves → b.owners ≡ p.book.owners → b.grants ≡ p.book.grants → words ≡ slots
+    → b.pages ≡ p.pages → MayMove b h words m
 may_carry p {b = b} {e = e} {h = h} {slots = slots} {m = m} law machine sound there hart by moves owners grants words pages =
     let w = state_of p in
     let may : MayMove w h slots m = subst (λ (x : Moved). MayMove w h slots x) (sym moves) (moved_by by (law w e h machine sound.holds there by.may hart)) in
@@ -60,8 +62,8 @@ may_carry p {b = b} {e = e} {h = h} {slots = slots} {m = m} law machine sound th
 
 -- ---- the world after an event
 
-kept_next : (p : Parts) (e : Event) → EventsKeepHolding → EachStaysDriver → IsMachine p.machine.machine → IsSound p → IsThere (length p.machine.machine.harts) p.machine.machine.size (length p.machine.machine.cache.ram) e
-    → WorldInvariant (next (state_of p) e) p.size p.pool
+kept_next : (p : Parts) (e : Event) → EventsKeepHolding → EachStaysDriver → IsMachine p.machine.machine → IsSound p
+    → IsThere (length p.machine.machine.harts) p.machine.machine.size (length p.machine.machine.cache.ram) e → WorldInvariant (next (state_of p) e) p.size p.pool
 kept_next p e law stays machine is there =
     let w = state_of p in
     let shape : SameShape w.machine (next w e).machine = next_shape w e stays machine is.holds there in

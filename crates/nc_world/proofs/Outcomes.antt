@@ -57,7 +57,9 @@ going w h (nexts.Poll chan) may = refl
 going w h (nexts.Take buf) may = refl
 
 step_is : (w : WorldState) (h : HartNo) (n : Next) → is_going n ≡ true
-    → step_outcome w h n ≡ goes w h (step_machine w.machine h n) (went_on (driver_of w h.0) w.owners w.pages n (step_seen w.machine h n)) w.slots (step_touch w h n) (act_records w.machine h (is_script (driver_of w h.0).phase) n)
+    → step_outcome w h n
+    ≡ goes w h (step_machine w.machine h n) (went_on (driver_of w h.0) w.owners w.pages n (step_seen w.machine h n)) w.slots (step_touch w h n)
+    (act_records w.machine h (is_script (driver_of w h.0).phase) n)
 unfolding step_outcome start_outcome op_outcome claim_outcome poll_outcome take_outcome
 step_is w h nexts.End going = absurd (cc)
 step_is w h (nexts.Search k) going = absurd (cc)
@@ -68,7 +70,8 @@ step_is w h (nexts.Poll chan) going = refl
 step_is w h (nexts.Take buf) going = refl
 
 pub issue_goes : (w : WorldState) (h : HartNo) (n : Next) {may by : Bool} {machine : MachineState} {owners : List Owner} {saw : Seen} {touch : Option Touch}
-    → n ≡ next_of (driver_of w h.0) → may ≡ may_issue_step w h → may ≡ true → machine ≡ w.machine → owners ≡ w.owners → saw ≡ step_seen w.machine h n → touch ≡ step_touch w h n → by ≡ is_script (driver_of w h.0).phase
+    → n ≡ next_of (driver_of w h.0) → may ≡ may_issue_step w h → may ≡ true → machine ≡ w.machine → owners ≡ w.owners
+    → saw ≡ step_seen w.machine h n → touch ≡ step_touch w h n → by ≡ is_script (driver_of w h.0).phase
     → Goes w (events.Issue h) h (step_machine machine h n) (went_on (driver_of w h.0) owners w.pages n saw) w.slots touch (act_records machine h by n)
 unfolding enabled outcome
 issue_goes w h n next issue may machine owners saw touch by =
@@ -81,7 +84,8 @@ issue_goes w h n next issue may machine owners saw touch by =
 
 -- ---- a slot search
 
-pub try_goes : (w : WorldState) (h : HartNo) (k : ℕ) {at : Option ℕ} {holder : Option HartNo} {free : Bool} → at ≡ searching (driver_of w h.0) → at ≡ Some k → holder ≡ holder_of w.slots k → free ≡ is_none holder
+pub try_goes : (w : WorldState) (h : HartNo) (k : ℕ) {at : Option ℕ} {holder : Option HartNo} {free : Bool}
+    → at ≡ searching (driver_of w h.0) → at ≡ Some k → holder ≡ holder_of w.slots k → free ≡ is_none holder
     → Goes w (events.Try h) h w.machine (told (driver_of w h.0) free) (tried w.slots h k) None (try_records h k holder)
 unfolding enabled outcome try_outcome
 try_goes w h k at found held free =
@@ -91,7 +95,8 @@ try_goes w h k at found held free =
       is = rw (free, held) (ap (at_word w (try_outcome w h)) here);
     }
 
-pub tell_goes : (w : WorldState) (h : HartNo) (k : ℕ) {at : Option ℕ} {holder : Option HartNo} {got free : Bool} → at ≡ searching (driver_of w h.0) → at ≡ Some k → holder ≡ holder_of w.slots k → free ≡ got_word got holder
+pub tell_goes : (w : WorldState) (h : HartNo) (k : ℕ) {at : Option ℕ} {holder : Option HartNo} {got free : Bool}
+    → at ≡ searching (driver_of w h.0) → at ≡ Some k → holder ≡ holder_of w.slots k → free ≡ got_word got holder
     → Goes w (events.Told h got) h w.machine (told (driver_of w h.0) free) (told_slots got w.slots h k) None (told_records h k got holder)
 unfolding enabled outcome told_outcome
 tell_goes w h k {got = got} at found held free =
@@ -103,7 +108,8 @@ tell_goes w h k {got = got} at found held free =
 
 -- ---- a drain
 
-pub token_goes : (w : WorldState) (h : HartNo) (i : ℕ) (label : Label) (first count : ℕ) {machine : MachineState} → leaving w.machine h.0 i ≡ Some (entries.Lend label first count) → machine ≡ w.machine
+pub token_goes : (w : WorldState) (h : HartNo) (i : ℕ) (label : Label) (first count : ℕ) {machine : MachineState}
+    → leaving w.machine h.0 i ≡ Some (entries.Lend label first count) → machine ≡ w.machine
     → Goes w (events.Drain h i) h (drain_next machine h.0 i) (lent (driver_of w h.0) label first) w.slots None (drain_records machine h (entries.Lend label first count))
 unfolding enabled outcome drain_outcome
 token_goes w h i label first count out machine = record { may = ap is_some out; is = rw machine (ap (drain_outcome w h i) out) }
@@ -116,7 +122,8 @@ leaves_plain w h m t rs (entries.Reg chan off width value) plain = refl
 leaves_plain w h m t rs (entries.Mail buf to) plain = refl
 leaves_plain w h m t rs (entries.Mark pred succ) plain = refl
 
-pub entry_runs : (w : WorldState) (h : HartNo) (i : ℕ) (e : Entry) {machine : MachineState} {touch : Option Touch} → leaving w.machine h.0 i ≡ Some e → is_token e ≡ false → machine ≡ w.machine → touch ≡ drain_touch w h e
+pub entry_runs : (w : WorldState) (h : HartNo) (i : ℕ) (e : Entry) {machine : MachineState} {touch : Option Touch}
+    → leaving w.machine h.0 i ≡ Some e → is_token e ≡ false → machine ≡ w.machine → touch ≡ drain_touch w h e
     → Runs w (events.Drain h i) (drain_next machine h.0 i) touch (drain_records machine h e)
 unfolding enabled outcome drain_outcome
 entry_runs w h i e out plain machine touch = record {
@@ -130,7 +137,8 @@ entry_runs w h i e out plain machine touch = record {
 told_transfers : (s : ℕ) (r : Option (List BusRec)) (bus : List BusRec) → r ≡ Some bus → answer_records s r ≡ transfer_records s bus
 told_transfers s r bus is = ap (answer_records s) is
 
-pub fill_runs : (w : WorldState) (h : HartNo) (b : Block) {machine : MachineState} {size : ℕ} {r : Option (List BusRec)} {bus ts : List BusRec} → machine ≡ w.machine → r ≡ fill_answer machine h.0 b.0 → r ≡ Some bus → size ≡ w.machine.size → ts ≡ bus
+pub fill_runs : (w : WorldState) (h : HartNo) (b : Block) {machine : MachineState} {size : ℕ} {r : Option (List BusRec)} {bus ts : List BusRec}
+    → machine ≡ w.machine → r ≡ fill_answer machine h.0 b.0 → r ≡ Some bus → size ≡ w.machine.size → ts ≡ bus
     → Runs w (events.Fill h b) (fill_next machine h.0 b.0) None (transfer_records size ts)
 unfolding enabled outcome
 fill_runs w h b {bus = bus} machine answer some size ts =
@@ -140,7 +148,8 @@ fill_runs w h b {bus = bus} machine answer some size ts =
       is = rw (machine, size, ts) (ap (λ (rs : List Record). runs w (fill_next w.machine h.0 b.0) None rs) (told_transfers w.machine.size _ bus is));
     }
 
-pub evict_runs : (w : WorldState) (h : HartNo) (b : Block) {size : ℕ} {r : Option (List BusRec)} {bus ts : List BusRec} → r ≡ evict_answer w.machine h.0 b.0 → r ≡ Some bus → size ≡ w.machine.size → ts ≡ bus
+pub evict_runs : (w : WorldState) (h : HartNo) (b : Block) {size : ℕ} {r : Option (List BusRec)} {bus ts : List BusRec}
+    → r ≡ evict_answer w.machine h.0 b.0 → r ≡ Some bus → size ≡ w.machine.size → ts ≡ bus
     → Runs w (events.Evict h b) (evict_next w.machine h.0 b.0) None (transfer_records size ts)
 unfolding enabled outcome
 evict_runs w h b {bus = bus} answer some size ts =
@@ -150,7 +159,8 @@ evict_runs w h b {bus = bus} answer some size ts =
       is = rw (size, ts) (ap (λ (rs : List Record). runs w (evict_next w.machine h.0 b.0) None rs) (told_transfers w.machine.size _ bus is));
     }
 
-pub fill_off : (w : WorldState) (h : HartNo) (b : Block) {machine : MachineState} {r : Option (List BusRec)} → machine ≡ w.machine → r ≡ fill_answer machine h.0 b.0 → r ≡ None → enabled w (events.Fill h b) ≡ false
+pub fill_off : (w : WorldState) (h : HartNo) (b : Block) {machine : MachineState} {r : Option (List BusRec)}
+    → machine ≡ w.machine → r ≡ fill_answer machine h.0 b.0 → r ≡ None → enabled w (events.Fill h b) ≡ false
 unfolding enabled
 fill_off w h b machine answer none = fill_may_not w.machine h.0 b.0 (ap (λ (m : MachineState). fill_answer m h.0 b.0) (sym machine) ∙ sym answer ∙ none)
 
@@ -172,17 +182,20 @@ moves_by w c Read = refl
 moves_by w c Write = refl
 
 runs_by : (w : WorldState) (c : ChanNo) (access : Access)
-    → outcome w (transaction c access) ≡ runs w (chan_next w.machine c.0 access) (transaction_touch w c access (chan_step w.machine c.0 access)) (chan_records c access (chan_step w.machine c.0 access))
+    → outcome w (transaction c access)
+    ≡ runs w (chan_next w.machine c.0 access) (transaction_touch w c access (chan_step w.machine c.0 access)) (chan_records c access (chan_step w.machine c.0 access))
 unfolding outcome
 runs_by w c Read = refl
 runs_by w c Write = refl
 
-pub transact_runs : (w : WorldState) (c : ChanNo) (access : Access) {t : ChanStep} {idle : Bool} {touch : Option Touch} → t ≡ chan_step w.machine c.0 access → idle ≡ is_idle_step t → idle ≡ false → touch ≡ transaction_touch_in w.owners w.grants c access t
+pub transact_runs : (w : WorldState) (c : ChanNo) (access : Access) {t : ChanStep} {idle : Bool} {touch : Option Touch}
+    → t ≡ chan_step w.machine c.0 access → idle ≡ is_idle_step t → idle ≡ false → touch ≡ transaction_touch_in w.owners w.grants c access t
     → Runs w (transaction c access) (chan_next w.machine c.0 access) touch (chan_records c access t)
 transact_runs w c access {t = t} step idle moved touch = record {
   may = moves_by w c access ∙ ap (λ (s : ChanStep). not (is_idle_step s)) (sym step) ∙ ap not (sym idle ∙ moved);
   is = rw (touch, ← transaction_is w c access t, step) (runs_by w c access);
 }
 
-pub transact_off : (w : WorldState) (c : ChanNo) (access : Access) {t : ChanStep} {idle : Bool} → t ≡ chan_step w.machine c.0 access → idle ≡ is_idle_step t → idle ≡ true → enabled w (transaction c access) ≡ false
+pub transact_off : (w : WorldState) (c : ChanNo) (access : Access) {t : ChanStep} {idle : Bool}
+    → t ≡ chan_step w.machine c.0 access → idle ≡ is_idle_step t → idle ≡ true → enabled w (transaction c access) ≡ false
 transact_off w c access step idle still = moves_by w c access ∙ ap (λ (s : ChanStep). not (is_idle_step s)) (sym step) ∙ ap not (sym idle ∙ still)

@@ -2,7 +2,7 @@ use Rattle.std.proofs.Common.{refl}
 use Rattle.nc_world.specs.Inside.{state_of}
 use Rattle.nc_world.proofs.Kept.{may_carry}
 use Rattle.nc_world.proofs.Outcomes.{token_goes}
-use Rattle.nc_world.proofs.Events.{carried, log_told}
+use Rattle.nc_world.proofs.Events.{carried, logged}
 use Rattle.nc_world.proofs.parts.Parts.drain_token.Goals as goal
 
 pub lent-requires-clause-lent : goal.lent-requires-clause-lent
@@ -18,4 +18,4 @@ pub returns : goal.returns
 returns c =
     carried (token_goes (state_of c.args.self.now) c.args.h c.args.i c.args.label c.args.first c.args.count c.requires.leaves c.in_ok-reserve.ensures.machine)
     c.in_ok-moves.ensures.moves c.number-n.ensures c.drain.ensures.state c.in_ok-moves.ensures.driver c.in_ok-reserve.ensures.owners c.in_ok-reserve.ensures.grants refl refl
-    (log_told _ _ c.in_ok-reserve.ensures.records c.push.ensures.records c.drain.ensures.records) refl refl refl refl c.carry.ensures
+    (logged _ _ c.in_ok-reserve.ensures.records c.push.ensures.records c.drain.ensures.records) refl refl refl refl c.carry.ensures

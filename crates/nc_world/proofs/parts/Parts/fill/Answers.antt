@@ -5,7 +5,7 @@ use Rattle.nc_world.specs.Inside.{state_of}
 use Rattle.nc_world.proofs.Answered.{bus_places}
 use Rattle.nc_world.proofs.Disabled.{fill_none}
 use Rattle.nc_world.proofs.Outcomes.{fill_runs, fill_off}
-use Rattle.nc_world.proofs.Events.{ran, skipped, log_told}
+use Rattle.nc_world.proofs.Events.{ran, skipped, logged}
 use Rattle.nc_world.proofs.Transfers.{fill_places}
 use Rattle.nc_world.proofs.parts.Parts.fill.Goals as goal
 
@@ -26,4 +26,4 @@ pub returns : goal.returns
 returns c =
     ran (fill_runs (state_of c.args.self.now) c.args.h c.args.b c.in_ok-reserve.ensures.machine c.fill.ensures.answer c.in-Some.is c.requires.sound.size c.as_slice.ensures.value)
     c.fill.ensures.state c.in_ok-reserve.ensures.owners c.in_ok-reserve.ensures.grants refl c.one_more-self.ensures
-    (log_told _ _ c.in_ok-reserve.ensures.records c.push.ensures.records c.transfers.ensures.records)
+    (logged _ _ c.in_ok-reserve.ensures.records c.push.ensures.records c.transfers.ensures.records)

@@ -15,4 +15,5 @@ returns-clause-shape c =
     let w = state_of c.args.self.now in
     let v = state_of c.dispatch.new.self in
     on_ok c.dispatch.result (v ≡ next w c.args.e) (SameShape w.machine v.machine)
-    (λ is. subst (λ (u : WorldState). SameShape w.machine u.machine) (sym is) (next_shape w c.args.e c.laws.ensures.stays c.laws.ensures.machine c.requires.sound.holds c.requires.there)) c.dispatch.ensures.next
+    (λ is. subst (λ (u : WorldState). SameShape w.machine u.machine) (sym is)
+    (next_shape w c.args.e c.laws.ensures.stays c.laws.ensures.machine c.requires.sound.holds c.requires.there)) c.dispatch.ensures.next

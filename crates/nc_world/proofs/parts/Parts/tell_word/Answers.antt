@@ -3,7 +3,7 @@ use Rattle.nc_world.specs.Inside.{state_of}
 use Rattle.nc_world.proofs.Fits.{word_there}
 use Rattle.nc_world.proofs.Kept.{may_carry}
 use Rattle.nc_world.proofs.Outcomes.{tell_goes}
-use Rattle.nc_world.proofs.Events.{carried, log_told}
+use Rattle.nc_world.proofs.Events.{carried, logged}
 use Rattle.nc_world.proofs.parts.Parts.tell_word.Goals as goal
 
 pub take_word-requires : goal.take_word-requires
@@ -19,4 +19,4 @@ pub returns : goal.returns
 returns c =
     carried (tell_goes (state_of c.args.self.now) c.args.h c.in-Some.k c.searching.ensures c.in-Some.is c.holder-holder.ensures c.is_got.ensures)
     c.in_ok-moves.ensures.moves c.number-n.ensures c.in_ok-reserve.ensures.machine c.in_ok-moves.ensures.driver c.in_ok-reserve.ensures.owners c.in_ok-reserve.ensures.grants c.take_word.ensures refl
-    (log_told _ _ c.in_ok-reserve.ensures.records c.push.ensures.records c.told-2.ensures.records) refl refl refl refl c.carry.ensures
+    (logged _ _ c.in_ok-reserve.ensures.records c.push.ensures.records c.told-2.ensures.records) refl refl refl refl c.carry.ensures
