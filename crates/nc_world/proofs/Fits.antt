@@ -15,8 +15,7 @@ use Rattle.nc_rules.specs.World.{WorldState, driver_of}
 use Rattle.nc_scripts.specs.Drivers.{NextIsThere, NextFitsLast, IsSeenAt, EachStaysDriver}
 use Rattle.nc_scripts.specs.Scripts.{IsDriven}
 use Rattle.nc_holds.specs.Holds.{Holds, DriverHolds}
-use Rattle.nc_driver.specs.Kept.{IsOver}
-use Rattle.nc_world.specs.Steps.{NextFits, IsBeside, step_seen}
+use Rattle.nc_world.specs.Steps.{NextFits, step_seen}
 
 -- ---- what a driver does next is there
 
@@ -42,7 +41,8 @@ next_fits w h law is lt =
     fits_of ram harts d.fixed w.machine h (next_of d) (driven_of w h of) stays.next_there (stays.next_fits (length (hart_of w.machine h).last) of.loads)
 
 -- the slot word that a driver tries next is there
-word_by : (w : WorldState) (h : ℕ) (n : Next) (k : ℕ) → NextIsThere (length w.machine.cache.ram) (length w.machine.harts) (driver_of w h).fixed n → searched n ≡ Some k → k < (driver_of w h).fixed.slots
+word_by : (w : WorldState) (h : ℕ) (n : Next) (k : ℕ) → NextIsThere (length w.machine.cache.ram) (length w.machine.harts) (driver_of w h).fixed n → searched n ≡ Some k
+    → k < (driver_of w h).fixed.slots
 word_by w h (nexts.Search j) k there e = subst (λ (x : ℕ). x < (driver_of w h).fixed.slots) (cc) there
 word_by w h nexts.End k there e = absurd (cc)
 word_by w h nexts.Start k there e = absurd (cc)
@@ -77,15 +77,3 @@ seen_at m h (nexts.Op op) = seen_issued (nexts.Op op) (issue_answer m h.0 op)
 seen_at m h (nexts.Claim chan) = seen_claim chan.0 (grantee_of m chan.0)
 seen_at m h (nexts.Poll chan) = tt
 seen_at m h (nexts.Take buf) = tt
-
--- the owners and the pages are those of each driver's scenario
-over : (w : WorldState) (h : ℕ) → Holds w → h < length w.machine.harts → IsOver w.owners (driver_of w h)
-over w h is lt =
-    let of = is.each h lt in
-    record {
-      buffers = λ k d below. omega (arith, is.owners, (of.driver.fixed.buffers k d below).ends);
-      lots = λ k d below j e under. omega (arith, is.owners, ((of.driver.lots k d below).entries j e under).range.ends);
-    }
-
-pub beside : (w : WorldState) (h : ℕ) → Holds w → h < length w.machine.harts → IsBeside (driver_of w h) w.owners w.pages
-beside w h is lt = record { over = over w h is lt; pages_of = (is.each h lt).setting.pages }

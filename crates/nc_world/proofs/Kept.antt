@@ -1,54 +1,86 @@
--- What a world keeps through each event, and what follows for a driver's step.
-use Rattle.std.proofs.Common.{◌≡◌, ℕ, ◌+◌, ◌<◌, ◌≤◌, true, List, length, refl, sym, ap, ◌∙◌, arith, subst}
-use Rattle.std.specs.Prelude.{Bool, Option, Some, is_none}
+-- What a world keeps through each event, and what may be moved by it.
+use Rattle.std.proofs.Common.{◌≡◌, ℕ, List, length, refl, sym, ap, ◌∙◌, subst}
+use Rattle.std.specs.Prelude.{All, Option, Some, Result, Ok, Err}
 use Rattle.nc_num.specs.declared.names.HartNo.{HartNo}
-use Rattle.nc_num.specs.declared.names.Label.{Label}
+use Rattle.nc_num.specs.declared.names.NoMemory.{NoMemory}
 use Rattle.nc_num.specs.declared.places.Span.{Span}
-use Rattle.nc_queue.specs.declared.entry.Entry.TheVariants as entries
+use Rattle.nc_model.specs.declared.owners.Grant.{Grant}
+use Rattle.nc_model.specs.declared.owners.Owner.{Owner}
+use Rattle.nc_model.specs.declared.touches.Touch.{Touch}
+use Rattle.nc_coherent.specs.Pages.{PageMap}
 use Rattle.nc_scen.specs.declared.events.Event.{Event}
-use Rattle.nc_scen.specs.declared.events.Event.TheVariants as events
 use Rattle.nc_scen.specs.declared.scenario.Scenario.{Scenario}
 use Rattle.nc_scen.specs.Accepted.{IsAccepted}
 use Rattle.nc_scen.specs.Events.{IsThere}
 use Rattle.nc_scen.specs.Regions.{pool_of}
-use Rattle.nc_rules.specs.declared.steps.Next.{Next}
-use Rattle.nc_rules.specs.Driver.{next_of, searching, told, lent}
-use Rattle.nc_rules.specs.Events.{enabled, may_issue_step}
+use Rattle.nc_rules.specs.declared.records.Record.{Record}
+use Rattle.nc_rules.specs.Driver.{Went}
 use Rattle.nc_rules.specs.Machine.{MachineState}
 use Rattle.nc_rules.specs.Next.{next}
-use Rattle.nc_rules.specs.Outcomes.{Outcome, outcome, got_word, told_slots}
-use Rattle.nc_rules.specs.Calls.{leaving}
+use Rattle.nc_rules.specs.Outcomes.{Outcome, outcome}
 use Rattle.nc_rules.specs.Sound.{IsMachine}
 use Rattle.nc_rules.specs.Start.{first_machine}
 use Rattle.nc_rules.specs.Turns.{Moved}
-use Rattle.nc_rules.specs.World.{WorldState, driver_of, start}
+use Rattle.nc_rules.specs.World.{WorldState, start}
 use Rattle.nc_calls.specs.MachineLaws.{SameShape}
 use Rattle.nc_scripts.specs.Drivers.{EachStaysDriver}
-use Rattle.nc_holds.specs.Holds.{Holds, MayMove, StartHolds, EventsKeepHolding, MovesMayBeMade, mover}
+use Rattle.nc_scripts.specs.Scripts.{IsRangeIn}
+use Rattle.nc_holds.specs.Holds.{MayMove, MayMovePages, CanAddAll, StartHolds, EventsKeepHolding, MovesMayBeMade, mover}
+use Rattle.nc_world.specs.declared.parts.Parts.{Parts}
+use Rattle.nc_world.specs.declared.world.Stepped.{Stepped}
+use Rattle.nc_world.specs.Inside.{state_of, IsSound, IsStepped}
 use Rattle.nc_world.specs.State.{WorldInvariant}
-use Rattle.nc_slots.specs.SlotWords.{holder_of, tried}
-use Rattle.nc_world.specs.Steps.{step_seen, went_on}
-use Rattle.nc_world.proofs.Parts.{parts_outcome, issue_outcome_is, may_is, next_may, going, try_goes, try_is, search_may, tell_goes, tell_is, tell_may, token_goes, token_is, drain_may}
+use Rattle.nc_world.specs.WorldView.{WorldView}
+use Rattle.nc_world.proofs.Outcomes.{Goes}
 use Rattle.nc_world.proofs.Shapes.{next_shape}
 
 -- ---- what an event moves
 
-pub may_move : (w : WorldState) (e : Event) (h : HartNo) (o : Outcome) (m : Moved) → MovesMayBeMade → IsMachine w.machine → Holds w → IsThere (length w.machine.harts) w.machine.size (length w.machine.cache.ram) e
-    → enabled w e ≡ true → mover e ≡ Some h → outcome w e ≡ o → m ≡ o.moves → MayMove w h o.slots m
-may_move w e h o m law machine is there may by out moves =
-    subst (λ (x : Moved). MayMove w h o.slots x) (sym moves) (subst (λ (x : Outcome). MayMove w h x.slots x.moves) out (law w e h machine is there may by))
+moved_by : {w : WorldState} {e : Event} {h : HartNo} {machine : MachineState} {went : Went} {slots : List (Option HartNo)} {touch : Option Touch} {recorded : List Record}
+    → Goes w e h machine went slots touch recorded → MayMove w h (outcome w e).slots (outcome w e).moves → MayMove w h slots went.moves
+moved_by {w = w} {h = h} by may = subst (λ (o : Outcome). MayMove w h o.slots o.moves) by.is may
+
+-- what hart h's driver moves may be moved in a world with these owners, grants, slot words and pages
+pub may_carry : (p : Parts) {b : WorldState} {e : Event} {h : HartNo} {machine : MachineState} {went : Went} {slots words : List (Option HartNo)} {touch : Option Touch}
+    {recorded : List Record} {m : Moved} → MovesMayBeMade → IsMachine p.machine.machine → IsSound p
+    → IsThere (length p.machine.machine.harts) p.machine.machine.size (length p.machine.machine.cache.ram) e
+    → mover e ≡ Some h → Goes (state_of p) e h machine went slots touch recorded → m ≡ went.moves → b.owners ≡ p.book.owners → b.grants ≡ p.book.grants → words ≡ slots
+    → b.pages ≡ p.pages → MayMove b h words m
+may_carry p {b = b} {e = e} {h = h} {slots = slots} {m = m} law machine sound there hart by moves owners grants words pages =
+    let w = state_of p in
+    let may : MayMove w h slots m = subst (λ (x : Moved). MayMove w h slots x) (sym moves) (moved_by by (law w e h machine sound.holds there by.may hart)) in
+    record {
+      transfers = subst (λ (os : List Owner). All (λ t. IsRangeIn (length os) t.0) m.transfers) (sym owners) may.transfers;
+      transfers_few = may.transfers_few;
+      grants = subst (λ (gs : List Grant). CanAddAll (length b.owners) gs m.grants) (sym grants) (subst (λ (os : List Owner). CanAddAll (length os) p.book.grants m.grants) (sym owners) may.grants);
+      grants_few = may.grants_few;
+      ended_few = may.ended_few;
+      backs = rw words may.backs;
+      backs_few = may.backs_few;
+      pages = subst (λ (x : PageMap). MayMovePages x m.pages) (sym pages) may.pages;
+    }
 
 -- ---- the world after an event
 
-pub kept_next : (w u : WorldState) (e : Event) (bytes : ℕ) (range : Span) → EventsKeepHolding → EachStaysDriver → IsMachine w.machine → WorldInvariant w bytes range → IsThere (length w.machine.harts) w.machine.size (length w.machine.cache.ram) e
-    → u ≡ next w e → WorldInvariant u bytes range
-kept_next w u e bytes range law stays machine is there same =
+kept_next : (p : Parts) (e : Event) → EventsKeepHolding → EachStaysDriver → IsMachine p.machine.machine → IsSound p
+    → IsThere (length p.machine.machine.harts) p.machine.machine.size (length p.machine.machine.cache.ram) e → WorldInvariant (next (state_of p) e) p.size p.pool
+kept_next p e law stays machine is there =
+    let w = state_of p in
     let shape : SameShape w.machine (next w e).machine = next_shape w e stays machine is.holds there in
-    subst (λ (v : WorldState). WorldInvariant v bytes range) (sym same) (record {
+    record {
       holds = law w e machine is.holds there;
       size = is.size ∙ sym shape.size;
       pool = is.pool ∙ sym shape.pool;
-    })
+    }
+
+kept_by : (p q : Parts) (v : WorldState) → WorldInvariant v p.size p.pool → state_of q ≡ v → q.size ≡ p.size → q.pool ≡ p.pool → IsSound q
+kept_by p q v is same size pool =
+    subst (λ (w : WorldState). WorldInvariant w q.size q.pool) (sym same) (subst (λ (s : ℕ). WorldInvariant v s q.pool) (sym size) (subst (λ (x : Span). WorldInvariant v p.size x) (sym pool) is))
+
+pub kept : {p q : Parts} {e : Event} (r : Result Stepped NoMemory) → EventsKeepHolding → EachStaysDriver → IsMachine p.machine.machine → IsSound p
+    → IsThere (length p.machine.machine.harts) p.machine.machine.size (length p.machine.machine.cache.ram) e → IsStepped p q e r → IsSound q
+kept {p = p} {q = q} {e = e} (Ok s) law stays machine is there step = kept_by p q (next (state_of p) e) (kept_next p e law stays machine is there) step.next step.size step.pool
+kept {p = p} {q = q} {e = e} (Err s) law stays machine is there step = kept_by p q (state_of p) is (ap (λ (v : WorldView). v.state) step.err) step.size step.pool
 
 -- ---- the start
 
@@ -71,30 +103,3 @@ kept_first sc u pool law accepted same is =
       size = sym (ap (λ (m : MachineState). m.size) (machine_first sc) ∙ size_first sc);
       pool = is ∙ sym (ap (λ (m : MachineState). m.pool) (machine_first sc) ∙ pool_first sc);
     })
-
--- ---- the events of a hart, by their parts
-
--- a driver's step moves what may be moved
-pub issue_moves : (w : WorldState) (h : HartNo) (n : Next) (m : Moved) → MovesMayBeMade → IsMachine w.machine → Holds w → h.0 < length w.machine.harts → next_of (driver_of w h.0) ≡ n → may_issue_step w h ≡ true
-    → m ≡ (went_on (driver_of w h.0) w.owners w.pages n (step_seen w.machine h n)).moves → MayMove w h w.slots m
-issue_moves w h n m law machine is lt coming may moves =
-    may_move w (events.Issue h) h (parts_outcome w h n) m law machine is lt (may_is w h may) refl (issue_outcome_is w h n coming (going w h n (next_may w h n coming may))) moves
-
-pub try_moves : (w : WorldState) (h : HartNo) (k : ℕ) (m : Moved) → MovesMayBeMade → IsMachine w.machine → Holds w → h.0 < length w.machine.harts → searching (driver_of w h.0) ≡ Some k
-    → m ≡ (told (driver_of w h.0) (is_none (holder_of w.slots k))).moves → MayMove w h (tried w.slots h k) m
-try_moves w h k m law machine is lt at moves =
-    may_move w (events.Try h) h (try_goes w h k) m law machine is lt (search_may w h k at) refl (try_is w h k at) moves
-
-pub tell_moves : (w : WorldState) (h : HartNo) (got : Bool) (k : ℕ) (m : Moved) → MovesMayBeMade → IsMachine w.machine → Holds w → h.0 < length w.machine.harts → searching (driver_of w h.0) ≡ Some k
-    → m ≡ (told (driver_of w h.0) (got_word got (holder_of w.slots k))).moves → MayMove w h (told_slots got w.slots h k) m
-tell_moves w h got k m law machine is lt at moves =
-    may_move w (events.Told h got) h (tell_goes w h got k) m law machine is lt (tell_may w h got k at) refl (tell_is w h got k at) moves
-
-pub token_moves : (w : WorldState) (h : HartNo) (i : ℕ) (label : Label) (first count : ℕ) (m : Moved) → MovesMayBeMade → IsMachine w.machine → Holds w → h.0 < length w.machine.harts
-    → leaving w.machine h.0 i ≡ Some (entries.Lend label first count) → m ≡ (lent (driver_of w h.0) label first).moves → MayMove w h w.slots m
-token_moves w h i label first count m law machine is lt out moves =
-    may_move w (events.Drain h i) h (token_goes w h i label first count) m law machine is lt (drain_may w h i _ out) refl (token_is w h i label first count out) moves
-
--- there is room for what is moved
-pub room_for : (w : WorldState) (h : HartNo) (slots : List (Option HartNo)) (m : Moved) (spare : ℕ) → MayMove w h slots m → 72 ≤ spare → length m.transfers + length m.grants ≤ spare
-room_for w h slots m spare is room = omega (arith, is.transfers_few, is.grants_few, room)

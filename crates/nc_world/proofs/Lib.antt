@@ -1,8 +1,10 @@
 pub mod Transfers
 pub mod Disabled
 pub mod Answered
-pub mod Parts
+pub mod Issued
+pub mod Outcomes
 pub mod Fits
 pub mod Shapes
+pub mod Events
 pub mod Kept
 pub mod Starts

@@ -71,7 +71,8 @@ unfolding drain_outcome
 shape_drained w h i None is lt = shape_same w.machine
 shape_drained w h i (Some e) is lt = shape_leaves w h (drain_next w.machine h.0 i) _ _ e (shape_drain w.machine h.0 i is lt)
 
-shape_outcome : (w : WorldState) (e : Event) → EachStaysDriver → IsMachine w.machine → Holds w → IsThere (length w.machine.harts) w.machine.size (length w.machine.cache.ram) e → SameShape w.machine (outcome w e).machine
+shape_outcome : (w : WorldState) (e : Event) → EachStaysDriver → IsMachine w.machine → Holds w
+    → IsThere (length w.machine.harts) w.machine.size (length w.machine.cache.ram) e → SameShape w.machine (outcome w e).machine
 unfolding outcome
 shape_outcome w (events.Issue h) law is world there = shape_step w h (next_of (driver_of w h.0)) is there (next_fits w h.0 law world there)
 shape_outcome w (events.Try h) law is world there = shape_word w (try_outcome w h) (searching (driver_of w h.0)) (try_machine w h)
@@ -82,7 +83,8 @@ shape_outcome w (events.Evict h b) law is world there = shape_evict w.machine h.
 shape_outcome w (events.ChanRead c) law is world there = shape_chan_read w.machine c.0
 shape_outcome w (events.ChanWrite c) law is world there = shape_chan_write w.machine c.0 is there
 
-performed_shape : (w : WorldState) (e : Event) → EachStaysDriver → IsMachine w.machine → Holds w → IsThere (length w.machine.harts) w.machine.size (length w.machine.cache.ram) e → SameShape w.machine (performed w e).machine
+performed_shape : (w : WorldState) (e : Event) → EachStaysDriver → IsMachine w.machine → Holds w
+    → IsThere (length w.machine.harts) w.machine.size (length w.machine.cache.ram) e → SameShape w.machine (performed w e).machine
 unfolding performed
 performed_shape w e law is world there = subst (SameShape w.machine) (sym (after_machine w (outcome w e))) (shape_outcome w e law is world there)
 
@@ -90,7 +92,8 @@ shape_if : (w v : WorldState) (t : Bool) → SameShape w.machine v.machine → S
 shape_if w v true same = same
 shape_if w v false same = shape_same w.machine
 
-pub next_shape : (w : WorldState) (e : Event) → EachStaysDriver → IsMachine w.machine → Holds w → IsThere (length w.machine.harts) w.machine.size (length w.machine.cache.ram) e → SameShape w.machine (next w e).machine
+pub next_shape : (w : WorldState) (e : Event) → EachStaysDriver → IsMachine w.machine → Holds w
+    → IsThere (length w.machine.harts) w.machine.size (length w.machine.cache.ram) e → SameShape w.machine (next w e).machine
 unfolding next
 next_shape w e law is world there = shape_if w (performed w e) (enabled w e) (performed_shape w e law is world there)
 

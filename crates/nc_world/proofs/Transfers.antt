@@ -149,9 +149,13 @@ abbrev pub SomeHavePlaces : ℕ → Option (List BusRec) → Type 0
 SomeHavePlaces s None = Unit {0}
 SomeHavePlaces s (Some ts) = HavePlaces s ts
 
+some_places : (s b : ℕ) (r : Option (List BusRec)) → s * b < 2 ^ 32 → AreOfSome b r → SomeHavePlaces s r
+some_places s b None small of = tt
+some_places s b (Some ts) small of = places s b ts small of
+
 pub fill_places : (m : MachineState) (h b : ℕ) → IsMachine m → IsBlockIn m.size (length m.cache.ram) b → SomeHavePlaces m.size (fill_answer m h b)
 fill_places m h b is there =
-    elim (may_fill m h b) as (λ t. SomeHavePlaces m.size (if t then Some (load_bus m.size m.cache.ram h b (line_at m.cache b)) else None)) [
-      | true ↦ places m.size b (load_bus m.size m.cache.ram h b (line_at m.cache b)) (block_small m b is there) (of_load m.size m.cache.ram h b (line_at m.cache b))
-      | false ↦ tt
-    ]
+    some_places m.size b (fill_answer m h b) (block_small m b is there) (of_chosen b (may_fill m h b) _ (of_load m.size m.cache.ram h b (line_at m.cache b)))
+
+pub evict_places : (m : MachineState) (h b : ℕ) → IsMachine m → IsBlockIn m.size (length m.cache.ram) b → SomeHavePlaces m.size (evict_answer m h b)
+evict_places m h b is there = some_places m.size b (evict_answer m h b) (block_small m b is there) (of_evict h b (line_at m.cache b))

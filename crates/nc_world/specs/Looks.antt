@@ -5,6 +5,7 @@ use Rattle.nc_num.specs.declared.names.ChanNo.{ChanNo}
 use Rattle.nc_num.specs.declared.places.Span.{Span}
 use Rattle.nc_model.specs.declared.touches.Touch.{Touch}
 use Rattle.nc_model.specs.declared.owners.Access.{Access}
+use Rattle.nc_model.specs.declared.owners.Access.TheVariants.{Read, Write}
 use Rattle.nc_model.specs.declared.owners.Grant.{Grant}
 use Rattle.nc_model.specs.declared.owners.Owner.{Owner}
 use Rattle.nc_model.specs.Touches.{channel_touch}
@@ -13,7 +14,13 @@ use Rattle.nc_pdma.specs.declared.channel.ChanStep.{ChanStep}
 use Rattle.nc_pdma.specs.declared.channel.ChanStep.TheVariants.{Idle, Moved, Error}
 use Rattle.nc_queue.specs.declared.entry.Entry.{Entry}
 use Rattle.nc_queue.specs.declared.entry.Entry.TheVariants as entries
+use Rattle.nc_scen.specs.declared.events.Event.{Event}
+use Rattle.nc_scen.specs.declared.events.Event.TheVariants as events
+use Rattle.nc_rules.specs.declared.records.Record.{Record}
+use Rattle.nc_rules.specs.Calls.{chan_read_next, chan_read_step, chan_write_next, chan_write_step}
 use Rattle.nc_rules.specs.Lines.{at_end}
+use Rattle.nc_rules.specs.Machine.{MachineState}
+use Rattle.nc_rules.specs.Records.{read_records, write_records}
 use Rattle.nc_rules.specs.World.{WorldState, one_more}
 
 -- every script is at its end, and every store queue is empty
@@ -28,6 +35,25 @@ is_token (entries.Cbo block op) = false
 is_token (entries.Reg chan off width value) = false
 is_token (entries.Mail buf to) = false
 is_token (entries.Mark pred succ) = false
+
+-- ---- channels
+
+-- what a channel does by an access: the event, the step, the machine after it, and the records
+abbrev pub transaction : ChanNo → Access → Event
+transaction chan Read = events.ChanRead chan
+transaction chan Write = events.ChanWrite chan
+
+abbrev pub chan_step : MachineState → ℕ → Access → ChanStep
+chan_step m c Read = chan_read_step m c
+chan_step m c Write = chan_write_step m c
+
+abbrev pub chan_next : MachineState → ℕ → Access → MachineState
+chan_next m c Read = chan_read_next m c
+chan_next m c Write = chan_write_next m c
+
+abbrev pub chan_records : ChanNo → Access → ChanStep → List Record
+chan_records chan Read t = read_records chan t
+chan_records chan Write t = write_records chan t
 
 -- one more touch, where there is one
 abbrev pub touches_after : ℕ → Option Touch → ℕ

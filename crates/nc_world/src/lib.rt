@@ -8,6 +8,7 @@
 #![tactic(auto)]
 
 mod acts;
+mod parts;
 mod setup;
 mod steps;
 mod world;

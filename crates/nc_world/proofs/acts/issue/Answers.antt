@@ -3,7 +3,7 @@ use Rattle.nc_rules.specs.declared.answers.Issued.{Issued}
 use Rattle.nc_rules.specs.declared.records.Record.{Record}
 use Rattle.nc_rules.specs.Machine.{hart_of}
 use Rattle.nc_log.specs.Logs.{OpHasPlace, IssuedHasPlaces, issued_records}
-use Rattle.nc_world.proofs.Parts.{issued_places, op_place, op_records_is}
+use Rattle.nc_world.proofs.Issued.{issued_places, op_place, op_records_is}
 use Rattle.nc_world.proofs.acts.issue.Goals as goal
 
 pub issued-requires-clause-block : goal.issued-requires-clause-block
