@@ -30,7 +30,7 @@ shown p = record { state = state_of p; records = p.log.records }
 abbrev pub IsSound : Parts → Type 0
 IsSound p = WorldInvariant (state_of p) p.size p.pool
 
--- an event was made or skipped, or it was not, for want of memory
+-- an event was made or skipped, or it was not, since memory ran out
 pub record IsStepped (p q : Parts) (e : Event) (r : Result Stepped NoMemory) : Type 0 where
   pub answer : IfOk r (λ s. s ≡ answer (state_of p) e)
   pub next : OnOk r (state_of q ≡ next (state_of p) e)

@@ -42,9 +42,9 @@ use nc_slots::Slots;
 use nc_touch::{Look, hart_touch, register_touch};
 use std::alloc::Global;
 
-/// The parts of a world: the block size in bytes and the coherent pool, both of which the machine has too, the machine, the
-/// drivers of its scripts, the owners and grants, the slot words and pages, the records, and the counts of events and
-/// touches.
+/// The parts of a world: the block size in bytes and the coherent pool, both of which the machine has too, the machine,
+/// the drivers of its scripts, the owners and grants, the slot words and pages, the records, and the counts of events
+/// and touches.
 #[derive(Drop)]
 pub(crate) struct Parts {
     pub(crate) size: u32,
@@ -323,9 +323,9 @@ impl Parts {
 
     // ---- a driver's step
 
-    /// Returns whether the next step of hart h's driver may be made: an operation once the hart may issue it; a claim, a
-    /// poll and a take once no entry of class O is queued; a poll once the transfer is over; and a take once the message
-    /// has come.
+    /// Returns whether the next step of hart h's driver may be made: an operation once the hart may issue it; a claim,
+    /// a poll and a take once no entry of class O is queued; a poll once the transfer is over; and a take once the
+    /// message has come.
     fn may_go_on(&self, h: HartNo, next: &Next) -> bool
         requires hart { h.0 < length self.now.machine.machine.harts }
         requires there { NextFits self.now.machine.machine h.0 next.now }
@@ -341,8 +341,8 @@ impl Parts {
         }
     }
 
-    /// Returns whether `next`, the next step of hart h's driver, may be made: no token that it waits for is in the hart's
-    /// queue either.
+    /// Returns whether `next`, the next step of hart h's driver, may be made: no token that it waits for is in the
+    /// hart's queue either.
     fn may_issue(&self, h: HartNo, next: &Next) -> bool
         requires sound { IsSound self.now }
         requires hart { h.0 < length self.now.machine.machine.harts }
@@ -410,8 +410,8 @@ impl Parts {
         Ok(Stepped::Done)
     }
 
-    /// Tells the search of hart h's driver, where the driver is at one, that its slot word is got, or is not. A word that
-    /// is held is not got, whatever was told.
+    /// Tells the search of hart h's driver, where the driver is at one, that its slot word is got, or is not. A word
+    /// that is held is not got, whatever was told.
     fn tell_word(&mut self, h: HartNo, got: bool) -> Result<Stepped, NoMemory>
         requires sound { IsSound self.old }
         requires hart { h.0 < length self.old.machine.machine.harts }
