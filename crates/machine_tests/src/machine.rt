@@ -254,6 +254,36 @@ fn block(first: &[u8]) -> Bytes
     Bytes::of(&cells)
 }
 
+/// Block 0 is taken from memory, where it begins with these bytes, to be written.
+fn owned(hart: HartNo, first: &[u8]) -> BusRec
+    requires { length first.now ≤ 64 }
+{
+    BusRec::Own {
+        hart,
+        block: Block(0),
+        from: Origin::Mem(block(first)),
+    }
+}
+
+/// Block 0 is written back, and begins with these bytes.
+fn written(hart: HartNo, first: &[u8]) -> BusRec
+    requires { length first.now ≤ 64 }
+{
+    BusRec::WriteBack {
+        hart,
+        block: Block(0),
+        bytes: block(first),
+    }
+}
+
+/// The copy of block 0 is dropped.
+fn dropped(hart: HartNo) -> BusRec {
+    BusRec::Drop {
+        hart,
+        block: Block(0),
+    }
+}
+
 const FIRST: Span = Span { at: 0, len: 1 };
 
 /// The first byte of the buffer.
@@ -270,13 +300,7 @@ fn a_load_sees_its_own_store_first(rt: HostRuntime) -> Result<(), NoMemory> {
     assert_eq!(rt; bench.machine.last(ZERO).as_slice(), b"\x11".as_slice());
     assert_eq!(rt; bench.machine.last(ONE).as_slice(), b"".as_slice());
     assert_eq!(rt; bench.machine.bytes(FIRST).as_slice(), b"\0".as_slice());
-    let from = Origin::Mem(block(b""));
-    let own = BusRec::Own {
-        hart: ZERO,
-        block: Block(0),
-        from,
-    };
-    bench.drain(&rt, ZERO, 0, Some(&[own]));
+    bench.drain(&rt, ZERO, 0, Some(&[owned(ZERO, b"")]));
     assert_eq!(rt; bench.machine.bytes(FIRST).as_slice(), b"\x11".as_slice());
     Ok(())
 }
@@ -284,23 +308,14 @@ fn a_load_sees_its_own_store_first(rt: HostRuntime) -> Result<(), NoMemory> {
 #[test]
 fn a_load_joins_its_store_and_a_dirty_line(rt: HostRuntime) -> Result<(), NoMemory> {
     let mut bench = Bench::new(rt.alloc())?;
-    let own = BusRec::Own {
-        hart: ONE,
-        block: Block(0),
-        from: Origin::Mem(block(b"")),
-    };
-    let back = BusRec::WriteBack {
-        hart: ONE,
-        block: Block(0),
-        bytes: block(b"\xaa"),
-    };
+    let back = written(ONE, b"\xaa");
     let fill = BusRec::Fill {
         hart: ZERO,
         block: Block(0),
         from: Origin::Hart(ONE),
     };
     bench.store(&rt, ONE, 0, 0xaa, MemType::Pma);
-    bench.drain(&rt, ONE, 0, Some(&[own]));
+    bench.drain(&rt, ONE, 0, Some(&[owned(ONE, b"")]));
     bench.store(&rt, ZERO, 1, 0xbb, MemType::Pma);
     let span = Span { at: 0, len: 2 };
     bench.load(&rt, ZERO, span, MemType::Pma, (b"\xaa\xbb", &[back, fill]));
@@ -311,13 +326,7 @@ fn a_load_joins_its_store_and_a_dirty_line(rt: HostRuntime) -> Result<(), NoMemo
 fn nc_goes_past_the_caches(rt: HostRuntime) -> Result<(), NoMemory> {
     let mut bench = Bench::new(rt.alloc())?;
     bench.store(&rt, ZERO, 0, 0x5a, MemType::Pma);
-    let from = Origin::Mem(block(b""));
-    let own = BusRec::Own {
-        hart: ZERO,
-        block: Block(0),
-        from,
-    };
-    bench.drain(&rt, ZERO, 0, Some(&[own]));
+    bench.drain(&rt, ZERO, 0, Some(&[owned(ZERO, b"")]));
     bench.load(&rt, ONE, FIRST, MemType::Nc, (b"\0", &[]));
     bench.store(&rt, ONE, 0, 0x77, MemType::Nc);
     bench.drain(&rt, ONE, 0, Some(&[]));
@@ -347,27 +356,14 @@ fn an_io_load_waits_for_an_io_store(rt: HostRuntime) -> Result<(), NoMemory> {
 #[test]
 fn a_flush_stays_behind_a_store_of_its_block(rt: HostRuntime) -> Result<(), NoMemory> {
     let mut bench = Bench::new(rt.alloc())?;
-    let own = BusRec::Own {
-        hart: ZERO,
-        block: Block(0),
-        from: Origin::Mem(block(b"")),
-    };
-    let back = BusRec::WriteBack {
-        hart: ZERO,
-        block: Block(0),
-        bytes: block(b"\x5a"),
-    };
-    let drop = BusRec::Drop {
-        hart: ZERO,
-        block: Block(0),
-    };
     bench.store(&rt, ZERO, 0, 0x5a, MemType::Pma);
     bench.cbo(&rt, ZERO, CboOp::Flush, Block(0));
     assert_eq!(rt; bench.machine.queued(ZERO), 2);
     bench.drain(&rt, ZERO, 1, None);
     bench.drain(&rt, ZERO, 2, None);
-    bench.drain(&rt, ZERO, 0, Some(&[own]));
-    bench.drain(&rt, ZERO, 0, Some(&[back, drop]));
+    bench.drain(&rt, ZERO, 0, Some(&[owned(ZERO, b"")]));
+    let flushed = [written(ZERO, b"\x5a"), dropped(ZERO)];
+    bench.drain(&rt, ZERO, 0, Some(&flushed));
     bench.load(&rt, ONE, FIRST, MemType::Nc, (b"\x5a", &[]));
     Ok(())
 }
@@ -375,23 +371,14 @@ fn a_flush_stays_behind_a_store_of_its_block(rt: HostRuntime) -> Result<(), NoMe
 #[test]
 fn an_invalidate_loses_a_zero(rt: HostRuntime) -> Result<(), NoMemory> {
     let mut bench = Bench::new(rt.alloc())?;
-    let drop = BusRec::Drop {
-        hart: ONE,
-        block: Block(0),
-    };
-    let own = BusRec::Own {
-        hart: ONE,
-        block: Block(0),
-        from: Origin::Mem(block(b"\x88")),
-    };
     bench.store(&rt, ZERO, 0, 0x88, MemType::Nc);
     bench.drain(&rt, ZERO, 0, Some(&[]));
     bench.cbo(&rt, ONE, CboOp::Zero, Block(0));
     bench.load(&rt, ONE, FIRST, MemType::Nc, (b"\0", &[]));
-    bench.drain(&rt, ONE, 0, Some(&[own]));
+    bench.drain(&rt, ONE, 0, Some(&[owned(ONE, b"\x88")]));
     bench.load(&rt, ONE, FIRST, MemType::Nc, (b"\x88", &[]));
     bench.cbo(&rt, ZERO, CboOp::Inval, Block(0));
-    bench.drain(&rt, ZERO, 0, Some(&[drop]));
+    bench.drain(&rt, ZERO, 0, Some(&[dropped(ONE)]));
     assert_eq!(rt; bench.machine.bytes(FIRST).as_slice(), b"\x88".as_slice());
     Ok(())
 }

@@ -95,10 +95,16 @@ pub begins_by : (d : DriverState) (lots : List Lot) (ws : List Owner) (pages : P
     → ok_as made (λ v. v.items) ≡ begin d.fixed lots ws pages o → begin d.fixed d.lots ws pages o ≡ ok_as r (λ v. v.items)
 begins_by d lots ws pages o made r same by is = sym (ap (λ (ls : List Lot). begin d.fixed ls ws pages o) same) ∙ sym is ∙ ap (λ (q : Result (Vec Lot Global) Refusal). ok_as q (λ v. v.items)) by
 
-pub started_by : (d : DriverState) (lots : List Lot) (ws : List Owner) (pages : PageMap) (o : Op) (made r : Result (Vec Lot Global) Refusal) → in_hand d ≡ Some o → has_start o ≡ true → lots ≡ d.lots
-    → made ≡ r → ok_as made (λ v. v.items) ≡ begin d.fixed lots ws pages o
-    → started d ws pages ≡ begun d o (ok_as r (λ v. v.items))
-started_by d lots ws pages o made r e start same by is = on_start d ws pages o e start ∙ ap (begun d o) (begins_by d lots ws pages o made r same by is)
+pub started_by : (d : DriverState) (lots : List Lot) (ws : List Owner) (pages : PageMap) (o : Op) (made r : Result (Vec Lot Global) Refusal) → in_hand d ≡ Some o
+    → ((p : Op) → in_hand d ≡ Some p → has_start p ≡ true)
+    → lots ≡ d.lots → made ≡ r → ok_as made (λ v. v.items) ≡ begin d.fixed lots ws pages o → started d ws pages ≡ begun d o (ok_as r (λ v. v.items))
+started_by d lots ws pages o made r e start same by is = on_start d ws pages o e (start o e) ∙ ap (begun d o) (begins_by d lots ws pages o made r same by is)
+
+-- what holds of that holds of the start
+pub as_started : (d : DriverState) (lots : List Lot) (ws : List Owner) (pages : PageMap) (o : Op) (made r : Result (Vec Lot Global) Refusal) (P : Went → Type 0) → in_hand d ≡ Some o
+    → ((p : Op) → in_hand d ≡ Some p → has_start p ≡ true)
+    → lots ≡ d.lots → made ≡ r → ok_as made (λ v. v.items) ≡ begin d.fixed lots ws pages o → P (begun d o (ok_as r (λ v. v.items))) → P (started d ws pages)
+as_started d lots ws pages o made r P e start same by is holds = subst P (sym (started_by d lots ws pages o made r e start same by is)) holds
 
 no_start : (d : DriverState) (ws : List Owner) (pages : PageMap) (o : Op) → in_hand d ≡ Some o → has_start o ≡ false → started d ws pages ≡ refused_step d o (due_of d)
 unfolding started
@@ -144,6 +150,11 @@ due_start d o due k e start at =
 pub started_due : (d : DriverState) (ws : List Owner) (pages : PageMap) (o : Op) (due r : Result (Option Step) Refusal) → DriverInvariant d → in_hand d ≡ Some o → next_of d ≡ nexts.Start → IsDue d due
     → has_start o ≡ false → due ≡ r → started d ws pages ≡ refused_step d o r
 started_due d ws pages o due r k e start at none is = no_start d ws pages o e none ∙ ap (refused_step d o) (due_start d o due k e start at ∙ is)
+
+pub as_due : (d : DriverState) (ws : List Owner) (pages : PageMap) (o : Op) (due r : Result (Option Step) Refusal) (P : Went → Type 0) → DriverInvariant d → in_hand d ≡ Some o
+    → next_of d ≡ nexts.Start → IsDue d due → has_start o ≡ false → due ≡ r
+    → P (refused_step d o r) → P (started d ws pages)
+as_due d ws pages o due r P k e start at none is holds = subst P (sym (started_due d ws pages o due r k e start at none is)) holds
 
 -- ---- a search, or the opening
 
