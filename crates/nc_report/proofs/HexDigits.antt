@@ -1,15 +1,24 @@
--- Numbers in so many hexadecimal digits: three, six, eight and sixteen.
-use Rattle.std.proofs.Common.{◌≡◌, ℕ, zero, suc, ◌+◌, ◌-◌, ◌/◌, ◌%◌, ◌^◌, ◌<◌, ◌≤◌, Bool, false, List, [], ◌∷◌, ◌++◌, length, inl, inr, refl, sym, ap, ◌∙◌, arith}
+-- The hexadecimal digits of a number, one by one.
+use Rattle.std.proofs.Common.{◌≡◌, ℕ, zero, suc, ◌+◌, ◌-◌, ◌/◌, ◌%◌, ◌^◌, ◌<◌, ◌≤◌, Bool, false, List, [], ◌∷◌, ◌++◌, length, drop, inl, inr, refl, sym, ap, ◌∙◌, arith}
 use Rattle.std.specs.Prelude.{replicate}
+use Rattle.std.proofs.Math.ListN.{set}
 use Rattle.std.proofs.Math.Bool.{cond}
 use Rattle.std.proofs.lemmas.Bool.{cases_lt, eq-eqb, ne_eqb}
+use Rattle.std.proofs.lemmas.List.{drop-set}
 use Rattle.std.specs.Fmt.{digit_glyph, digits, digits_onto}
 use Rattle.nc_rules.specs.Lines.{hex_digits}
 
 -- the last k digits of n, followed by acc
-abbrev exactly : ℕ → ℕ → List ℕ → List ℕ
+abbrev pub exactly : ℕ → ℕ → List ℕ → List ℕ
 exactly zero n acc = acc
 exactly (suc k) n acc = exactly k (n / 16) (digit_glyph false (n % 16) ∷ acc)
+
+-- the cells from k on have the digit at k put before those behind it
+pub one_more : (k n g : ℕ) (cells : List ℕ) → k < length cells → g ≡ digit_glyph false (n % 16)
+    → exactly k (n / 16) (drop k (set cells k g)) ≡ exactly (suc k) n (drop (suc k) cells)
+one_more k n g cells h is =
+    let next : k + 1 ≡ suc k = omega arith in
+    ap (exactly k (n / 16)) (drop-set cells k g h ∙ ap (λ d. d ∷ drop (k + 1) cells) is ∙ ap (λ m. digit_glyph false (n % 16) ∷ drop m cells) next)
 
 zeros_behind : (k : ℕ) (acc : List ℕ) → replicate k 48 ++ 48 ∷ acc ≡ 48 ∷ replicate k 48 ++ acc
 zeros_behind zero acc = refl
@@ -52,29 +61,29 @@ digits_exactly (suc k) (suc j) n acc h le = elim (cases_lt n 16) [
       ∙ digits_exactly k j (n / 16) rest (omega arith) (omega arith)
 ]
 
-pub six_digits : (n : ℕ) → n < 16777216 → hex_digits 6 n
-    ≡ digit_glyph false (n / 16 / 16 / 16 / 16 / 16 % 16) ∷ digit_glyph false (n / 16 / 16 / 16 / 16 % 16) ∷ digit_glyph false (n / 16 / 16 / 16 % 16)
-    ∷ digit_glyph false (n / 16 / 16 % 16) ∷ digit_glyph false (n / 16 % 16) ∷ digit_glyph false (n % 16) ∷ []
+-- a number below 16 ^ k has k digits
+pub digits_are : (k n : ℕ) → 0 < k → k ≤ 16 → n < 16 ^ k → hex_digits k n ≡ exactly k n []
 unfolding digits padded
-six_digits n h = digits_exactly 5 63 n [] (omega arith) (omega arith)
+digits_are zero n some few h = absurd (omega arith)
+digits_are (suc k) n some few h =
+    let count : suc k ≡ suc k + length {A = ℕ} [] = omega arith in
+    ap (λ c. padded c (digits 16 false n)) count ∙ digits_exactly k 63 n [] h (omega arith)
 
-pub three_digits : (n : ℕ) → n < 4096 → hex_digits 3 n ≡ digit_glyph false (n / 16 / 16 % 16) ∷ digit_glyph false (n / 16 % 16) ∷ digit_glyph false (n % 16) ∷ []
-unfolding digits padded
-three_digits n h = digits_exactly 2 63 n [] (omega arith) (omega arith)
+-- and no fewer, where it is at least 16 ^ (k - 1)
+count_is : (k j n : ℕ) (acc : List ℕ) → 16 ^ k ≤ n → n < 16 ^ suc k → k ≤ j → length (digits_onto (suc j) 16 false n acc) ≡ suc k + length acc
+count_is zero j n acc low h le =
+    let count : suc (length acc) ≡ 1 + length acc = omega arith in
+    ap length (last_digit j n acc (omega arith)) ∙ count
+count_is (suc k) zero n acc low h le = absurd (omega arith)
+count_is (suc k) (suc j) n acc low h le =
+    let rest = digit_glyph false (n % 16) ∷ acc in
+    let count : suc k + length rest ≡ suc (suc k) + length acc = omega arith in
+    ap length (next_digit (suc j) n acc (omega arith)) ∙ count_is k j (n / 16) rest (omega arith) (omega arith) (omega arith) ∙ count
 
--- the last eight digits of a number
-abbrev pub last_eight : ℕ → List ℕ
-last_eight n = digit_glyph false (n / 16 / 16 / 16 / 16 / 16 / 16 / 16 % 16) ∷ digit_glyph false (n / 16 / 16 / 16 / 16 / 16 / 16 % 16)
-    ∷ digit_glyph false (n / 16 / 16 / 16 / 16 / 16 % 16) ∷ digit_glyph false (n / 16 / 16 / 16 / 16 % 16) ∷ digit_glyph false (n / 16 / 16 / 16 % 16)
-    ∷ digit_glyph false (n / 16 / 16 % 16) ∷ digit_glyph false (n / 16 % 16) ∷ digit_glyph false (n % 16) ∷ []
-
-pub eight_digits : (n : ℕ) → n < 4294967296 → hex_digits 8 n ≡ last_eight n
-unfolding digits padded
-eight_digits n h = digits_exactly 7 63 n [] (omega arith) (omega arith)
-
-upper : (n : ℕ) → n / 16 / 16 / 16 / 16 / 16 / 16 / 16 / 16 ≡ n / 4294967296
-upper n = omega arith
-
-pub sixteen_digits : (n : ℕ) → n < 18446744073709551616 → hex_digits 16 n ≡ last_eight (n / 4294967296) ++ last_eight n
-unfolding digits padded
-sixteen_digits n h = digits_exactly 15 63 n [] (omega arith) (omega arith) ∙ ap (λ (m : ℕ). last_eight m ++ last_eight n) (upper n)
+pub more_digits : (least k n : ℕ) → 16 ^ k ≤ n → n < 16 ^ suc k → k ≤ 15 → least ≤ suc k → hex_digits least n ≡ hex_digits (suc k) n
+unfolding digits
+more_digits least k n low h few le =
+    let ds = digits 16 false n in
+    let count : length ds ≡ suc k + 0 = count_is k 63 n [] low h (omega arith) in
+    let same : least - length ds ≡ suc k - length ds = omega arith in
+    ap (λ c. replicate c 48 ++ ds) same

@@ -1,4 +1,2 @@
-pub mod Counts
-pub mod Padding
-pub mod Parts
 pub mod HexDigits
+pub mod Parts

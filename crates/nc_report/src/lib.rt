@@ -4,7 +4,6 @@
 #![tactic(auto)]
 
 mod after;
-mod digits;
 mod faults;
 mod lines;
 mod put;

@@ -94,7 +94,7 @@ fn sets(text: &mut Vec<u8>, word: &str, hart: HartNo, pred: u8, succ: u8) -> Res
     ensures { OnOk result (text.new.items ≡ text.old.items
         ++ words (word.now ∷ decimal hart.0 ∷ decimal pred ∷ decimal succ ∷ [])) }
 {
-    put::two_counted(text, word, hart.0 as u64, pred as u64)?;
+    put::pair(text, word, hart.0 as u64, pred as u64)?;
     put::number_behind(text, b' ', succ as u64)?;
     put::byte(text, b'\n')
 }
@@ -187,7 +187,7 @@ fn owned(text: &mut Vec<u8>, span: Span, owner: Owner) -> Result<(), AllocError>
 fn tried(text: &mut Vec<u8>, hart: HartNo, word: u32, found: TryAnswer) -> Result<(), AllocError>
     ensures { OnOk result (text.new.items ≡ text.old.items ++ line (Record.Try hart word found)) }
 {
-    put::two_counted(text, "try", hart.0 as u64, word as u64)?;
+    put::pair(text, "try", hart.0 as u64, word as u64)?;
     put::byte(text, b' ')?;
     put_tried(text, found)?;
     put::byte(text, b'\n')
@@ -196,7 +196,7 @@ fn tried(text: &mut Vec<u8>, hart: HartNo, word: u32, found: TryAnswer) -> Resul
 fn told(text: &mut Vec<u8>, hart: HartNo, word: u32, found: ToldAnswer) -> Result<(), AllocError>
     ensures { OnOk result (text.new.items ≡ text.old.items ++ line (Record.Told hart word found)) }
 {
-    put::two_counted(text, "told", hart.0 as u64, word as u64)?;
+    put::pair(text, "told", hart.0 as u64, word as u64)?;
     put::byte(text, b' ')?;
     put_heard(text, found)?;
     put::byte(text, b'\n')
@@ -205,14 +205,14 @@ fn told(text: &mut Vec<u8>, hart: HartNo, word: u32, found: ToldAnswer) -> Resul
 fn given_back(text: &mut Vec<u8>, hart: HartNo, word: u32) -> Result<(), AllocError>
     ensures { OnOk result (text.new.items ≡ text.old.items ++ line (Record.Back hart word)) }
 {
-    put::two_counted(text, "back", hart.0 as u64, word as u64)?;
+    put::pair(text, "back", hart.0 as u64, word as u64)?;
     put::byte(text, b'\n')
 }
 
 fn answered(text: &mut Vec<u8>, hart: HartNo, op: u32, answer: &Answer) -> Result<(), AllocError>
     ensures { OnOk result (text.new.items ≡ text.old.items ++ line (Record.Ans hart op answer.now)) }
 {
-    put::two_counted(text, "ans", hart.0 as u64, op as u64)?;
+    put::pair(text, "ans", hart.0 as u64, op as u64)?;
     put::byte(text, b' ')?;
     put_answer(text, answer)?;
     put::byte(text, b'\n')

@@ -1,14 +1,15 @@
 //! The words of a line, put behind a text.
 
-ghost use Rattle.std.specs.Prelude.{◌≡◌, ◌++◌, ◌∷◌, decimal, OnOk};
+ghost use Rattle.std.specs.Prelude.{◌≡◌, ◌++◌, ◌∷◌, [], decimal, OnOk};
 ghost use Rattle.std.specs.List.{flat_map};
-ghost use Rattle.nc_rules.specs.Lines.{hex_digits, token, kind, actor, mapping, owner, operation, field, refusal, segment, answer, target, tried, heard};
+ghost use Rattle.nc_rules.specs.Lines.{token, kind, actor, mapping, owner, operation, field, phrase, refusal, segment, answer, target, tried, heard, hex_digits};
+ghost use Rattle.nc_rules.specs.declared.answers.Answer.{Answer};
 
 use crate::put;
 use nc_env::{CboOp, Field};
 use nc_model::{Actor, Owner, TouchKind};
 use nc_num::MapId;
-use nc_plan::{IoTarget, SegList};
+use nc_plan::{IoTarget, SegList, Segment};
 use nc_rules::{Answer, Refusal, ToldAnswer};
 use nc_scen::Event;
 use nc_slots::TryAnswer;
@@ -54,10 +55,10 @@ pub(crate) fn kind_word(k: TouchKind) -> &'static str
 }
 
 /// Puts who acts.
-pub(crate) fn put_actor(text: &mut Vec<u8>, a: Actor) -> Result<(), AllocError>
-    ensures { OnOk result (text.new.items ≡ text.old.items ++ actor a) }
+pub(crate) fn put_actor(text: &mut Vec<u8>, who: Actor) -> Result<(), AllocError>
+    ensures { OnOk result (text.new.items ≡ text.old.items ++ actor who) }
 {
-    match a {
+    match who {
         Actor::Hart(h) => put::counted(text, "hart", h.0 as u64),
         Actor::Chan(c) => put::counted(text, "chan", c.0 as u64),
     }
@@ -67,7 +68,7 @@ pub(crate) fn put_actor(text: &mut Vec<u8>, a: Actor) -> Result<(), AllocError>
 fn put_mapping(text: &mut Vec<u8>, word: &str, m: MapId) -> Result<(), AllocError>
     ensures { OnOk result (text.new.items ≡ text.old.items ++ mapping word.now m) }
 {
-    put::two_counted(text, word, m.hart.0 as u64, m.label.0 as u64)?;
+    put::pair(text, word, m.hart.0 as u64, m.label.0 as u64)?;
     put::number_behind(text, b' ', m.entry as u64)
 }
 
@@ -77,7 +78,7 @@ pub(crate) fn put_owner(text: &mut Vec<u8>, o: Owner) -> Result<(), AllocError>
 {
     match o {
         Owner::Thread(h) => put::counted(text, "thread", h.0 as u64),
-        Owner::Passing(h, g) => put::two_counted(text, "passing", h.0 as u64, g.0 as u64),
+        Owner::Passing(h, g) => put::pair(text, "passing", h.0 as u64, g.0 as u64),
         Owner::Lending(m) => put_mapping(text, "lending", m),
         Owner::Device(m) => put_mapping(text, "device", m),
         Owner::Returning(m) => put_mapping(text, "returning", m),
@@ -112,6 +113,24 @@ fn field_word(x: Field) -> &'static str
     }
 }
 
+/// Puts a word and a field, with a blank between.
+fn put_field(text: &mut Vec<u8>, word: &str, x: Field) -> Result<(), AllocError>
+    ensures { OnOk result (text.new.items ≡ text.old.items ++ phrase (word.now ∷ field x ∷ [])) }
+{
+    put::word(text, word)?;
+    put::byte(text, b' ')?;
+    put::word(text, field_word(x))
+}
+
+/// Puts a word and a number in at least eight hexadecimal digits, with a blank between.
+fn put_eight(text: &mut Vec<u8>, word: &str, n: u32) -> Result<(), AllocError>
+    ensures { OnOk result (text.new.items ≡ text.old.items ++ phrase (word.now ∷ hex_digits 8 n ∷ [])) }
+{
+    put::word(text, word)?;
+    put::byte(text, b' ')?;
+    put::eight(text, n)
+}
+
 /// Puts why an operation is refused.
 fn put_refusal(text: &mut Vec<u8>, r: Refusal) -> Result<(), AllocError>
     ensures { OnOk result (text.new.items ≡ text.old.items ++ refusal r) }
@@ -125,16 +144,16 @@ fn put_refusal(text: &mut Vec<u8>, r: Refusal) -> Result<(), AllocError>
             put::word(text, "notyours ")?;
             put_owner(text, o)
         }
-        Refusal::CboOff(x) => put_two_words(text, "cbooff", field_word(x)),
+        Refusal::CboOff(x) => put_field(text, "cbooff", x),
         Refusal::TooBig => put::word(text, "toobig"),
         Refusal::NoSlot => put::word(text, "noslot"),
         Refusal::ChannelBusy(g) => put::counted(text, "channelbusy", g.0 as u64),
         Refusal::NoPbmt => put::word(text, "nopbmt"),
         Refusal::NoPage => put::word(text, "nopage"),
         Refusal::BadCount(n) => put::counted(text, "badcount", n as u64),
-        Refusal::IllegalCbo(x) => put_two_words(text, "illegal", field_word(x)),
+        Refusal::IllegalCbo(x) => put_field(text, "illegal", x),
         Refusal::PageFault(va, bits) => {
-            put_wide(text, "pagefault", va)?;
+            put_eight(text, "pagefault", va)?;
             put::number_behind(text, b' ', bits as u64)
         }
         Refusal::BadMmio(off, width) => {
@@ -145,34 +164,32 @@ fn put_refusal(text: &mut Vec<u8>, r: Refusal) -> Result<(), AllocError>
     }
 }
 
-/// Puts two words with a blank between.
-fn put_two_words(text: &mut Vec<u8>, first: &str, second: &str) -> Result<(), AllocError>
-    ensures { OnOk result (text.new.items ≡ text.old.items ++ (first.now ++ 32 ∷ second.now)) }
+/// Puts a segment, and a blank before it.
+fn put_segment(text: &mut Vec<u8>, s: Segment) -> Result<(), AllocError>
+    ensures { OnOk result (text.new.items ≡ text.old.items ++ segment s) }
 {
-    put::word(text, first)?;
     put::byte(text, b' ')?;
-    put::word(text, second)
+    put::eight(text, s.bus)?;
+    put::number_behind(text, b':', s.len as u64)
 }
 
-/// Puts a word, a blank, and a bus address or the value of Control in eight hexadecimal digits.
-fn put_wide(text: &mut Vec<u8>, word: &str, n: u32) -> Result<(), AllocError>
-    ensures { OnOk result (text.new.items ≡ text.old.items ++ (word.now ++ 32 ∷ hex_digits 8 n)) }
+/// Puts segments, each with a blank before it.
+fn put_segments(text: &mut Vec<u8>, segments: &[Segment]) -> Result<(), AllocError>
+    ensures { OnOk result (text.new.items ≡ text.old.items ++ flat_map segment segments.now) }
 {
-    put::word(text, word)?;
-    put::byte(text, b' ')?;
-    put::eight(text, n)
-}
-
-/// Puts segments, each behind a blank.
-fn put_segments(text: &mut Vec<u8>, list: &SegList) -> Result<(), AllocError>
-    ensures { OnOk result (text.new.items ≡ text.old.items ++ flat_map segment list.now) }
-{
-    for s in list.as_slice() {
-        put::byte(text, b' ')?;
-        put::eight(text, s.bus)?;
-        put::number_behind(text, b':', s.len as u64)?;
+    for s in segments {
+        put_segment(text, *s)?;
     }
     Ok(())
+}
+
+/// Puts how many segments a list has, and the segments.
+fn put_list(text: &mut Vec<u8>, list: &SegList) -> Result<(), AllocError>
+    ensures { OnOk result (text.new.items ≡ text.old.items ++ answer (Answer.Segments list.now)) }
+{
+    let segments = list.as_slice();
+    put::counted(text, "segments", segments.len() as u64)?;
+    put_segments(text, segments)
 }
 
 /// Puts the answer of an operation.
@@ -180,19 +197,17 @@ pub(crate) fn put_answer(text: &mut Vec<u8>, a: &Answer) -> Result<(), AllocErro
     ensures { OnOk result (text.new.items ≡ text.old.items ++ answer a.now) }
 {
     match a {
-        Answer::Mapped(bus) => put_wide(text, "mapped", *bus),
+        Answer::Mapped(bus) => put_eight(text, "mapped", *bus),
         Answer::Unmapped => put::word(text, "unmapped"),
         Answer::Cpu => put::word(text, "cpu"),
         Answer::Dev => put::word(text, "dev"),
-        Answer::Segments(list) => {
-            put::counted(text, "segments", list.as_slice().len() as u64)?;
-            put_segments(text, list)
-        }
+        Answer::Segments(list) => put_list(text, list),
         Answer::NoSegments(r) => {
-            put::word(text, "segments 0 ")?;
+            put::counted(text, "segments", 0)?;
+            put::byte(text, b' ')?;
             put_refusal(text, *r)
         }
-        Answer::Allocated(bus) => put_wide(text, "allocated", *bus),
+        Answer::Allocated(bus) => put_eight(text, "allocated", *bus),
         Answer::Freed => put::word(text, "freed"),
         Answer::Given => put::word(text, "given"),
         Answer::Taken => put::word(text, "taken"),
@@ -202,24 +217,24 @@ pub(crate) fn put_answer(text: &mut Vec<u8>, a: &Answer) -> Result<(), AllocErro
         Answer::Released => put::word(text, "released"),
         Answer::Set => put::word(text, "set"),
         Answer::Started => put::word(text, "started"),
-        Answer::Done(control) => put_wide(text, "done", *control),
-        Answer::Error(control) => put_wide(text, "error", *control),
+        Answer::Done(control) => put_eight(text, "done", *control),
+        Answer::Error(control) => put_eight(text, "error", *control),
         Answer::Value(value) => {
             put::word(text, "value ")?;
             put::sixteen(text, *value)
         }
         Answer::Wrote => put::word(text, "wrote"),
         Answer::CopyDone => put::word(text, "copydone"),
-        Answer::CopyFailed(control) => put_wide(text, "copyfailed", *control),
+        Answer::CopyFailed(control) => put_eight(text, "copyfailed", *control),
         Answer::Refused(r) => put_refusal(text, *r),
     }
 }
 
 /// Puts what an IO store stores to.
-pub(crate) fn put_target(text: &mut Vec<u8>, t: IoTarget) -> Result<(), AllocError>
-    ensures { OnOk result (text.new.items ≡ text.old.items ++ target t) }
+pub(crate) fn put_target(text: &mut Vec<u8>, to: IoTarget) -> Result<(), AllocError>
+    ensures { OnOk result (text.new.items ≡ text.old.items ++ target to) }
 {
-    match t {
+    match to {
         IoTarget::Reg {
             chan,
             off,
@@ -232,33 +247,33 @@ pub(crate) fn put_target(text: &mut Vec<u8>, t: IoTarget) -> Result<(), AllocErr
             put::byte(text, b' ')?;
             put::sixteen(text, value)
         }
-        IoTarget::Mail { buf, to } => put::two_counted(text, "mail", buf as u64, to.0 as u64),
+        IoTarget::Mail { buf, to } => put::pair(text, "mail", buf as u64, to.0 as u64),
         IoTarget::Lend {
             label,
             first,
             count,
         } => {
-            put::two_counted(text, "lend", label.0 as u64, first as u64)?;
+            put::pair(text, "lend", label.0 as u64, first as u64)?;
             put::number_behind(text, b' ', count as u64)
         }
     }
 }
 
 /// Puts what a try of a slot word found.
-pub(crate) fn put_tried(text: &mut Vec<u8>, t: TryAnswer) -> Result<(), AllocError>
-    ensures { OnOk result (text.new.items ≡ text.old.items ++ tried t) }
+pub(crate) fn put_tried(text: &mut Vec<u8>, found: TryAnswer) -> Result<(), AllocError>
+    ensures { OnOk result (text.new.items ≡ text.old.items ++ tried found) }
 {
-    match t {
+    match found {
         TryAnswer::Got => put::word(text, "got"),
         TryAnswer::Held(g) => put::counted(text, "held", g.0 as u64),
     }
 }
 
-/// Puts what became of an answer that was told.
-pub(crate) fn put_heard(text: &mut Vec<u8>, t: ToldAnswer) -> Result<(), AllocError>
-    ensures { OnOk result (text.new.items ≡ text.old.items ++ heard t) }
+/// Puts what became of a told answer.
+pub(crate) fn put_heard(text: &mut Vec<u8>, found: ToldAnswer) -> Result<(), AllocError>
+    ensures { OnOk result (text.new.items ≡ text.old.items ++ heard found) }
 {
-    match t {
+    match found {
         ToldAnswer::Got => put::word(text, "got"),
         ToldAnswer::Miss => put::word(text, "miss"),
         ToldAnswer::Held(g) => put::counted(text, "held", g.0 as u64),

@@ -1,5 +1,6 @@
-use Rattle.nc_report.proofs.HexDigits.{three_digits}
+use Rattle.std.proofs.Common.{rules, arith}
+use Rattle.nc_report.proofs.HexDigits.{more_digits}
 use Rattle.nc_report.proofs.put.three.Goals as goal
 
-pub returns-then-n-lt4096 : goal.returns-then-n-lt4096
-returns-then-n-lt4096 c = rw (three_digits c.args.n c.if-n-lt4096.true) c.last_three.ensures
+pub returns : goal.returns
+returns c = rw (more_digits 3 3 c.args.n (omega (arith, c.if-n-lt4096.false)) (omega (arith, c.ranges.n.fits)) (omega arith) (omega arith)) (search rules)

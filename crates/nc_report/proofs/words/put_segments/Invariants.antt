@@ -4,4 +4,4 @@ use Rattle.nc_rules.specs.Lines.{segment}
 use Rattle.nc_report.proofs.words.put_segments.Given as goal
 
 abbrev pub invariant-loop-s : goal.invariant-loop-s
-invariant-loop-s l = l.text.items ++ flat_map segment (drop l.s-index l.s-items) ≡ l.fn.text.items ++ flat_map segment l.s-items
+invariant-loop-s l = l.text.items ++ flat_map segment (drop l.s-index l.segments) ≡ l.fn.text.items ++ flat_map segment l.segments
